@@ -1,0 +1,62 @@
+-- The refusal table of document 01: each refusal's number, and how a call goes through its rows. Assumes nothing.
+use Prim.Native.Nat.{ℕ}
+use mathlib.Core.Bool.{Bool, true, false, cond, not}
+use mathlib.Core.List.{List, [], _∷_}
+use lib.IntN.{ℤ, pos, negℤ}
+use Rattle.endian.specs.Lists.{all}
+use Rattle.call.specs.declared.Refusal.{Refusal}
+use Rattle.call.specs.declared.Refusal.the-variants.{WorkSpace, VoiceLength, VoiceRange, LexiconLength, LexiconRange, Orphan, Places, LongWord, WordCount, SameLetters, Frames, Count, NoWord, Packed, Code, Output}
+use Rattle.call.specs.declared.Answer as declared
+use Rattle.call.specs.declared.Answer.the-variants.{Value, Refused}
+
+-- the number of document 01's table
+unfoldable pub number : Refusal → ℕ
+number WorkSpace = 1
+number VoiceLength = 2
+number VoiceRange = 3
+number LexiconLength = 4
+number LexiconRange = 5
+number Orphan = 6
+number Places = 7
+number LongWord = 8
+number WordCount = 9
+number SameLetters = 10
+number Frames = 11
+number Count = 12
+number NoWord = 13
+number Packed = 14
+number Code = 15
+number Output = 16
+
+-- what a call answers: a value, or a refusal
+pub data Answer (A : Type 0) : Type 0 where
+  value : A → Answer A
+  refused : Refusal → Answer A
+
+-- the answer that each case of the code's enum is
+unfoldable pub answerOf : declared.Answer → Answer ℕ
+answerOf (Value n) = value n
+answerOf (Refused r) = refused r
+
+-- what C gets: a refusal is its number made negative
+unfoldable pub signedAnswer : Answer ℕ → ℤ
+signedAnswer (value n) = pos n
+signedAnswer (refused r) = negℤ (pos (number r))
+
+-- a row of a call's table: a refusal, and whether its condition applies
+pub record Row : Type 0 where
+  pub refusal : Refusal
+  pub applies : Bool
+
+abbrev pub on : Refusal → Bool → Row
+on r b = record { refusal = r; applies = b }
+
+-- no row applies
+unfoldable pub clear : List Row → Bool
+clear rows = all (λ r. not (r .applies)) rows
+
+module _ {A : Type 0} where
+  -- the first row that applies decides, in the order in which a call's rows are written; where none does, the answer is the value
+  unfoldable pub unless : List Row → A → Answer A
+  unless [] a = value a
+  unless (r ∷ rows) a = let rest = unless rows a in cond (r .applies) (refused (r .refusal)) rest

@@ -1,0 +1,4 @@
+pub mod Width
+pub mod Packing
+pub mod Mean
+pub mod Lookup

@@ -1,0 +1,1 @@
+// Widths, packed codes and means of document 01.

@@ -1,0 +1,89 @@
+-- Demand 3 in the customer's sentences, of what decoding leaves. A word is its print bytes, a state path is the literal one, and the list is
+-- read back from the output's bytes (document 01, State paths and hits). Assumes nothing.
+use Prim.Native.Nat.{ℕ, suc, _+_, _-_, _≤_, _<_}
+use mathlib.Core.Path.{_≡_}
+use mathlib.Core.Logic.{_⊎_}
+use mathlib.Core.List.{List, [], _∷_, List·Memᴰ}
+use lib.IntN.{ℤ, pos}
+use lib.Signed.{_≤ℤ_}
+use lib.ListN.{length, getD}
+use Rattle.call.specs.Table.{Answer, value}
+use Rattle.voice.specs.Voice.{letterCount}
+use Rattle.graph.specs.Graph.{Graph, graphOf, wordCount}
+use Rattle.graph.specs.Words.{spelled, LexiconWord, wordOfCode}
+use Rattle.ranking.specs.Hits.{Hit, hit, _≻_, hitsRead}
+use Rattle.decoder.specs.StatePaths.{Attains}
+use Rattle.decoder.specs.Decoding.{decodeAnswer, decodeOut}
+
+-- the i-th hit of a list, from 0
+abbrev pub hitAt : List Hit → ℕ → Hit
+hitAt hs i = getD hs i (hit (pos 0) 0)
+
+-- no two places of a list hold the same
+abbrev pub Different : List (List ℕ) → Type 0
+Different ws = (i j : ℕ) → i < j → j < length ws → ¬ (getD ws i [] ≡ getD ws j [])
+
+module _ (v : List ℕ) (g : Graph) (frames : List ℕ) where
+  -- some letters of the model spell the word, and a is the score of a permitted state path of theirs
+  pub record Scores (word : List ℕ) (a : ℤ) : Type 0 where
+    pub letters : List ℕ
+    pub known : (l : ℕ) → List·Memᴰ l letters → l < letterCount v
+    pub spells : spelled v letters ≡ word
+    pub attained : Attains v letters frames a
+
+  -- the word has a permitted state path; it has none
+  abbrev pub HasPath : List ℕ → Type 0
+  HasPath word = (a : ℤ) × Scores word a
+
+  abbrev pub HasNoPath : List ℕ → Type 0
+  HasNoPath word = (a : ℤ) → ¬ Scores word a
+
+  -- a word's true score is the highest over its permitted state paths
+  pub record IsTrueScore (word : List ℕ) (a : ℤ) : Type 0 where
+    pub attained : Scores word a
+    pub highest : (b : ℤ) → Scores word b → b ≤ℤ a
+
+  -- each hit has a code below W and names the word of that code
+  pub record Names (h : Hit) (word : List ℕ) : Type 0 where
+    pub below : h .code < wordCount g
+    pub is-word : wordOfCode v g (h .code) ≡ word
+
+  -- a word is off the list if no hit names it
+  abbrev pub Off : List Hit → List ℕ → Type 0
+  Off hs word = (h : Hit) → List·Memᴰ h hs → ¬ Names h word
+
+  -- a word off the list is outranked by the last hit: it has a true score, and with its code it stands behind that hit
+  pub record BehindLast (hs : List Hit) (word : List ℕ) : Type 0 where
+    pub score : ℤ
+    pub code : ℕ
+    pub is-true : IsTrueScore word score
+    pub is-code : Names (hit score code) word
+    pub listed-some : 0 < length hs
+    pub behind : hitAt hs (length hs - 1) ≻ hit score code
+
+  pub record Demand3 (n : ℕ) (hs : List Hit) : Type 0 where
+    -- listed words are lexicon words and carry their true scores
+    pub listed : (h : Hit) → List·Memᴰ h hs → (word : List ℕ) × Names h word × LexiconWord v g word × IsTrueScore word (h .score)
+    -- listed words differ
+    pub differ : (i j : ℕ) (word : List ℕ) → i < j → j < length hs → Names (hitAt hs i) word → ¬ Names (hitAt hs j) word
+    -- they run by falling score, equal scores by rising code
+    pub ordered : (i j : ℕ) → i < j → j < length hs → hitAt hs i ≻ hitAt hs j
+    -- at most n are listed
+    pub at-most : length hs ≤ n
+    -- exactly n are listed if at least n words have a permitted state path
+    pub full : (ws : List (List ℕ)) → Different ws → ((w : List ℕ) → List·Memᴰ w ws → LexiconWord v g w × HasPath w) → n ≤ length ws
+        → length hs ≡ n
+    -- every lexicon word off the list has no permitted state path, or scores below the last hit, or the same with a greater code
+    pub off : (word : List ℕ) → LexiconWord v g word → Off hs word → HasNoPath word ⊎ BehindLast hs word
+    -- if fewer than n are listed, no word off the list has a permitted state path: exactly those that have one are listed
+    pub short : length hs < n → (word : List ℕ) → LexiconWord v g word → Off hs word → HasNoPath word
+
+-- the list is what decoding leaves: from the output's start, as many hits as it returns
+unfoldable pub decodedList : List ℕ → List ℕ → List ℕ → ℕ → List ℕ → List ℕ → ℕ → List Hit
+decodedList v x frames n work out k = hitsRead (decodeOut v x frames n work out) k
+
+-- what is to be shown of the call, wherever no number of the table applies to it
+abbrev pub DecodingMeetsDemand3 : Type 0
+DecodingMeetsDemand3 =
+    (v x frames work out : List ℕ) (n k : ℕ) → decodeAnswer v x frames n work out ≡ value k
+    → Demand3 v (graphOf x) frames n (decodedList v x frames n work out k)

@@ -1,0 +1,4 @@
+pub mod StatePaths
+pub mod TrueScore
+pub mod Decoding
+pub mod Demand

@@ -1,0 +1,1 @@
+// Decoding: its definitions are in specs/.

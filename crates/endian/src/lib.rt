@@ -1,0 +1,1 @@
+// Numbers stored in bytes: little-endian, signed ones in two's complement.

@@ -1,0 +1,42 @@
+-- When a voice model and a lexicon are accepted, and what checking answers (document 01, State paths and hits; Refusal table).
+-- Assumes nothing.
+use Prim.Native.Nat.{ℕ}
+use mathlib.Core.Path.{_≡_}
+use mathlib.Core.Bool.{true}
+use mathlib.Core.List.{List, [], _∷_, _++_}
+use Rattle.call.specs.declared.Refusal.the-variants.{LexiconLength, LexiconRange, Orphan, Places, LongWord, WordCount, SameLetters}
+use Rattle.call.specs.Table.{Answer, Row, on, clear, unless}
+use Rattle.call.specs.Buffers.{spaceRows}
+use Rattle.voice.specs.Fields.{hasWrongLength, isOutOfRange}
+use Rattle.voice.specs.Voice.{letterCount, voiceRows}
+use Rattle.lexicon.specs.Lexicon.{lexiconVerdict}
+use Rattle.graph.specs.Graph.{graphOf, wordCount}
+use Rattle.graph.specs.Conditions.{orphan, placeCount, manyPlaces, hasLongWord, manyWords, sameLetters}
+
+-- 4 to 10
+unfoldable pub lexiconRows : List ℕ → List ℕ → List Row
+lexiconRows v x =
+    on LexiconLength (hasWrongLength (lexiconVerdict (letterCount v) x))
+    ∷ on LexiconRange (isOutOfRange (lexiconVerdict (letterCount v) x))
+    ∷ on Orphan (orphan (graphOf x))
+    ∷ on Places (manyPlaces (placeCount v (graphOf x)))
+    ∷ on LongWord (hasLongWord (graphOf x))
+    ∷ on WordCount (manyWords (wordCount (graphOf x)))
+    ∷ on SameLetters (sameLetters (graphOf x))
+    ∷ []
+
+-- 2 to 10
+unfoldable pub imageRows : List ℕ → List ℕ → List Row
+imageRows v x = voiceRows v ++ lexiconRows v x
+
+-- a voice model and lexicon are accepted if none of 2 to 10 applies to them
+abbrev pub Accepted : List ℕ → List ℕ → Type 0
+Accepted v x = clear (imageRows v x) ≡ true
+
+-- 1 to 10: what a call with a lexicon tests first
+unfoldable pub givenRows : List ℕ → List ℕ → List ℕ → List Row
+givenRows v x work = spaceRows work ++ imageRows v x
+
+-- checking answers W; its work bytes end as `cleared work`
+unfoldable pub check : List ℕ → List ℕ → List ℕ → Answer ℕ
+check v x work = unless (givenRows v x work) (wordCount (graphOf x))

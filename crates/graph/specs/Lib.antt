@@ -1,0 +1,4 @@
+pub mod Graph
+pub mod Words
+pub mod Conditions
+pub mod Checking

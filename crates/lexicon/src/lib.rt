@@ -1,0 +1,1 @@
+// The lexicon image of document 01.

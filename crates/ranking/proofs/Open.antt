@@ -1,0 +1,7 @@
+-- Every definition of this crate's specs/, open: a computed example names `everything` on its `unfolding` line in place of them all.
+-- Assumes nothing.
+use Rattle.ranking.specs.Hits.{outranks, insert, ranked, hitBytes, hitsAt, hitsRead}
+
+unfoldable pub everything : Unit {0}
+unfolding outranks insert ranked hitBytes hitsAt hitsRead
+everything = tt

@@ -1,0 +1,1 @@
+// Hits and their order: definitions in specs/.

@@ -1,0 +1,7 @@
+-- Every definition of this crate's specs/, open: a computed example names `everything` on its `unfolding` line in place of them all.
+-- Assumes nothing.
+use Rattle.report.specs.Report.{imageIn, afterImage, voiceIn, lexiconIn, countIn, framesIn, digitsOf, decimal, signedDecimal, firstLine, hitLine, reported, report}
+
+unfoldable pub everything : Unit {0}
+unfolding imageIn afterImage voiceIn lexiconIn countIn framesIn digitsOf decimal signedDecimal firstLine hitLine reported report
+everything = tt

@@ -1,0 +1,1 @@
+// What the program hits reads and prints: definitions in specs/.

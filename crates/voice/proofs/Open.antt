@@ -1,0 +1,8 @@
+-- Every definition of this crate's specs/, open: a computed example names `everything` on its `unfolding` line in place of them all.
+-- Assumes nothing.
+use Rattle.voice.specs.Fields.{verdict, hasWrongLength, isOutOfRange}
+use Rattle.voice.specs.Voice.{printByte, states, firstState, statesAt, stateCount, loopScore, stepScore, linksAt, linkCount, linkScore, symbolsAt, symbolCount, impossible, emission, rising, letterFields, stateFields, voiceFields, voiceVerdict, voiceRows}
+
+unfoldable pub everything : Unit {0}
+unfolding verdict hasWrongLength isOutOfRange printByte states firstState statesAt stateCount loopScore stepScore linksAt linkCount linkScore symbolsAt symbolCount impossible emission rising letterFields stateFields voiceFields voiceVerdict voiceRows
+everything = tt

@@ -1,0 +1,113 @@
+-- The voice model: what it holds, its fields in stored order, and its verdict (document 01, Voice model). A letter is a letter model of the
+-- field (a left-to-right hidden Markov model without skips), a symbol a codebook index, a score a logarithmic probability. Assumes nothing.
+use Prim.Native.Nat.{ℕ, zero, suc, _+_, _*_}
+use mathlib.Core.Bool.{Bool, true, false, cond, _&&_, _||_}
+use mathlib.Core.List.{List, [], _∷_, _++_, map, flatMap}
+use lib.IntN.{ℤ, negsuc}
+use lib.ListN.{length}
+use lib.Dec.{eqb, ltb}
+use Rattle.endian.specs.Lists.{within, from, sum}
+use Rattle.endian.specs.Bytes.{u8, u16, i16}
+use Rattle.call.specs.declared.Refusal.the-variants.{VoiceLength, VoiceRange}
+use Rattle.call.specs.Table.{Row, on}
+use Rattle.voice.specs.Fields.{Field, field, Verdict, verdict, hasWrongLength, isOutOfRange}
+
+-- ---- what it holds
+
+-- L
+abbrev pub letterCount : List ℕ → ℕ
+letterCount v = u8 v 0
+
+unfoldable pub printByte : List ℕ → ℕ → ℕ
+printByte v i = u8 v (1 + 2 * i)
+
+-- the number of states of letter i
+unfoldable pub states : List ℕ → ℕ → ℕ
+states v i = u8 v (2 + 2 * i)
+
+-- the number of letter i's first state; states are numbered letter by letter
+unfoldable pub firstState : List ℕ → ℕ → ℕ
+firstState v i = sum (map (states v) (from 0 i))
+
+-- where the section States begins
+unfoldable pub statesAt : List ℕ → ℕ
+statesAt v = 1 + 2 * letterCount v
+
+-- S
+unfoldable pub stateCount : List ℕ → ℕ
+stateCount v = u16 v (statesAt v)
+
+unfoldable pub loopScore : List ℕ → ℕ → ℤ
+loopScore v s = i16 v (statesAt v + 2 + 4 * s)
+
+unfoldable pub stepScore : List ℕ → ℕ → ℤ
+stepScore v s = i16 v (statesAt v + 4 + 4 * s)
+
+-- where the section Links begins
+unfoldable pub linksAt : List ℕ → ℕ
+linksAt v = statesAt v + 2 + 4 * stateCount v
+
+unfoldable pub linkCount : List ℕ → ℕ
+linkCount v = u8 v (linksAt v)
+
+-- the link from a letter to the next: one score for every letter that is left
+unfoldable pub linkScore : List ℕ → ℕ → ℤ
+linkScore v letter = i16 v (linksAt v + 1)
+
+-- where the section Symbols begins
+unfoldable pub symbolsAt : List ℕ → ℕ
+symbolsAt v = linksAt v + 1 + 2 * linkCount v
+
+-- K
+unfoldable pub symbolCount : List ℕ → ℕ
+symbolCount v = u8 v (symbolsAt v)
+
+-- the value -32,768 means impossible
+unfoldable pub impossible : ℤ
+impossible = negsuc 32767
+
+-- of symbol k in state s; a symbol that the model does not have is impossible
+unfoldable pub emission : List ℕ → ℕ → ℕ → ℤ
+emission v s k = cond (ltb k (symbolCount v)) (i16 v (symbolsAt v + 1 + 2 * (s * symbolCount v + k))) impossible
+
+-- ---- its fields, in stored order
+
+-- the print byte of letter i is above the one before it
+unfoldable pub rising : List ℕ → ℕ → Bool
+rising v zero = true
+rising v (suc i) = ltb (printByte v i) (printByte v (suc i))
+
+unfoldable pub letterFields : List ℕ → ℕ → List Field
+letterFields v i =
+    field (1 + 2 * i) 1 (within 33 126 (printByte v i) && rising v i)
+    ∷ field (2 + 2 * i) 1 (within 1 4 (states v i))
+    ∷ []
+
+-- the n states of one letter that are left, from number s on; the last has step 0
+unfoldable pub stateFields : List ℕ → ℕ → ℕ → List Field
+stateFields v s zero = []
+stateFields v s (suc n) =
+    field (statesAt v + 2 + 4 * s) 2 true
+    ∷ field (statesAt v + 4 + 4 * s) 2 (ltb 0 n || eqb (u16 v (statesAt v + 4 + 4 * s)) 0)
+    ∷ stateFields v (suc s) n
+
+unfoldable pub voiceFields : List ℕ → List Field
+voiceFields v =
+    field 0 1 (within 1 64 (letterCount v))
+    ∷ flatMap (letterFields v) (from 0 (letterCount v))
+    ++ field (statesAt v) 2 (eqb (stateCount v) (firstState v (letterCount v)))
+    ∷ flatMap (λ i. stateFields v (firstState v i) (states v i)) (from 0 (letterCount v))
+    ++ field (linksAt v) 1 (eqb (linkCount v) 1)
+    ∷ field (linksAt v + 1) (2 * linkCount v) true
+    ∷ field (symbolsAt v) 1 (within 1 64 (symbolCount v))
+    ∷ field (symbolsAt v + 1) (2 * (stateCount v * symbolCount v)) true
+    ∷ []
+
+-- ---- its verdict
+
+unfoldable pub voiceVerdict : List ℕ → Verdict
+voiceVerdict v = verdict (length v) 0 (voiceFields v)
+
+-- 2 and 3
+unfoldable pub voiceRows : List ℕ → List Row
+voiceRows v = on VoiceLength (hasWrongLength (voiceVerdict v)) ∷ on VoiceRange (isOutOfRange (voiceVerdict v)) ∷ []

@@ -1,0 +1,1 @@
+// The voice model of document 01: its definitions are in specs/.
