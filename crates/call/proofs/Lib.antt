@@ -1,1 +1,3 @@
 pub mod Open
+pub mod Buffers
+pub mod Table

@@ -11,9 +11,13 @@ use Rattle.call.specs.Table.{Answer, value, refused, Row, on}
 unfoldable pub spaceRows : List ℕ → List Row
 spaceRows work = on WorkSpace (ltb (length work) 64000) ∷ []
 
+-- the first n bytes are zero and later ones unchanged
+unfoldable pub zeroed : ℕ → List ℕ → List ℕ
+zeroed n b = replicate n 0 ++ drop n b
+
 -- After a call that refusal 1 does not end, the first 64,000 work bytes are zero and later ones unchanged; refusal 1 leaves all as it was.
 unfoldable pub cleared : List ℕ → List ℕ
-cleared work = cond (ltb (length work) 64000) work (replicate 64000 0 ++ drop 64000 work)
+cleared work = cond (ltb (length work) 64000) work (zeroed 64000 work)
 
 module _ {A : Type 0} where
   -- a value comes with its bytes at the output's start, and the bytes after them keep their values; a refusal leaves the output unchanged

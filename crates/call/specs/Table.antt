@@ -1,7 +1,7 @@
 -- The refusal table of document 01: each refusal's number, and how a call goes through its rows. Assumes nothing.
 use Prim.Native.Nat.{ℕ}
 use mathlib.Core.Bool.{Bool, true, false, cond, not}
-use mathlib.Core.List.{List, [], _∷_}
+use mathlib.Core.List.{List, [], _∷_, map}
 use lib.IntN.{ℤ, pos, negℤ}
 use Rattle.endian.specs.Lists.{all}
 use Rattle.call.specs.declared.Refusal.{Refusal}
@@ -10,7 +10,7 @@ use Rattle.call.specs.declared.Answer as declared
 use Rattle.call.specs.declared.Answer.the-variants.{Value, Refused}
 
 -- the number of document 01's table
-unfoldable pub number : Refusal → ℕ
+abbrev pub number : Refusal → ℕ
 number WorkSpace = 1
 number VoiceLength = 2
 number VoiceRange = 3
@@ -34,12 +34,12 @@ pub data Answer (A : Type 0) : Type 0 where
   refused : Refusal → Answer A
 
 -- the answer that each case of the code's enum is
-unfoldable pub answerOf : declared.Answer → Answer ℕ
+abbrev pub answerOf : declared.Answer → Answer ℕ
 answerOf (Value n) = value n
 answerOf (Refused r) = refused r
 
 -- what C gets: a refusal is its number made negative
-unfoldable pub signedAnswer : Answer ℕ → ℤ
+abbrev pub signedAnswer : Answer ℕ → ℤ
 signedAnswer (value n) = pos n
 signedAnswer (refused r) = negℤ (pos (number r))
 
@@ -50,6 +50,10 @@ pub record Row : Type 0 where
 
 abbrev pub on : Refusal → Bool → Row
 on r b = record { refusal = r; applies = b }
+
+-- the numbers of a table's rows, in its order
+unfoldable pub numbers : List Row → List ℕ
+numbers rows = map (λ r. number (r .refusal)) rows
 
 -- no row applies
 unfoldable pub clear : List Row → Bool

@@ -1,4 +1,11 @@
 // What every call has: the refusals, the answer, and the work space.
+ghost use mathlib.Core.Path.{_≡_};
+ghost use lib.ListN.{length, replicate};
+ghost use Rattle.call.specs.Table.{number};
+ghost use Rattle.call.specs.Buffers.{cleared};
+
+// The work space that every call with a lexicon is lent, at least.
+pub const WORK_SPACE: usize = 64000;
 
 // The refusals, in the order of the table of document 01.
 pub enum Refusal {
@@ -40,4 +47,51 @@ pub enum Refusal {
 pub enum Answer {
     Value(u32),
     Refused(Refusal),
+}
+
+impl Refusal {
+    // The number of the table.
+    pub fn number(self) -> u8
+        ensures { λ r. ⌜ r ≡ number self ⌝ }
+    {
+        match self {
+            Refusal::WorkSpace => 1,
+            Refusal::VoiceLength => 2,
+            Refusal::VoiceRange => 3,
+            Refusal::LexiconLength => 4,
+            Refusal::LexiconRange => 5,
+            Refusal::Orphan => 6,
+            Refusal::Places => 7,
+            Refusal::LongWord => 8,
+            Refusal::WordCount => 9,
+            Refusal::SameLetters => 10,
+            Refusal::Frames => 11,
+            Refusal::Count => 12,
+            Refusal::NoWord => 13,
+            Refusal::Packed => 14,
+            Refusal::Code => 15,
+            Refusal::Output => 16,
+        }
+    }
+}
+
+// Makes a lent part zero.
+pub fn zero(part: &mut [u8])
+    ensures { λ _. ⌜ now (part .exit) ≡ replicate (length (now (part .entry))) 0 ⌝ }
+{
+    let mut i = 0;
+    while i < part.len() {
+        part[i] = 0;
+        i += 1;
+    }
+}
+
+// The work space as every call leaves it that refusal 1 does not end; a shorter one stays as it is.
+pub fn clear(work: &mut [u8])
+    ensures { λ _. ⌜ now (work .exit) ≡ cleared (now (work .entry)) ⌝ }
+{
+    if work.len() < WORK_SPACE {
+        return;
+    }
+    zero(&mut work[0..WORK_SPACE]);
 }

@@ -1,4 +1,1 @@
-pub mod Width
-pub mod Packing
-pub mod Mean
 pub mod Lookup

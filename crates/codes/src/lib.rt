@@ -1,1 +1,1 @@
-// Widths, packed codes and means of document 01.
+// Word to code, code to word, and listing: definitions in specs/.

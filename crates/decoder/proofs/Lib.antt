@@ -1,1 +1,10 @@
 pub mod Open
+pub mod Biased
+pub mod Runs
+pub mod TrueScore
+pub mod Sums
+pub mod StatePaths
+pub mod Literal
+pub mod Limits
+pub mod Row
+pub mod Theorems

@@ -1,5 +1,4 @@
--- The row of hits, the list, and the call decode (document 01, State paths and hits; Refusal table). Its work bytes end as `cleared work`.
--- Assumes nothing.
+-- The row of hits, the list, and the call decode (document 01, State paths and hits; Refusal table). Assumes nothing.
 use Prim.Native.Nat.{ℕ, _*_}
 use mathlib.Core.Path.{_≡_}
 use mathlib.Core.Bool.{Bool, true, _||_}
@@ -11,12 +10,11 @@ use lib.Dec.{leb, ltb}
 use Rattle.endian.specs.Lists.{any}
 use Rattle.call.specs.declared.Refusal.the-variants.{Frames, Count, Output}
 use Rattle.call.specs.Table.{Answer, Row, on, clear, unless}
-use Rattle.call.specs.Buffers.{written}
+use Rattle.call.specs.Limits.{badLength, badCount}
+use Rattle.call.specs.Buffers.{cleared, written}
 use Rattle.voice.specs.Voice.{symbolCount}
 use Rattle.graph.specs.Graph.{Graph, graphOf, fullPaths, pathCode, pathLetters}
-use Rattle.graph.specs.Checking.{givenRows}
-use Rattle.codes.specs.Packing.{badCount}
-use Rattle.codes.specs.Mean.{badLength}
+use Rattle.graph.specs.Checking.{firstRows}
 use Rattle.ranking.specs.Hits.{Hit, hit, ranked, hitBytes}
 use Rattle.decoder.specs.TrueScore.{trueScore}
 
@@ -47,16 +45,17 @@ frameRows v frames = on Frames (badLength (length frames) || any (λ k. leb (sym
 abbrev pub AcceptedFrames : List ℕ → List ℕ → Type 0
 AcceptedFrames v frames = clear (frameRows v frames) ≡ true
 
+-- 1 to 12, and 16
+unfoldable pub decodeRows : List ℕ → List ℕ → List ℕ → ℕ → List ℕ → List ℕ → List Row
+decodeRows v x frames n work out =
+    firstRows v x work ++ frameRows v frames ++ on Count (badCount n) ∷ on Output (ltb (length out) (8 * n)) ∷ []
+
 -- decoding writes the hits, at most n, and returns how many
 unfoldable pub decodeAnswer : List ℕ → List ℕ → List ℕ → ℕ → List ℕ → List ℕ → Answer ℕ
-decodeAnswer v x frames n work out =
-    unless
-    (givenRows v x work
-    ++ frameRows v frames
-    ++ on Count (badCount n)
-    ∷ on Output (ltb (length out) (8 * n))
-    ∷ [])
-    (length (hits v (graphOf x) frames n))
+decodeAnswer v x frames n work out = unless (decodeRows v x frames n work out) (length (hits v (graphOf x) frames n))
 
 unfoldable pub decodeOut : List ℕ → List ℕ → List ℕ → ℕ → List ℕ → List ℕ → List ℕ
 decodeOut v x frames n work out = written (decodeAnswer v x frames n work out) (hitBytes (hits v (graphOf x) frames n)) out
+
+abbrev pub decodeWork : List ℕ → List ℕ → List ℕ → ℕ → List ℕ → List ℕ
+decodeWork v x frames n work = cleared work

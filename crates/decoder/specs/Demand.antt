@@ -6,7 +6,7 @@ use mathlib.Core.Logic.{_⊎_}
 use mathlib.Core.List.{List, [], _∷_, List·Memᴰ}
 use lib.IntN.{ℤ, pos}
 use lib.Signed.{_≤ℤ_}
-use lib.ListN.{length, getD}
+use lib.ListN.{length, getD, take}
 use Rattle.call.specs.Table.{Answer, value}
 use Rattle.voice.specs.Voice.{letterCount}
 use Rattle.graph.specs.Graph.{Graph, graphOf, wordCount}
@@ -61,6 +61,7 @@ module _ (v : List ℕ) (g : Graph) (frames : List ℕ) where
     pub listed-some : 0 < length hs
     pub behind : hitAt hs (length hs - 1) ≻ hit score code
 
+  -- n is at least 1 wherever decoding answers
   pub record Demand3 (n : ℕ) (hs : List Hit) : Type 0 where
     -- listed words are lexicon words and carry their true scores
     pub listed : (h : Hit) → List·Memᴰ h hs → (word : List ℕ) × Names h word × LexiconWord v g word × IsTrueScore word (h .score)
@@ -78,12 +79,30 @@ module _ (v : List ℕ) (g : Graph) (frames : List ℕ) where
     -- if fewer than n are listed, no word off the list has a permitted state path: exactly those that have one are listed
     pub short : length hs < n → (word : List ℕ) → LexiconWord v g word → Off hs word → HasNoPath word
 
+  -- the row: each lexicon word that has a true score as a hit of that score and the word's code, by falling score and equal scores by rising
+  -- code
+  pub record IsRow (r : List Hit) : Type 0 where
+    pub each : (h : Hit) → List·Memᴰ h r → (word : List ℕ) × Names h word × LexiconWord v g word × IsTrueScore word (h .score)
+    pub every : (h : Hit) (word : List ℕ) → Names h word → LexiconWord v g word → IsTrueScore word (h .score) → List·Memᴰ h r
+    pub ordered : (i j : ℕ) → i < j → j < length r → hitAt r i ≻ hitAt r j
+
+  -- the list equals the first n of that row, or all of it if it is shorter
+  pub record FirstOfRow (n : ℕ) (hs : List Hit) : Type 0 where
+    pub whole : List Hit
+    pub is-row : IsRow whole
+    pub is-first : hs ≡ take n whole
+
 -- the list is what decoding leaves: from the output's start, as many hits as it returns
 unfoldable pub decodedList : List ℕ → List ℕ → List ℕ → ℕ → List ℕ → List ℕ → ℕ → List Hit
 decodedList v x frames n work out k = hitsRead (decodeOut v x frames n work out) k
 
--- what is to be shown of the call, wherever no number of the table applies to it
+-- What is to be shown of the call, wherever no number of the table applies to it: demand 3, and that the list is the beginning of the row
 abbrev pub DecodingMeetsDemand3 : Type 0
 DecodingMeetsDemand3 =
     (v x frames work out : List ℕ) (n k : ℕ) → decodeAnswer v x frames n work out ≡ value k
     → Demand3 v (graphOf x) frames n (decodedList v x frames n work out k)
+
+abbrev pub DecodingListsTheRow : Type 0
+DecodingListsTheRow =
+    (v x frames work out : List ℕ) (n k : ℕ) → decodeAnswer v x frames n work out ≡ value k
+    → FirstOfRow v (graphOf x) frames n (decodedList v x frames n work out k)

@@ -1,4 +1,6 @@
 pub mod StatePaths
 pub mod TrueScore
+pub mod Score
 pub mod Decoding
 pub mod Demand
+pub mod Theorems

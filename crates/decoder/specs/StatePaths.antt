@@ -1,45 +1,36 @@
 -- State paths of a word over frames, as document 01 says them, their scores, and when they are permitted (State paths and hits). The word is
 -- given by its letter indexes. The field calls a state path an alignment. Assumes nothing.
-use Prim.Native.Nat.{ℕ, suc, _+_, _*_, _-_, _<_}
+use Prim.Native.Nat.{ℕ, suc, _+_, _-_, _<_}
 use mathlib.Core.Path.{_≡_}
-use mathlib.Core.Bool.{Bool, true, cond, not, _&&_}
-use mathlib.Core.List.{List, [], _∷_, _++_, map}
-use lib.IntN.{ℤ, pos, _+ℤ_}
-use lib.Signed.{leZ}
+use mathlib.Core.Bool.{Bool, true, cond, not}
+use mathlib.Core.List.{List, _++_, map}
+use lib.IntN.{ℤ}
 use lib.ListN.{length, getD}
 use lib.Dec.{eqb}
 use Rattle.endian.specs.Lists.{from, all}
+use Rattle.endian.specs.Integers.{eqZ, sumZ}
 use Rattle.voice.specs.Voice.{states, firstState, loopScore, stepScore, linkScore, emission, impossible}
-
--- ---- scores
-
-unfoldable pub sumZ : List ℤ → ℤ
-sumZ [] = pos 0
-sumZ (a ∷ bs) = a +ℤ sumZ bs
-
-unfoldable pub eqZ : ℤ → ℤ → Bool
-eqZ a b = leZ a b && leZ b a
 
 -- ---- state paths
 
--- The state of one frame: a letter of the word, by its place in the word from 0, and one of that letter's states, from 0. The place belongs
+-- The state of one frame: a letter of the word, by its position in the word from 0, and one of that letter's states, from 0. The position belongs
 -- to it: in the word aa, staying in a and passing from a to a are two moves.
 pub record Spot : Type 0 where
-  pub place : ℕ
+  pub position : ℕ
   pub state : ℕ
 
 abbrev pub spot : ℕ → ℕ → Spot
-spot i s = record { place = i; state = s }
+spot i s = record { position = i; state = s }
 
--- the letter at a place of the word
+-- the letter at a position of the word
 abbrev pub letterAt : List ℕ → ℕ → ℕ
 letterAt word i = getD word i 0
 
 -- the number of a spot's state in the voice model
 unfoldable pub stateAt : List ℕ → List ℕ → Spot → ℕ
-stateAt v word q = firstState v (letterAt word (q .place)) + q .state
+stateAt v word q = firstState v (letterAt word (q .position)) + q .state
 
--- the last state of the letter at place i
+-- the last state of the letter at position i
 unfoldable pub lastSpot : List ℕ → List ℕ → ℕ → Spot
 lastSpot v word i = spot i (states v (letterAt word i) - 1)
 
@@ -50,8 +41,8 @@ spotAt path t = getD path t (spot 0 0)
 module _ (v word : List ℕ) where
   -- one of the word's letters, and one of that letter's states
   pub record Inside (q : Spot) : Type 0 where
-    pub letter : q .place < length word
-    pub state : q .state < states v (letterAt word (q .place))
+    pub letter : q .position < length word
+    pub state : q .state < states v (letterAt word (q .position))
 
   -- between frames it stays (loop), moves to the next state (step), or passes from a letter's last state to the first of the next (link)
   pub data Follows : Spot → Spot → Type 0 where
@@ -62,9 +53,9 @@ module _ (v word : List ℕ) where
   -- what such a move scores
   unfoldable pub moveScore : Spot → Spot → ℤ
   moveScore q r =
-      cond (eqb (r .place) (q .place))
+      cond (eqb (r .position) (q .position))
       (cond (eqb (r .state) (q .state)) (loopScore v (stateAt v word q)) (stepScore v (stateAt v word q)))
-      (linkScore v (letterAt word (q .place)))
+      (linkScore v (letterAt word (q .position)))
 
   -- A state path over T frames gives one state to each frame; it begins in the first state of the first letter and ends in the last state of
   -- the last letter.

@@ -10,7 +10,8 @@ use lib.ListN.{length, getD}
 use lib.Dec.{eqb}
 use Rattle.endian.specs.Lists.{select}
 use Rattle.voice.specs.Voice.{loopScore, stepScore, linkScore, emission}
-use Rattle.decoder.specs.StatePaths.{sumZ, Spot, spot, letterAt, stateAt, lastSpot, permitted}
+use Rattle.endian.specs.Integers.{sumZ}
+use Rattle.decoder.specs.StatePaths.{Spot, spot, letterAt, stateAt, lastSpot, permitted}
 
 -- the higher of a score and what may be one
 unfoldable pub higher : ℤ → Option ℤ → Option ℤ
@@ -40,8 +41,8 @@ movesTo v word (suc i) zero = stay v word (spot (suc i) 0) ∷ move (lastSpot v 
 
 -- the state paths over frames 0 to t that begin in the first state of the first letter and end in a spot, each as its moves, the latest first
 unfoldable pub pathsTo : List ℕ → List ℕ → ℕ → Spot → List (List Move)
-pathsTo v word zero q = cond (eqb (q .place) 0 && eqb (q .state) 0) ([] ∷ []) []
-pathsTo v word (suc t) q = flatMap (λ m. map (λ p. m ∷ p) (pathsTo v word t (m .leaves))) (movesTo v word (q .place) (q .state))
+pathsTo v word zero q = cond (eqb (q .position) 0 && eqb (q .state) 0) ([] ∷ []) []
+pathsTo v word (suc t) q = flatMap (λ m. map (λ p. m ∷ p) (pathsTo v word t (m .leaves))) (movesTo v word (q .position) (q .state))
 
 -- the emissions and moves of such a path, which has t moves
 unfoldable pub parts : List ℕ → List ℕ → List ℕ → ℕ → Spot → List Move → List ℤ

@@ -1,1 +1,2 @@
-// Decoding: its definitions are in specs/.
+// Decoding.
+pub mod score;

@@ -1,1 +1,9 @@
 pub mod Open
+pub mod Booleans
+pub mod Lists
+pub mod Pairs
+pub mod Ranges
+pub mod Signed
+pub mod Differences
+pub mod Integers
+pub mod Bytes

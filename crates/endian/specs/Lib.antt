@@ -1,2 +1,3 @@
 pub mod Lists
+pub mod Integers
 pub mod Bytes

@@ -64,7 +64,7 @@ module _ {A : Type 0} where
   first p [] = none
   first p (x ∷ xs) = cond (p x) (some x) (first p xs)
 
-  -- a value is there, or none is
+  -- no value is there
   unfoldable pub isNone : Option A → Bool
   isNone none = true
   isNone (some a) = false

@@ -1,1 +1,2 @@
 pub mod SmallLexicon
+pub mod Pins

@@ -3,15 +3,15 @@ use Prim.Native.Nat.{ℕ}
 use mathlib.Core.Path.{_≡_}
 use mathlib.Core.List.{List, [], _∷_, _++_, map}
 use lib.IntN.{ℤ, pos, negℤ}
-use lib.ListN.{replicate}
+use lib.ListN.{length, drop, replicate}
 use Rattle.call.specs.Table.{Answer, value, refused, signedAnswer}
 use Rattle.graph.specs.Graph.{graphOf}
 use Rattle.graph.specs.Words.{wordOfCode}
 use Rattle.graph.specs.Checking.{check}
-use Rattle.codes.specs.Width.{widthAnswer}
-use Rattle.codes.specs.Mean.{meanAnswer}
-use Rattle.codes.specs.Lookup.{wordToCode, codeToWordAnswer, codeToWordOut, listAnswer, listOut}
-use Rattle.ranking.specs.Hits.{Hit, hitsRead}
+use Rattle.packing.specs.Width.{widthAnswer}
+use Rattle.ranking.specs.Mean.{meanAnswer}
+use Rattle.codes.specs.Lookup.{wordToCode, codeToWordAnswer, codeToWordOut}
+use Rattle.ranking.specs.Hits.{hitsRead}
 use Rattle.decoder.specs.Decoding.{decodeAnswer, decodeOut}
 use Rattle.report.specs.Report.{report}
 
@@ -95,18 +95,24 @@ minus n = negℤ (pos n)
 
 -- ---- what a row shows
 
--- the words of a lexicon, each with its code: the code looked up, and the word that comes back for it
+-- a word with its code, and what comes back for that code
 pub record Coded : Type 0 where
   pub word : List ℕ
   pub code : Answer ℕ
+  pub count : Answer ℕ
   pub back : List ℕ
 
--- the code of a word, and the bytes that code to word writes for that code before one byte of old contents
+-- word to code, then code to word into three bytes of old contents
 unfoldable pub coded : List ℕ → ℕ → List ℕ → Coded
-coded x c w = record { word = w; code = wordToCode voice x w work; back = codeToWordOut voice x c work (w ++ (7 ∷ [])) }
+coded x c w = record {
+  word = w;
+  code = wordToCode voice x w work;
+  count = codeToWordAnswer voice x c work (replicate 3 7);
+  back = codeToWordOut voice x c work (replicate 3 7);
+}
 
 abbrev pub is : List ℕ → ℕ → Coded
-is w c = record { word = w; code = value c; back = w ++ (7 ∷ []) }
+is w c = record { word = w; code = value c; count = value (length w); back = w ++ drop (length w) (replicate 3 7) }
 
 -- a hit as the paper prints it
 pub record Line : Type 0 where

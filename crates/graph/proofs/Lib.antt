@@ -1,1 +1,7 @@
 pub mod Open
+pub mod Sound
+pub mod Codes
+pub mod Paths
+pub mod Spelling
+pub mod Accepted
+pub mod Theorems

@@ -1,8 +1,9 @@
 -- Word graphs: full paths, path counts, increments and codes (document 01, Lexicon; document 000, 3.1). Stated for any graph, of which a
 -- lexicon image is one. Assumes nothing.
-use Prim.Native.Nat.{ℕ, zero, suc, _+_}
+use Prim.Native.Nat.{ℕ, zero, suc, _+_, _<_}
+use mathlib.Core.Path.{_≡_}
 use mathlib.Core.Bool.{Bool, cond, _&&_}
-use mathlib.Core.List.{List, [], _∷_, map, flatMap}
+use mathlib.Core.List.{List, [], _∷_, map, flatMap, List·Memᴰ}
 use lib.Dec.{eqb, leb, ltb}
 use Rattle.endian.specs.Lists.{sum, before, select}
 use Rattle.lexicon.specs.Lexicon as L
@@ -25,13 +26,23 @@ sink g = suc (g .nodes)
 
 -- ---- paths
 
+-- p goes on from vertex u to the sink, arc by arc
+pub data ArcPath (g : Graph) : ℕ → List ℕ → Type 0 where
+  arrived : {u : ℕ} → u ≡ sink g → ArcPath g u []
+  along : {u s : ℕ} {p : List ℕ} → u < sink g → List·Memᴰ s (g .successors u) → ArcPath g s p → ArcPath g u (s ∷ p)
+
+-- a full path runs from root to sink, both included
+pub data FullPath (g : Graph) : List ℕ → Type 0 where
+  from-root : {p : List ℕ} → ArcPath g 0 p → FullPath g (0 ∷ p)
+
+-- All of them, computed, in the order in which a depth-first walk completes them; that they are these is proved in proofs/Paths.antt.
+
 -- the ways from vertex u to the sink by at most d arcs, each as the vertices after u: depth first, through u's arcs in stored order
 unfoldable pub ways : Graph → ℕ → ℕ → List (List ℕ)
 ways g zero u = cond (eqb u (sink g)) ([] ∷ []) []
 ways g (suc d) u = cond (eqb u (sink g)) ([] ∷ []) (flatMap (λ s. map (λ p. s ∷ p) (ways g d s)) (g .successors u))
 
--- A full path runs from root to sink, both included. Arcs lead to greater vertices, so that none has more than N + 1 arcs. They stand here
--- in the order in which a depth-first walk completes them.
+-- arcs lead to greater vertices, so that no full path has more than N + 1 arcs
 unfoldable pub fullPaths : Graph → List (List ℕ)
 fullPaths g = map (λ p. 0 ∷ p) (ways g (sink g) 0)
 

@@ -1,12 +1,12 @@
 -- Words: what a full path spells, in print bytes, and the path and code of a word (document 01, Lexicon). Assumes nothing.
 use Prim.Native.Nat.{ℕ}
 use mathlib.Core.Path.{_≡_}
-use mathlib.Core.List.{List, [], map, List·Memᴰ}
+use mathlib.Core.List.{List, [], map}
 use mathlib.Core.Option.{Option, none, some}
 use lib.Dec.{eqb}
 use Rattle.endian.specs.Lists.{first, same}
 use Rattle.voice.specs.Voice.{printByte}
-use Rattle.graph.specs.Graph.{Graph, fullPaths, pathCode, pathLetters}
+use Rattle.graph.specs.Graph.{Graph, FullPath, fullPaths, pathCode, pathLetters}
 
 -- the print bytes of a row of letter indexes
 unfoldable pub spelled : List ℕ → List ℕ → List ℕ
@@ -19,7 +19,7 @@ wordOfPath v g p = spelled v (pathLetters g p)
 -- a lexicon word is one that some full path spells
 pub record LexiconWord (v : List ℕ) (g : Graph) (word : List ℕ) : Type 0 where
   pub path : List ℕ
-  pub full : List·Memᴰ path (fullPaths g)
+  pub full : FullPath g path
   pub spells : wordOfPath v g path ≡ word
 
 -- the first full path, in code order, that spells the word

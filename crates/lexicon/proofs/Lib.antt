@@ -1,1 +1,5 @@
 pub mod Open
+pub mod Arcs
+pub mod WellFormed
+pub mod Readers
+pub mod Tiling

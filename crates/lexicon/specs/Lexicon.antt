@@ -48,8 +48,11 @@ reserveAt x = arcsAt x (sinkOf x)
 -- ---- its fields, in stored order
 
 -- the letter of each node is below L
+abbrev pub nodeField : ℕ → List ℕ → ℕ → Field
+nodeField L x n = field (1 + n) 1 (ltb (nodeLetter x n) L)
+
 unfoldable pub nodeFields : ℕ → List ℕ → List Field
-nodeFields L x = map (λ n. field (1 + n) 1 (ltb (nodeLetter x n) L)) (from 1 (nodeCount x))
+nodeFields L x = map (nodeField L x) (from 1 (nodeCount x))
 
 -- A successor s of u is greater than u, at most N + 1, and not yet in this list; the root does not lead to the sink
 unfoldable pub allowed : List ℕ → ℕ → List ℕ → ℕ → Bool

@@ -1,1 +1,4 @@
 pub mod Open
+pub mod Hits
+pub mod Ranked
+pub mod Rounding

@@ -4,8 +4,9 @@ use mathlib.Core.Path.{_≡_}
 use mathlib.Core.Bool.{Bool, cond, _&&_, _||_}
 use mathlib.Core.List.{List, [], _∷_, _++_, flatMap}
 use lib.IntN.{ℤ}
-use lib.Signed.{leZ, ltZ, _<ℤ_}
+use lib.Signed.{ltZ, _<ℤ_}
 use lib.Dec.{ltb}
+use Rattle.endian.specs.Integers.{eqZ}
 use Rattle.endian.specs.Bytes.{u32, i32, u32Bytes, i32Bytes}
 
 -- The field calls hits n-best hypotheses.
@@ -26,7 +27,7 @@ pub data _≻_ (a b : Hit) : Type 0 where
 
 -- the same as a test
 unfoldable pub outranks : Hit → Hit → Bool
-outranks a b = ltZ (b .score) (a .score) || (leZ (a .score) (b .score) && leZ (b .score) (a .score) && ltb (a .code) (b .code))
+outranks a b = ltZ (b .score) (a .score) || (eqZ (a .score) (b .score) && ltb (a .code) (b .code))
 
 -- before the first hit that it outranks
 unfoldable pub insert : Hit → List Hit → List Hit

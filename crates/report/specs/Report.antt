@@ -7,8 +7,8 @@ use Rattle.endian.specs.Bytes.{u8, u16}
 use Rattle.call.specs.Table.{Answer, value, refused, number}
 use Rattle.graph.specs.Graph.{Graph, graphOf, wordCount}
 use Rattle.graph.specs.Words.{wordOfCode}
-use Rattle.codes.specs.Width.{width}
-use Rattle.codes.specs.Mean.{mean}
+use Rattle.packing.specs.Width.{width}
+use Rattle.ranking.specs.Mean.{mean}
 use Rattle.ranking.specs.Hits.{Hit}
 use Rattle.decoder.specs.Decoding.{hits, decodeAnswer}
 

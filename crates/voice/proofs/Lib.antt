@@ -1,1 +1,4 @@
 pub mod Open
+pub mod Fields
+pub mod Tiling
+pub mod Letters

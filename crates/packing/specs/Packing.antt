@@ -3,13 +3,14 @@ use Prim.Native.Nat.{ℕ, zero, suc, _+_, _*_, _/_, _%_}
 use mathlib.Core.Bool.{Bool, _&&_, not}
 use mathlib.Core.List.{List, [], _∷_, _++_, flatMap}
 use lib.ListN.{length, take, drop, replicate}
-use lib.Dec.{eqb, leb, ltb}
-use Rattle.endian.specs.Lists.{within, all, any}
+use lib.Dec.{eqb, ltb}
+use Rattle.endian.specs.Lists.{all, any}
 use Rattle.endian.specs.Bytes.{u32Bytes}
 use Rattle.call.specs.declared.Refusal.the-variants.{Count, Packed, Code, Output}
 use Rattle.call.specs.Table.{Answer, Row, on, unless}
+use Rattle.call.specs.Limits.{badCount, badCode}
 use Rattle.call.specs.Buffers.{written}
-use Rattle.codes.specs.Width.{width, givenRows}
+use Rattle.packing.specs.Width.{width, givenRows}
 
 -- ---- bits, the highest first
 
@@ -57,43 +58,39 @@ paddedWithZeros b n bytes = all (λ d. eqb d 0) (drop (n * b) (toBits bytes))
 
 -- ---- the calls; they are lent no work space
 
--- 12: the number of codes not 1 to 8
-unfoldable pub badCount : ℕ → Bool
-badCount n = not (within 1 8 n)
-
--- 15: a code not below W
-unfoldable pub badCode : ℕ → ℕ → Bool
-badCode W code = leb W code
-
 -- 14: packed bytes of the wrong length, or a padding bit set
 unfoldable pub badPacked : ℕ → ℕ → List ℕ → Bool
 badPacked b n bytes = not (eqb (length bytes) (packedSize b n) && paddedWithZeros b n bytes)
 
--- packing is given a lent list of codes and answers the bytes written
-unfoldable pub packAnswer : ℕ → List ℕ → List ℕ → Answer ℕ
-packAnswer W codes out =
-    unless
-    (givenRows W
+-- packing is given a lent list of codes: 9, 12, 15 and 16
+unfoldable pub packRows : ℕ → List ℕ → List ℕ → List Row
+packRows W codes out =
+    givenRows W
     ++ on Count (badCount (length codes))
     ∷ on Code (any (badCode W) codes)
     ∷ on Output (ltb (length out) (packedSize (width W) (length codes)))
-    ∷ [])
-    (packedSize (width W) (length codes))
+    ∷ []
+
+-- it answers the bytes written
+unfoldable pub packAnswer : ℕ → List ℕ → List ℕ → Answer ℕ
+packAnswer W codes out = unless (packRows W codes out) (packedSize (width W) (length codes))
 
 unfoldable pub packOut : ℕ → List ℕ → List ℕ → List ℕ
 packOut W codes out = written (packAnswer W codes out) (packed (width W) codes) out
 
--- unpacking answers n
-unfoldable pub unpackAnswer : ℕ → ℕ → List ℕ → List ℕ → Answer ℕ
-unpackAnswer W n bytes out =
-    unless
-    (givenRows W
+-- unpacking: 9, 12, 14, 15 and 16
+unfoldable pub unpackRows : ℕ → ℕ → List ℕ → List ℕ → List Row
+unpackRows W n bytes out =
+    givenRows W
     ++ on Count (badCount n)
     ∷ on Packed (badPacked (width W) n bytes)
     ∷ on Code (any (badCode W) (unpacked (width W) n bytes))
     ∷ on Output (ltb (length out) (4 * n))
-    ∷ [])
-    n
+    ∷ []
+
+-- it answers n
+unfoldable pub unpackAnswer : ℕ → ℕ → List ℕ → List ℕ → Answer ℕ
+unpackAnswer W n bytes out = unless (unpackRows W n bytes out) n
 
 -- unpacked codes are written as u32
 unfoldable pub unpackOut : ℕ → ℕ → List ℕ → List ℕ → List ℕ

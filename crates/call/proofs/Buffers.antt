@@ -1,0 +1,54 @@
+-- Laws of the buffers: the work space and the output keep their lengths, and a cleared work space does not depend on what its first 64,000
+-- bytes held. Assumes nothing.
+use Prim.Native.Nat.{ℕ, _≤_, _<_}
+use mathlib.Core.Path.{_≡_, refl, ap, _∙_}
+use mathlib.Core.Bool.{Bool, true, false}
+use mathlib.Core.List.{List, _++_}
+use native.Mathlib.Omega.{arith}
+use lib.ListN.{length, take, drop, replicate, length-append, length-drop, length-replicate}
+use lib.Seq.{length-take-le}
+use lib.Dec.{ltb}
+use borrow.Author.Tests.{lt-ltb, le-ltb, ltb-true, ltb-false}
+use Rattle.call.specs.declared.Refusal.{Refusal}
+use Rattle.call.specs.Table.{Answer, value, refused}
+use Rattle.call.specs.Buffers.{zeroed, cleared, written}
+
+pub cleared-short : (w : List ℕ) → length w < 64000 → cleared w ≡ w
+unfolding cleared
+cleared-short w h = rw (lt-ltb (length w) 64000 h)
+
+pub cleared-long : (w : List ℕ) → 64000 ≤ length w → cleared w ≡ zeroed 64000 w
+unfolding cleared
+cleared-long w h = rw (le-ltb (length w) 64000 h)
+
+pub zeroed-length : (n : ℕ) (w : List ℕ) → n ≤ length w → length (zeroed n w) ≡ length w
+unfolding zeroed
+zeroed-length n w h = length-append (replicate n 0) (drop n w) ∙ rw (length-replicate, length-drop) (omega arith)
+
+-- the first n bytes lent on and made zero
+pub zeroed-part : (n : ℕ) (w : List ℕ) → n ≤ length w → replicate (length (take n w)) 0 ++ drop n w ≡ zeroed n w
+unfolding zeroed
+zeroed-part n w h = rw (length-take-le n w h)
+
+-- what the first n bytes held is gone, and the rest is kept: a call may use them and clear them again
+pub zeroed-same : (n : ℕ) (u w : List ℕ) → drop n u ≡ drop n w → zeroed n u ≡ zeroed n w
+unfolding zeroed
+zeroed-same n u w e = rw e
+
+pub cleared-length : (w : List ℕ) → length (cleared w) ≡ length w
+cleared-length w = go (ltb (length w) 64000) refl
+  where
+    go : (b : Bool) → ltb (length w) 64000 ≡ b → length (cleared w) ≡ length w
+    go true e = ap length (cleared-short w (ltb-true (length w) 64000 e))
+    go false e = let h = ltb-false (length w) 64000 e in ap length (cleared-long w h) ∙ zeroed-length 64000 w h
+
+module _ {A : Type 0} where
+  pub written-length : (a : Answer A) (bytes out : List ℕ) → length bytes ≤ length out → length (written a bytes out) ≡ length out
+  unfolding written
+  written-length (value a) bytes out h = length-append bytes (drop (length bytes) out) ∙ rw length-drop (omega arith)
+  written-length (refused r) bytes out h = refl
+
+  -- a refusal leaves the output unchanged
+  pub written-refused : {a : Answer A} {r : Refusal} (bytes out : List ℕ) → a ≡ refused r → written a bytes out ≡ out
+  unfolding written
+  written-refused bytes out e = rw e

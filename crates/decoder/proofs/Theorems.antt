@@ -1,0 +1,58 @@
+-- The theorems of specs/Theorems.antt, for every accepted voice model and lexicon. Assumes nothing.
+use Prim.Native.Nat.{ℕ, _*_, _≤_}
+use mathlib.Core.Path.{_≡_, refl}
+use mathlib.Core.Bool.{true}
+use mathlib.Core.List.{List, [], _∷_, _++_}
+use borrow.Author.Tests.{le-ltb}
+use lib.Dec.{ltb}
+use lib.ListN.{length}
+use Rattle.endian.proofs.Ranges.{inside}
+use Rattle.call.specs.Table.{on, numbers, clear}
+use Rattle.call.specs.Buffers.{spaceRows}
+use Rattle.call.proofs.Table.{clear-join, none-clear, unless-value}
+use Rattle.call.specs.declared.Refusal.the-variants.{Count, Output}
+use Rattle.voice.specs.Voice.{voiceRows}
+use Rattle.graph.specs.Graph.{graphOf, pathLetters}
+use Rattle.graph.specs.Checking.{Accepted, lexiconRows, imageRows, firstRows}
+use Rattle.graph.proofs.Accepted.{accepted, letters-known}
+use Rattle.call.specs.Limits.{badCount}
+use Rattle.decoder.specs.Decoding.{hits, frameRows, decodeRows, decodeAnswer}
+use Rattle.decoder.specs.Theorems.{ScoreTheorems, AcceptedDecodes}
+use Rattle.decoder.proofs.StatePaths.{accepted-stated}
+use Rattle.decoder.proofs.Literal.{true-some, true-none}
+use Rattle.decoder.proofs.Limits.{attained-within}
+
+pub score-theorems : (v x frames path : List ℕ) → Accepted v x → ScoreTheorems v (pathLetters (graphOf x) path) frames
+score-theorems v x frames path h =
+    let images = accepted h in
+    let stated = accepted-stated v (images .voice) (letters-known images path) in
+    record {
+      highest = λ a. true-some frames a stated;
+      none-permitted = true-none frames stated;
+      within = λ k a attained. attained-within k attained;
+    }
+
+-- ---- decoding answers a value
+
+room : (n : ℕ) (work out : List ℕ) → 1 ≤ n → n ≤ 8 → 64000 ≤ length work → 8 * n ≤ length out
+    → (clear (spaceRows work) ≡ true) × (clear (on Count (badCount n) ∷ on Output (ltb (length out) (8 * n)) ∷ []) ≡ true)
+unfolding spaceRows badCount
+room n work out low high space fits = (
+  none-clear _ (le-ltb (length work) 64000 space, tt),
+  none-clear _ (rw (inside 1 8 n low high), (le-ltb (length out) (8 * n) fits, tt)),
+)
+
+pub accepted-decodes : AcceptedDecodes
+unfolding decodeAnswer decodeRows firstRows
+accepted-decodes v x frames work out n images heard low high space fits =
+    let r = room n work out low high space fits in
+    unless-value (decodeRows v x frames n work out) (length (hits v (graphOf x) frames n))
+    (clear-join (firstRows v x work ++ frameRows v frames) (on Count (badCount n) ∷ on Output (ltb (length out) (8 * n)) ∷ [])
+    (clear-join (firstRows v x work) (frameRows v frames) (clear-join (spaceRows work) (imageRows v x) (r .0) images) heard)
+    (r .1))
+
+-- its rows, in order: 1 to 12, and 16
+pub decode-numbers : (v x frames work out : List ℕ) (n : ℕ)
+    → numbers (decodeRows v x frames n work out) ≡ 1 ∷ 2 ∷ 3 ∷ 4 ∷ 5 ∷ 6 ∷ 7 ∷ 8 ∷ 9 ∷ 10 ∷ 11 ∷ 12 ∷ 16 ∷ []
+unfolding numbers decodeRows firstRows spaceRows imageRows voiceRows lexiconRows frameRows
+decode-numbers v x frames work out n = refl

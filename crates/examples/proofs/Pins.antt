@@ -1,0 +1,104 @@
+-- The pins hold: each is computed. Assumes nothing.
+use mathlib.Core.Path.{refl}
+use Rattle.examples.specs.Pins.{Fields, Conditions, Scores, Decoding, Codes, Program}
+use Rattle.examples.proofs.Open.{everything}
+
+pub fields : Fields
+unfolding everything
+fields = record {
+  space = refl;
+  space-kept = refl;
+  space-cleared = refl;
+  letter-counts = refl;
+  print-bytes = refl;
+  print-rises = refl;
+  state-counts = refl;
+  state-sum = refl;
+  last-step = refl;
+  links = refl;
+  symbol-counts = refl;
+  voice-ends = refl;
+  node-counts = refl;
+  node-letters = refl;
+  arc-counts = refl;
+  root-arcs = refl;
+  node-arcs = refl;
+  arc-repeated = refl;
+  reserves = refl;
+  arc-total = refl;
+}
+
+pub conditions : Conditions
+unfolding everything
+conditions = record {
+  orphans = refl;
+  places = refl;
+  place-counts = refl;
+  place-limit = refl;
+  word-lengths = refl;
+  word-length-limit = refl;
+  word-counts = refl;
+  word-count-limit = refl;
+  joined-again = refl;
+  prefix-is-no-twin = refl;
+  voice-first = refl;
+}
+
+pub scores : Scores
+unfolding everything
+scores = record {
+  loop-or-link = refl;
+  link-better = refl;
+  tied = refl;
+  five-states-2 = refl;
+  five-states-3 = refl;
+  five-states-5 = refl;
+  impossible-emission = refl;
+  impossible-loop = refl;
+  impossible-link = refl;
+  impossible-step = refl;
+  sum-is-possible = refl;
+}
+
+pub decoding : Decoding
+unfolding everything
+decoding = record {
+  hit-bytes = refl;
+  large-score = refl;
+  no-hits = refl;
+  refused-unwritten = refl;
+  frame-counts = refl;
+  symbols = refl;
+  hit-counts = refl;
+  hit-room = refl;
+}
+
+pub codes : Codes
+unfolding everything
+codes = record {
+  no-words = refl;
+  code-limits = refl;
+  code-room = refl;
+  list-bytes = refl;
+  list-room = refl;
+  width-limits = refl;
+  means = refl;
+  mean-limits = refl;
+  packs = refl;
+  pack-answers = refl;
+  pack-word-counts = refl;
+  unpacks = refl;
+  unpacks-wide = refl;
+  unpack-answers = refl;
+  unpack-counts = refl;
+  unpack-one-word = refl;
+  parts = refl;
+  parts-cut = refl;
+  parts-unread = refl;
+}
+
+pub program : Program
+unfolding everything
+program = record {
+  reports-cut = refl;
+}

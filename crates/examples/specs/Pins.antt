@@ -1,0 +1,200 @@
+-- Examples that hold the definitions where the small lexicon cannot: letters of several states, unequal emissions, S ≠ K, the word aa,
+-- impossible scores, both sides of limits, two conditions at once. Each was computed apart, from the paper alone. Assumes nothing.
+use Prim.Native.Nat.{ℕ, _+_}
+use mathlib.Core.Path.{_≡_}
+use mathlib.Core.Bool.{Bool, true, false}
+use mathlib.Core.List.{List, [], _∷_, _++_, map, flatMap}
+use lib.IntN.{ℤ, pos}
+use lib.ListN.{length, take, drop, replicate}
+use Rattle.endian.specs.Lists.{from}
+use Rattle.call.specs.Table.{Answer, value, refused, signedAnswer}
+use Rattle.call.specs.Buffers.{cleared}
+use Rattle.voice.specs.Fields.{Verdict, verdict, wellFormed, wrongLength, outOfRange}
+use Rattle.lexicon.specs.Lexicon.{successorPart, arcFields}
+use Rattle.graph.specs.Graph.{graphOf, wordCount}
+use Rattle.graph.specs.Conditions.{placeCount, manyPlaces, longWord, manyWords}
+use Rattle.graph.specs.Checking.{check}
+use Rattle.packing.specs.Width.{widthAnswer}
+use Rattle.ranking.specs.Mean.{meanAnswer}
+use Rattle.packing.specs.Packing.{packAnswer, packOut, unpackAnswer, unpackOut}
+use Rattle.codes.specs.Lookup.{wordToCode, codeToWordAnswer, listAnswer, listOut}
+use Rattle.ranking.specs.Hits.{Hit, hit}
+use Rattle.decoder.specs.Decoding.{hits, decodeAnswer, decodeOut}
+use Rattle.report.specs.Report.{report}
+use Rattle.examples.specs.SmallLexicon.{voice, P, Q, an, at, it, in′, work, minus, twoAs, thirdRow}
+
+-- ---- small images
+
+-- letter a with one state, K = 1: bytes of its loop, link and emission score
+abbrev pub oneLetter : ℕ → ℕ → ℕ → ℕ → ℕ → ℕ → List ℕ
+oneLetter l l′ k k′ e e′ = 1 ∷ 97 ∷ 1 ∷ 1 ∷ 0 ∷ l ∷ l′ ∷ 0 ∷ 0 ∷ 1 ∷ k ∷ k′ ∷ 1 ∷ e ∷ e′ ∷ []
+
+-- loop -1, link -5, emission -10
+abbrev pub A : List ℕ
+A = oneLetter 255 255 251 255 246 255
+
+-- the word a
+abbrev pub wordA : List ℕ
+wordA = 1 ∷ 0 ∷ 0 ∷ 1 ∷ 0 ∷ 1 ∷ 0 ∷ 1 ∷ 0 ∷ 2 ∷ 0 ∷ 0 ∷ 0 ∷ []
+
+-- the words a and aa
+abbrev pub wordsAA : List ℕ
+wordsAA = 2 ∷ 0 ∷ 0 ∷ 0 ∷ 1 ∷ 0 ∷ 1 ∷ 0 ∷ 2 ∷ 0 ∷ 3 ∷ 0 ∷ 2 ∷ 0 ∷ 1 ∷ 0 ∷ 3 ∷ 0 ∷ 0 ∷ 0 ∷ []
+
+-- letters a of two states and b of three, K = 2; every score is another: S = 5
+abbrev pub fiveStates : List ℕ
+fiveStates =
+    2 ∷ 97 ∷ 2 ∷ 98 ∷ 3
+    ∷ 5 ∷ 0
+    ∷ 255 ∷ 255 ∷ 249 ∷ 255
+    ∷ 243 ∷ 255 ∷ 0 ∷ 0
+    ∷ 254 ∷ 255 ∷ 253 ∷ 255
+    ∷ 251 ∷ 255 ∷ 245 ∷ 255
+    ∷ 239 ∷ 255 ∷ 0 ∷ 0
+    ∷ 1 ∷ 237 ∷ 255
+    ∷ 2
+    ∷ 156 ∷ 255 ∷ 53 ∷ 255
+    ∷ 205 ∷ 254 ∷ 111 ∷ 254
+    ∷ 9 ∷ 254 ∷ 167 ∷ 253
+    ∷ 67 ∷ 253 ∷ 215 ∷ 252
+    ∷ 117 ∷ 252 ∷ 15 ∷ 252
+    ∷ []
+
+-- the words a, ab, aba, b, ba: nodes a, b, a; root to 1, 2; 1 to sink, 2; 2 to sink, 3
+abbrev pub fiveWords : List ℕ
+fiveWords = 3 ∷ 0 ∷ 0 ∷ 1 ∷ 0 ∷ 2 ∷ 0 ∷ 1 ∷ 0 ∷ 2 ∷ 0 ∷ 2 ∷ 0 ∷ 4 ∷ 0 ∷ 2 ∷ 0 ∷ 2 ∷ 0 ∷ 4 ∷ 0 ∷ 3 ∷ 0 ∷ 1 ∷ 0 ∷ 4 ∷ 0 ∷ 0 ∷ 0 ∷ []
+
+-- the one word of n letters a, n below 255
+unfoldable pub chain : ℕ → List ℕ
+chain n = n ∷ 0 ∷ replicate n 0 ++ flatMap (λ u. 1 ∷ 0 ∷ (u + 1) ∷ 0 ∷ []) (from 0 (n + 1)) ++ 0 ∷ 0 ∷ []
+
+-- letter a with four states
+abbrev pub fourStates : List ℕ
+fourStates = 1 ∷ 97 ∷ 4 ∷ 4 ∷ 0 ∷ replicate 16 0 ++ 1 ∷ 0 ∷ 0 ∷ 1 ∷ replicate 8 0
+
+-- n layers of a and b, each node of a layer leading to both of the next: 2 ^ n words
+unfoldable pub layers : ℕ → List ℕ
+layers n =
+    (n + n) ∷ 0 ∷ flatMap (λ i. 0 ∷ 1 ∷ []) (from 0 n) ++ 2 ∷ 0 ∷ 1 ∷ 0 ∷ 2 ∷ 0
+    ∷ flatMap (λ i. 2 ∷ 0 ∷ (i + i + 1) ∷ 0 ∷ (i + i + 2) ∷ 0 ∷ 2 ∷ 0 ∷ (i + i + 1) ∷ 0 ∷ (i + i + 2) ∷ 0 ∷ []) (from 1 n)
+
+-- what checking answers to C
+unfoldable pub checkVoice : List ℕ → ℤ
+checkVoice v = signedAnswer (check v wordA work)
+
+unfoldable pub checkLexicon : List ℕ → ℤ
+checkLexicon x = signedAnswer (check A x work)
+
+-- the line `refused`, with a number of one or two digits
+abbrev pub refusedLine : List ℕ → List ℕ
+refusedLine digits = 114 ∷ 101 ∷ 102 ∷ 117 ∷ 115 ∷ 101 ∷ 100 ∷ 32 ∷ digits ++ 10 ∷ []
+
+-- a hit list of any images
+unfoldable pub hitsOf : List ℕ → List ℕ → List ℕ → List Hit
+hitsOf v x frames = hits v (graphOf x) frames 8
+
+-- ---- refusal 1 and the work bytes; 2 and 3, 4 and 5 at both sides of every field's range
+
+pub record Fields : Type 0 where
+  pub space : signedAnswer (check [] [] (replicate 63999 9)) ∷ signedAnswer (check [] [] work) ∷ [] ≡ minus 1 ∷ minus 2 ∷ []
+  pub space-kept : cleared (replicate 63999 9) ≡ replicate 63999 9
+  pub space-cleared : cleared (replicate 64002 9) ≡ replicate 64000 0 ++ 9 ∷ 9 ∷ []
+  -- 2 and 3: L, print byte, states, rising, S, last step, links, K
+  pub letter-counts : map checkVoice ((0 ∷ []) ∷ (64 ∷ []) ∷ (65 ∷ []) ∷ []) ≡ minus 3 ∷ minus 2 ∷ minus 3 ∷ []
+  pub print-bytes : map (λ b. checkVoice (1 ∷ b ∷ [])) (32 ∷ 33 ∷ 126 ∷ 127 ∷ []) ≡ minus 3 ∷ minus 2 ∷ minus 2 ∷ minus 3 ∷ []
+  pub print-rises : map (λ b. checkVoice (2 ∷ 97 ∷ 1 ∷ b ∷ [])) (96 ∷ 97 ∷ 98 ∷ []) ≡ minus 3 ∷ minus 3 ∷ minus 2 ∷ []
+  pub state-counts : map (λ n. checkVoice (1 ∷ 97 ∷ n ∷ [])) (0 ∷ 1 ∷ 4 ∷ 5 ∷ []) ≡ minus 3 ∷ minus 2 ∷ minus 2 ∷ minus 3 ∷ []
+  pub state-sum : map (λ s. checkVoice (2 ∷ 97 ∷ 1 ∷ 98 ∷ 2 ∷ s ∷ 0 ∷ [])) (2 ∷ 3 ∷ 4 ∷ []) ≡ minus 3 ∷ minus 2 ∷ minus 3 ∷ []
+  pub last-step : map (λ b. checkVoice (1 ∷ 97 ∷ 2 ∷ 2 ∷ 0 ∷ 0 ∷ 0 ∷ 7 ∷ 7 ∷ 0 ∷ 0 ∷ b ∷ 0 ∷ [])) (0 ∷ 1 ∷ []) ≡ minus 2 ∷ minus 3 ∷ []
+  pub links : map (λ c. checkVoice (take 9 A ++ c ∷ drop 10 A)) (0 ∷ 1 ∷ 2 ∷ []) ≡ minus 3 ∷ pos 1 ∷ minus 3 ∷ []
+  pub symbol-counts : map (λ k. checkVoice (take 12 A ++ k ∷ [])) (0 ∷ 1 ∷ 64 ∷ 65 ∷ []) ≡ minus 3 ∷ minus 2 ∷ minus 2 ∷ minus 3 ∷ []
+  pub voice-ends : map (λ n. checkVoice (take n A)) (0 ∷ 4 ∷ 8 ∷ 14 ∷ []) ++ checkVoice (A ++ 0 ∷ []) ∷ [] ≡ minus 2 ∷ minus 2 ∷ minus 2 ∷ minus 2 ∷ minus 2 ∷ []
+  -- 4 and 5: N, letter, count, successor, reserve
+  pub node-counts : map checkLexicon ((0 ∷ []) ∷ (0 ∷ 0 ∷ []) ∷ (144 ∷ 1 ∷ []) ∷ (145 ∷ 1 ∷ []) ∷ []) ≡ minus 4 ∷ minus 5 ∷ minus 4 ∷ minus 5 ∷ []
+  pub node-letters : map (λ l. checkLexicon (1 ∷ 0 ∷ l ∷ [])) (0 ∷ 1 ∷ []) ≡ minus 4 ∷ minus 5 ∷ []
+  pub arc-counts : map (λ c. checkLexicon (1 ∷ 0 ∷ 0 ∷ c ∷ 0 ∷ [])) (0 ∷ 2 ∷ 3 ∷ []) ≡ minus 5 ∷ minus 4 ∷ minus 5 ∷ []
+  pub root-arcs : map (λ s. checkLexicon (1 ∷ 0 ∷ 0 ∷ 1 ∷ 0 ∷ s ∷ 0 ∷ [])) (0 ∷ 1 ∷ 2 ∷ []) ≡ minus 5 ∷ minus 4 ∷ minus 5 ∷ []
+  pub node-arcs : map (λ s. checkLexicon (1 ∷ 0 ∷ 0 ∷ 1 ∷ 0 ∷ 1 ∷ 0 ∷ 1 ∷ 0 ∷ s ∷ 0 ∷ [])) (1 ∷ 2 ∷ 3 ∷ []) ≡ minus 5 ∷ minus 4 ∷ minus 5 ∷ []
+  pub arc-repeated : checkLexicon (1 ∷ 0 ∷ 0 ∷ 1 ∷ 0 ∷ 1 ∷ 0 ∷ 2 ∷ 0 ∷ 2 ∷ 0 ∷ 2 ∷ 0 ∷ 0 ∷ 0 ∷ []) ≡ minus 5
+  pub reserves : map (λ r. checkLexicon (take 11 wordA ++ r ∷ 0 ∷ 0 ∷ [])) (0 ∷ 1 ∷ []) ≡ minus 4 ∷ minus 5 ∷ []
+  -- the counts before add up to 3,999 or 4,000; the one read is 1
+  pub arc-total : map (λ total. verdict 7 3 (take 1 (arcFields wordA 0 total 1))) (3999 ∷ 4000 ∷ []) ≡ wrongLength ∷ outOfRange ∷ []
+
+-- ---- 6 to 10
+
+pub record Conditions : Type 0 where
+  pub orphans : checkLexicon (3 ∷ 0 ∷ 0 ∷ 0 ∷ 0 ∷ 2 ∷ 0 ∷ 1 ∷ 0 ∷ 2 ∷ 0 ∷ 1 ∷ 0 ∷ 4 ∷ 0 ∷ 1 ∷ 0 ∷ 4 ∷ 0 ∷ 1 ∷ 0 ∷ 4 ∷ 0 ∷ 0 ∷ 0 ∷ []) ≡ minus 6
+  -- 1,004 places, in a word too long: 7 comes before 8
+  pub places : signedAnswer (check fourStates (chain 251) work) ≡ minus 7
+  pub place-counts : map (λ n. placeCount fourStates (graphOf (chain n))) (1 ∷ 3 ∷ []) ≡ 4 ∷ 12 ∷ []
+  pub place-limit : map manyPlaces (1000 ∷ 1001 ∷ []) ≡ false ∷ true ∷ []
+  pub word-lengths : map (λ n. checkLexicon (chain n)) (32 ∷ 33 ∷ []) ≡ pos 1 ∷ minus 8 ∷ []
+  pub word-length-limit : map longWord (32 ∷ 33 ∷ []) ≡ false ∷ true ∷ []
+  pub word-counts : map (λ n. wordCount (graphOf (layers n))) (1 ∷ 2 ∷ 5 ∷ []) ≡ 2 ∷ 4 ∷ 32 ∷ []
+  pub word-count-limit : map manyWords (1048576 ∷ 1048577 ∷ []) ≡ false ∷ true ∷ []
+  -- a then n, twice, by other nodes that join again; a to sink, and a to n, by two nodes a
+  pub joined-again : signedAnswer (check voice (4 ∷ 0 ∷ 0 ∷ 0 ∷ 2 ∷ 3 ∷ 2 ∷ 0 ∷ 1 ∷ 0 ∷ 2 ∷ 0 ∷ 1 ∷ 0 ∷ 3 ∷ 0 ∷ 2 ∷ 0 ∷ 3 ∷ 0 ∷ 4 ∷ 0 ∷ 1 ∷ 0 ∷ 5 ∷ 0 ∷ 1 ∷ 0 ∷ 5 ∷ 0 ∷ 0 ∷ 0 ∷ []) work) ≡ minus 10
+  pub prefix-is-no-twin : signedAnswer (check voice (3 ∷ 0 ∷ 0 ∷ 0 ∷ 2 ∷ 2 ∷ 0 ∷ 1 ∷ 0 ∷ 2 ∷ 0 ∷ 1 ∷ 0 ∷ 4 ∷ 0 ∷ 1 ∷ 0 ∷ 3 ∷ 0 ∷ 1 ∷ 0 ∷ 4 ∷ 0 ∷ 0 ∷ 0 ∷ []) work) ≡ pos 2
+  -- the voice model is judged before the lexicon
+  pub voice-first : signedAnswer (check (A ++ 0 ∷ []) (0 ∷ 0 ∷ []) work) ≡ minus 2
+
+-- ---- scores
+
+pub record Scores : Type 0 where
+  -- in aa staying in a and passing from a to a are two moves
+  pub loop-or-link : hitsOf A wordsAA (0 ∷ 0 ∷ []) ≡ hit (minus 21) 0 ∷ hit (minus 25) 1 ∷ []
+  pub link-better : hitsOf (oneLetter 251 255 255 255 246 255) wordsAA (0 ∷ 0 ∷ 0 ∷ []) ≡ hit (minus 36) 1 ∷ hit (minus 40) 0 ∷ []
+  pub tied : hitsOf (oneLetter 251 255 251 255 0 0) wordsAA (0 ∷ 0 ∷ []) ≡ hit (minus 5) 0 ∷ hit (minus 5) 1 ∷ []
+  pub five-states-2 : hitsOf fiveStates fiveWords (0 ∷ 1 ∷ []) ≡ hit (minus 508) 0 ∷ []
+  pub five-states-3 : hitsOf fiveStates fiveWords (1 ∷ 0 ∷ 0 ∷ []) ≡ hit (minus 618) 0 ∷ hit (minus 2223) 3 ∷ []
+  pub five-states-5 : hitsOf fiveStates fiveWords (0 ∷ 0 ∷ 1 ∷ 1 ∷ 0 ∷ []) ≡ hit (minus 923) 0 ∷ hit (minus 2763) 4 ∷ hit (minus 2764) 1 ∷ hit (minus 3341) 3 ∷ []
+  -- -32,768 is impossible in emission, loop, link and step; -32,767 and a sum of -32,768 are not
+  pub impossible-emission : hitsOf (oneLetter 0 0 0 0 0 128) wordA (0 ∷ []) ∷ hitsOf (oneLetter 0 0 0 0 1 128) wordA (0 ∷ []) ∷ [] ≡ [] ∷ (hit (minus 32767) 0 ∷ []) ∷ []
+  pub impossible-loop : hitsOf (oneLetter 0 128 253 255 0 0) wordsAA (0 ∷ 0 ∷ []) ≡ hit (minus 3) 1 ∷ []
+  pub impossible-link : hitsOf (oneLetter 253 255 0 128 0 0) wordsAA (0 ∷ 0 ∷ []) ≡ hit (minus 3) 0 ∷ []
+  pub impossible-step : hitsOf (1 ∷ 97 ∷ 2 ∷ 2 ∷ 0 ∷ 0 ∷ 0 ∷ 0 ∷ 128 ∷ 0 ∷ 0 ∷ 0 ∷ 0 ∷ 1 ∷ 0 ∷ 0 ∷ 1 ∷ 0 ∷ 0 ∷ 0 ∷ 0 ∷ []) wordA (0 ∷ 0 ∷ []) ≡ []
+  pub sum-is-possible : hitsOf (oneLetter 0 0 0 0 0 192) wordA (0 ∷ 0 ∷ []) ≡ hit (minus 32768) 0 ∷ []
+
+-- ---- decoding: its bytes, its refusals
+
+pub record Decoding : Type 0 where
+  pub hit-bytes : decodeOut A wordsAA (0 ∷ 0 ∷ []) 3 work (replicate 25 7) ≡ 235 ∷ 255 ∷ 255 ∷ 255 ∷ 0 ∷ 0 ∷ 0 ∷ 0 ∷ 231 ∷ 255 ∷ 255 ∷ 255 ∷ 1 ∷ 0 ∷ 0 ∷ 0 ∷ replicate 9 7
+  pub large-score : decodeOut (oneLetter 255 127 0 0 255 127) wordA (0 ∷ 0 ∷ 0 ∷ []) 1 work (replicate 8 7) ≡ 251 ∷ 127 ∷ 2 ∷ 0 ∷ 0 ∷ 0 ∷ 0 ∷ 0 ∷ []
+  pub no-hits : decodeAnswer A wordsAA (0 ∷ []) 8 work (replicate 64 7) ∷ decodeAnswer fiveStates fiveWords (0 ∷ []) 8 work (replicate 64 7) ∷ [] ≡ value 1 ∷ value 0 ∷ []
+  pub refused-unwritten : decodeOut A wordA [] 1 work (replicate 9 7) ≡ replicate 9 7
+  pub frame-counts : map (λ T. signedAnswer (decodeAnswer A wordA (replicate T 0) 0 work [])) (0 ∷ 1 ∷ 1000 ∷ 1001 ∷ []) ≡ minus 11 ∷ minus 12 ∷ minus 12 ∷ minus 11 ∷ []
+  pub symbols : map (λ k. signedAnswer (decodeAnswer voice P (0 ∷ k ∷ []) 9 work [])) (3 ∷ 4 ∷ []) ≡ minus 12 ∷ minus 11 ∷ []
+  pub hit-counts : map (λ n. signedAnswer (decodeAnswer A wordA (0 ∷ []) n work [])) (0 ∷ 1 ∷ 8 ∷ 9 ∷ []) ≡ minus 12 ∷ minus 16 ∷ minus 16 ∷ minus 12 ∷ []
+  pub hit-room : map (λ m. signedAnswer (decodeAnswer A wordA (0 ∷ []) 2 work (replicate m 7))) (15 ∷ 16 ∷ []) ≡ minus 16 ∷ pos 1 ∷ []
+
+-- ---- words, codes and listing; width and mean; packing; successors
+
+pub record Codes : Type 0 where
+  pub no-words : map (λ w. signedAnswer (wordToCode voice P w work)) ([] ∷ (97 ∷ []) ∷ (it ++ 116 ∷ []) ∷ (0 ∷ 2 ∷ []) ∷ (110 ∷ 97 ∷ []) ∷ []) ≡ minus 13 ∷ minus 13 ∷ minus 13 ∷ minus 13 ∷ minus 13 ∷ []
+  pub code-limits : map (λ c. signedAnswer (codeToWordAnswer voice P c work [])) (0 ∷ 4 ∷ 5 ∷ 4294967295 ∷ []) ≡ minus 16 ∷ minus 16 ∷ minus 15 ∷ minus 15 ∷ []
+  pub code-room : map (λ m. signedAnswer (codeToWordAnswer voice P 4 work (replicate m 7))) (1 ∷ 2 ∷ []) ≡ minus 16 ∷ pos 2 ∷ []
+  pub list-bytes : listOut voice P work (replicate 15 7) ≡ 97 ∷ 110 ∷ 10 ∷ 97 ∷ 116 ∷ 10 ∷ 105 ∷ 10 ∷ 105 ∷ 110 ∷ 10 ∷ 105 ∷ 116 ∷ 10 ∷ 7 ∷ []
+  pub list-room : map (λ m. signedAnswer (listAnswer voice P work (replicate m 7))) (13 ∷ 14 ∷ []) ≡ minus 16 ∷ pos 14 ∷ []
+  -- width and mean
+  pub width-limits : map (λ W. signedAnswer (widthAnswer W)) (0 ∷ 2 ∷ 3 ∷ 16 ∷ 17 ∷ 1048576 ∷ 1048577 ∷ []) ≡ minus 9 ∷ pos 1 ∷ pos 2 ∷ pos 4 ∷ pos 5 ∷ pos 20 ∷ minus 9 ∷ []
+  pub means : meanAnswer (pos 7) 2 ∷ meanAnswer (minus 8) 2 ∷ meanAnswer (minus 1000) 1000 ∷ meanAnswer (minus 1001) 1000 ∷ [] ≡ value (pos 3) ∷ value (minus 4) ∷ value (minus 1) ∷ value (minus 2) ∷ []
+  pub mean-limits : map (λ T. meanAnswer (pos 0) T) (1 ∷ 1000 ∷ []) ≡ value (pos 0) ∷ value (pos 0) ∷ []
+  -- packing: highest bit first, zero bits at the end, a byte that holds parts of two codes
+  pub packs : packOut 5 (1 ∷ 2 ∷ 3 ∷ []) (7 ∷ 7 ∷ 7 ∷ []) ∷ packOut 1048576 (1048575 ∷ 1 ∷ []) (replicate 5 7) ∷ packOut 512 (1 ∷ 256 ∷ []) (7 ∷ 7 ∷ 7 ∷ []) ∷ [] ≡ (41 ∷ 128 ∷ 7 ∷ []) ∷ (255 ∷ 255 ∷ 240 ∷ 0 ∷ 1 ∷ []) ∷ (0 ∷ 192 ∷ 0 ∷ []) ∷ []
+  pub pack-answers : map (λ codes. signedAnswer (packAnswer 5 codes (7 ∷ 7 ∷ []))) ([] ∷ replicate 8 0 ∷ replicate 9 9 ∷ (0 ∷ 5 ∷ []) ∷ (0 ∷ 4 ∷ 0 ∷ []) ∷ []) ≡ minus 12 ∷ minus 16 ∷ minus 12 ∷ minus 15 ∷ pos 2 ∷ []
+  pub pack-word-counts : map (λ W. signedAnswer (packAnswer W (0 ∷ []) [])) (0 ∷ 1 ∷ 2 ∷ 1048577 ∷ []) ≡ minus 9 ∷ pos 0 ∷ minus 16 ∷ minus 9 ∷ []
+  pub unpacks : unpackOut 5 3 (41 ∷ 128 ∷ []) (replicate 13 7) ≡ 1 ∷ 0 ∷ 0 ∷ 0 ∷ 2 ∷ 0 ∷ 0 ∷ 0 ∷ 3 ∷ 0 ∷ 0 ∷ 0 ∷ 7 ∷ []
+  pub unpacks-wide : unpackOut 1048576 1 (255 ∷ 255 ∷ 240 ∷ []) (replicate 4 7) ≡ 255 ∷ 255 ∷ 15 ∷ 0 ∷ []
+  -- a padding bit, the wrong length, a code of 5 with padding, a code of 5 without room, no room
+  pub unpack-answers : map (λ bytes. signedAnswer (unpackAnswer 5 1 bytes (7 ∷ 7 ∷ 7 ∷ []))) ((129 ∷ []) ∷ [] ∷ (128 ∷ 0 ∷ []) ∷ (161 ∷ []) ∷ (160 ∷ []) ∷ (128 ∷ []) ∷ []) ≡ minus 14 ∷ minus 14 ∷ minus 14 ∷ minus 14 ∷ minus 15 ∷ minus 16 ∷ []
+  pub unpack-counts : map (λ n. signedAnswer (unpackAnswer 1 n [] (replicate 36 7))) (0 ∷ 1 ∷ 8 ∷ 9 ∷ []) ≡ minus 12 ∷ pos 1 ∷ pos 8 ∷ minus 12 ∷ []
+  pub unpack-one-word : signedAnswer (unpackAnswer 1 1 (0 ∷ []) (replicate 4 7)) ≡ minus 14
+  -- successors: any bytes, any vertex
+  pub parts : map (successorPart P) (0 ∷ 2 ∷ 4 ∷ 5 ∷ 65536 ∷ []) ≡ (1 ∷ 0 ∷ 2 ∷ 0 ∷ []) ∷ (5 ∷ 0 ∷ 3 ∷ 0 ∷ 4 ∷ 0 ∷ []) ∷ (5 ∷ 0 ∷ []) ∷ [] ∷ [] ∷ []
+  pub parts-cut : map (λ n. successorPart (take n P) 2) (25 ∷ 26 ∷ []) ≡ [] ∷ (5 ∷ 0 ∷ 3 ∷ 0 ∷ 4 ∷ 0 ∷ []) ∷ []
+  pub parts-unread : successorPart [] 0 ∷ successorPart (0 ∷ 0 ∷ 1 ∷ 0 ∷ 9 ∷ 9 ∷ []) 0 ∷ [] ≡ [] ∷ (9 ∷ 9 ∷ []) ∷ []
+
+-- ---- the program: input cut in a length, in an image, before n, before the frames
+
+pub record Program : Type 0 where
+  pub reports-cut : map (λ n. report (take n thirdRow)) (0 ∷ 1 ∷ 64 ∷ 66 ∷ 102 ∷ 103 ∷ 104 ∷ []) ≡ refusedLine (50 ∷ []) ∷ refusedLine (50 ∷ []) ∷ refusedLine (50 ∷ []) ∷ refusedLine (52 ∷ []) ∷ refusedLine (52 ∷ []) ∷ refusedLine (49 ∷ 49 ∷ []) ∷ refusedLine (49 ∷ 49 ∷ []) ∷ []

@@ -1,0 +1,61 @@
+-- What acceptance says: each of the rows 2 to 10 does not apply, so both images are well formed, every letter is known, and no two full paths
+-- have the same letters. Assumes nothing.
+use Prim.Native.Nat.{ℕ}
+use mathlib.Core.Path.{_≡_, refl}
+use mathlib.Core.Bool.{false, true≢false}
+use mathlib.Core.List.{List, Memᴰ·of-map}
+use borrow.Author.Tests.{ltb-true, leb-true}
+use lib.Dec.{ltb, leb}
+use Rattle.endian.specs.Lists.{select}
+use Rattle.endian.proofs.Booleans.{and-out}
+use Rattle.endian.proofs.Lists.{select-out}
+use Rattle.call.proofs.Table.{clear-says}
+use Rattle.voice.specs.Fields.{Verdict, wellFormed, wrongLength, outOfRange, hasWrongLength, isOutOfRange}
+use Rattle.voice.specs.Voice.{letterCount, voiceVerdict, voiceRows}
+use Rattle.lexicon.specs.Lexicon.{lexiconVerdict, nodeCount}
+use Rattle.lexicon.proofs.WellFormed.{letter-known}
+use Rattle.graph.specs.Graph.{Graph, graphOf, isNode, pathLetters, wordCount}
+use Rattle.graph.specs.Conditions.{orphan, placeCount, manyPlaces, hasLongWord, manyWords, sameLetters}
+use Rattle.graph.specs.Checking.{lexiconRows, imageRows, Accepted}
+use Rattle.graph.proofs.Spelling.{Known}
+
+-- neither of the two rows of a verdict applies
+verdict-clear : (w : Verdict) → hasWrongLength w ≡ false → isOutOfRange w ≡ false → w ≡ wellFormed
+unfolding hasWrongLength isOutOfRange
+verdict-clear wellFormed h k = refl
+verdict-clear wrongLength h k = absurd (true≢false h)
+verdict-clear outOfRange h k = absurd (true≢false k)
+
+pub record AcceptedImages (v x : List ℕ) : Type 0 where
+  pub voice : voiceVerdict v ≡ wellFormed
+  pub lexicon : lexiconVerdict (letterCount v) x ≡ wellFormed
+  pub all-reached : orphan (graphOf x) ≡ false
+  pub few-places : manyPlaces (placeCount v (graphOf x)) ≡ false
+  pub short-words : hasLongWord (graphOf x) ≡ false
+  pub few-words : manyWords (wordCount (graphOf x)) ≡ false
+  pub other-letters : sameLetters (graphOf x) ≡ false
+
+pub accepted : {v x : List ℕ} → Accepted v x → AcceptedImages v x
+unfolding imageRows voiceRows lexiconRows
+accepted {v} {x} h =
+    let u = clear-says (imageRows v x) h in
+    let l = u .1 .1 in
+    let g = l .1 .1 in
+    record {
+      voice = verdict-clear (voiceVerdict v) (u .0) (u .1 .0);
+      lexicon = verdict-clear (lexiconVerdict (letterCount v) x) (l .0) (l .1 .0);
+      all-reached = g .0;
+      few-places = g .1 .0;
+      short-words = g .1 .1 .0;
+      few-words = g .1 .1 .1 .0;
+      other-letters = g .1 .1 .1 .1 .0;
+    }
+
+-- the letters on a path are letters of the model
+pub letters-known : {v x : List ℕ} → AcceptedImages v x → (p : List ℕ) → Known v (pathLetters (graphOf x) p)
+unfolding pathLetters isNode
+letters-known {v} {x} ok p l m =
+    let g = graphOf x in
+    let u = Memᴰ·of-map (g .letter) (select (isNode g) p) m in
+    let s = and-out (ltb 0 (u .0)) (leb (u .0) (nodeCount x)) (select-out (isNode g) p (u .1) .1) in
+    rw (← u .2) (letter-known (letterCount v) x (ok .lexicon) (u .0) (ltb-true 0 (u .0) (s .0)) (leb-true (u .0) (nodeCount x) (s .1)))

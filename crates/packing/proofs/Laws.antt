@@ -1,0 +1,7 @@
+pub mod Width
+pub mod Stretches
+pub mod Search
+pub mod Bits
+pub mod Chunks
+pub mod Packing
+pub mod Calls

@@ -1,0 +1,4 @@
+pub mod Width
+pub mod Packing
+pub mod Places
+pub mod Theorems
