@@ -103,7 +103,7 @@ fn has_bad_code(words: u32, codes: &[u32]) -> bool
 fn judge_pack(words: u32, codes: &[u32], out: &[u8]) -> Answer
     ensures { λ r. ⌜ answerOf r ≡ packAnswer words (now (codes .entry)) (now (out .entry)) ⌝ }
 {
-    if outside(words as usize, 1, WORDS as usize) {
+    if outside(words as usize, 1, WORDS) {
         return Answer::Refused(Refusal::WordCount);
     }
     if outside(codes.len(), 1, CODES) {
@@ -198,7 +198,7 @@ fn judge_unpack(words: u32, n: u32, packed: &[u8], out: &[u8]) -> Answer
     ensures { λ r. ⌜ answerOf r ≡ unpackAnswer words n (now (packed .entry)) (now (out .entry)) ⌝ }
 {
     let count = n as usize;
-    if outside(words as usize, 1, WORDS as usize) {
+    if outside(words as usize, 1, WORDS) {
         return Answer::Refused(Refusal::WordCount);
     }
     if outside(count, 1, CODES) {

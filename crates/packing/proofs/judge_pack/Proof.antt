@@ -17,6 +17,10 @@ use Rattle.packing.proofs.Laws.Calls.{inside}
 use Rattle.packing.proofs.judge_pack.Statement.{statement}
 use Rattle.packing.proofs.judge_pack.Tie as tie
 
+returns : tie.Need-returns
+unfolding packAnswer packRows givenRows unless badWordCount
+returns c = rw (sym (c .before .outside .ensures) ∙ c .if1 .taken)
+
 -- the rows that were passed
 
 words-good : (c : tie.Else1) → badWordCount (c .before .before .before .before .args .words) ≡ false
@@ -46,10 +50,6 @@ size-is : (c : tie.After-packed-size) →
     c .packed-size .result ≡ packedSize (width (a .words)) (length (a .codes .now))
 size-is c = let e = c .before .width-of .ensures in rw (c .packed-size .ensures, e)
 
-returns : tie.Need-returns
-unfolding packAnswer packRows givenRows unless badWordCount
-returns c = rw (sym (c .before .outside .ensures) ∙ c .if1 .taken)
-
 returns-2 : tie.Need-returns-2
 unfolding packAnswer packRows givenRows unless badCount
 returns-2 c = rw (words-good (c .before .before), sym (c .before .outside2 .ensures) ∙ c .if2 .taken)
@@ -68,9 +68,9 @@ returns-4 c =
     let d = c .before .before .before in
     rw (words-good (d .before .before .before .before), count-good (d .before .before), codes-good d, ← size-is (c .before), lt-ltb _ _ (c .if4 .taken))
 
-cast-t13 : tie.Need-cast-t13
+cast-t12 : tie.Need-cast-t12
 unfolding packedSize
-cast-t13 c =
+cast-t12 c =
     let h = small (c .before .before) in
     omega (arith, mul-le-mul (h .few) (h .short), c .before .packed-size .ensures)
 
@@ -93,5 +93,5 @@ judge-pack-spec =
     width-of-requires
     (λ c κs. small c)
     returns-4
-    cast-t13
+    cast-t12
     returns-5)

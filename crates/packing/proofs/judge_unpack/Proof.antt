@@ -16,6 +16,10 @@ use Rattle.packing.proofs.Laws.Calls.{inside, good-packed}
 use Rattle.packing.proofs.judge_unpack.Statement.{statement}
 use Rattle.packing.proofs.judge_unpack.Tie as tie
 
+returns : tie.Need-returns
+unfolding unpackAnswer unpackRows givenRows unless badWordCount
+returns c = rw (sym (c .before .outside .ensures) ∙ c .if1 .taken)
+
 -- the rows that were passed
 
 words-good : (c : tie.Else1) → badWordCount (c .before .before .before .before .args .words) ≡ false
@@ -44,10 +48,6 @@ codes-good : (c : tie.Else4) →
     let a = c .before .before .before .before .before .before .before .before .before .before .before .args in
     any (badCode (a .words)) (unpacked (width (a .words)) (a .n) (a .packed .now)) ≡ false
 codes-good c = let e = c .before .before .before .before .width-of .ensures in rw (← e) (sym (c .before .has-bad-unpacked .ensures) ∙ c .if4 .left)
-
-returns : tie.Need-returns
-unfolding unpackAnswer unpackRows givenRows unless badWordCount
-returns c = rw (sym (c .before .outside .ensures) ∙ c .if1 .taken)
 
 returns-2 : tie.Need-returns-2
 unfolding unpackAnswer unpackRows givenRows unless badCount

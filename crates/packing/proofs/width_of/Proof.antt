@@ -13,7 +13,7 @@ returns : tie.Need-returns
 returns c = rw (c .if1 .taken) (sym width-one)
 
 sub-result-2 : tie.Need-sub-result-2
-sub-result-2 c = leading-le 32 (c .before .args .words - 1)
+sub-result-2 c = leading-le 32 _
 
 returns-2 : tie.Need-returns-2
 returns-2 c =

@@ -69,7 +69,7 @@ cast-t10 c = let s = c .before .before .before in rw (positive c) (tt, record { 
 cast-t12 : tie.Need-cast-t12
 cast-t12 c =
     let s = c .before .before .before in
-    rw (positive c) (record { sfits = small (mag (s .args .score)) (s .args .frames) (s .fits .score .sfits) })
+    rw (positive c) (record { sfits = small (mag (s .args .score)) _ (s .fits .score .sfits) })
 
 returns-4 : tie.Need-returns-4
 unfolding meanAnswer badLength unless mean floorQuotient
