@@ -1,9 +1,9 @@
 -- Every definition of this crate's specs/, open: a computed example names `everything` on its `unfolding` line in place of them all.
 -- Assumes nothing.
-use Rattle.call.specs.Table.{numbers, clear, unless}
-use Rattle.call.specs.Limits.{badLength, badCount, badCode}
+use Rattle.call.specs.Table.{numbers, noneApplies, unless}
+use Rattle.call.specs.Limits.{badFrameCount, badCount, badCode}
 use Rattle.call.specs.Buffers.{spaceRows, zeroed, cleared, written}
 
 unfoldable pub everything : Unit {0}
-unfolding numbers clear unless badLength badCount badCode spaceRows zeroed cleared written
+unfolding numbers noneApplies unless badFrameCount badCount badCode spaceRows zeroed cleared written
 everything = tt

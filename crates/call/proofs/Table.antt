@@ -9,83 +9,83 @@ use borrow.Author.Tests.{not-true}
 use Rattle.endian.specs.Lists.{all}
 use Rattle.endian.proofs.Booleans.{and-in, and-out}
 use Rattle.call.specs.declared.Refusal.{Refusal}
-use Rattle.call.specs.Table.{Answer, value, refused, Row, on, clear, unless}
+use Rattle.call.specs.Table.{Answer, value, refused, Row, on, noneApplies, unless}
 
-clear-append : (rows more : List Row) → clear (rows ++ more) ≡ clear rows && clear more
-unfolding clear all
-clear-append [] more = refl
-clear-append (r ∷ rows) more = go (not (r .applies)) (clear-append rows more)
+none-append : (rows more : List Row) → noneApplies (rows ++ more) ≡ noneApplies rows && noneApplies more
+unfolding noneApplies all
+none-append [] more = refl
+none-append (r ∷ rows) more = go (not (r .applies)) (none-append rows more)
   where
-    go : (b : Bool) → clear (rows ++ more) ≡ clear rows && clear more → b && clear (rows ++ more) ≡ b && clear rows && clear more
+    go : (b : Bool) → noneApplies (rows ++ more) ≡ noneApplies rows && noneApplies more → b && noneApplies (rows ++ more) ≡ b && noneApplies rows && noneApplies more
     go true h = h
     go false h = refl
 
-pub clear-join : (rows more : List Row) → clear rows ≡ true → clear more ≡ true → clear (rows ++ more) ≡ true
-clear-join rows more h k = clear-append rows more ∙ and-in h k
+pub none-join : (rows more : List Row) → noneApplies rows ≡ true → noneApplies more ≡ true → noneApplies (rows ++ more) ≡ true
+none-join rows more h k = none-append rows more ∙ and-in h k
 
 -- each row, one after the other, does not apply
-abbrev pub NoneApplies : List Row → Type 0
-NoneApplies [] = Unit {0}
-NoneApplies (r ∷ rows) = (r .applies ≡ false) × NoneApplies rows
+abbrev pub EachPassed : List Row → Type 0
+EachPassed [] = Unit {0}
+EachPassed (r ∷ rows) = (r .applies ≡ false) × EachPassed rows
 
-pub clear-says : (rows : List Row) → clear rows ≡ true → NoneApplies rows
-unfolding clear all
-clear-says [] h = tt
-clear-says (r ∷ rows) h = let u = and-out (not (r .applies)) (clear rows) h in (not-true (r .applies) (u .0), clear-says rows (u .1))
+pub none-says : (rows : List Row) → noneApplies rows ≡ true → EachPassed rows
+unfolding noneApplies all
+none-says [] h = tt
+none-says (r ∷ rows) h = let u = and-out (not (r .applies)) (noneApplies rows) h in (not-true (r .applies) (u .0), none-says rows (u .1))
 
-pub none-clear : (rows : List Row) → NoneApplies rows → clear rows ≡ true
-unfolding clear all
-none-clear [] u = refl
-none-clear (r ∷ rows) u = rw (u .0) (none-clear rows (u .1))
+pub passed-none : (rows : List Row) → EachPassed rows → noneApplies rows ≡ true
+unfolding noneApplies all
+passed-none [] u = refl
+passed-none (r ∷ rows) u = rw (u .0) (passed-none rows (u .1))
 
 -- a row of this refusal applies, and none before it does
 pub record FirstApplies (rows : List Row) (r : Refusal) : Type 0 where
   pub earlier : List Row
   pub later : List Row
   pub split : rows ≡ earlier ++ on r true ∷ later
-  pub none-before : clear earlier ≡ true
+  pub none-before : noneApplies earlier ≡ true
 
 module _ {A : Type 0} where
   -- rows that do not apply are passed over
-  pub unless-past : (rows more : List Row) (a : A) → clear rows ≡ true → unless (rows ++ more) a ≡ unless more a
-  unfolding clear all unless
+  pub unless-past : (rows more : List Row) (a : A) → noneApplies rows ≡ true → unless (rows ++ more) a ≡ unless more a
+  unfolding noneApplies all unless
   unless-past [] more a h = refl
   unless-past (r ∷ rows) more a h = go (r .applies) refl h (unless-past rows more a)
     where
-      go : (b : Bool) → r .applies ≡ b → not b && clear rows ≡ true → (clear rows ≡ true → unless (rows ++ more) a ≡ unless more a) → unless ((r ∷ rows) ++ more) a ≡ unless more a
+      go : (b : Bool) → r .applies ≡ b → not b && noneApplies rows ≡ true → (noneApplies rows ≡ true → unless (rows ++ more) a ≡ unless more a) → unless ((r ∷ rows) ++ more) a ≡ unless more a
       go true e h ih = absurd (false≢true h)
       go false e h ih = rw e (ih h)
 
   -- the value, where no row applies
-  pub unless-value : (rows : List Row) (a : A) → clear rows ≡ true → unless rows a ≡ value a
-  unfolding clear all unless
+  pub unless-value : (rows : List Row) (a : A) → noneApplies rows ≡ true → unless rows a ≡ value a
+  unfolding noneApplies all unless
   unless-value [] a h = refl
   unless-value (r ∷ rows) a h = go (r .applies) refl h (unless-value rows a)
     where
-      go : (b : Bool) → r .applies ≡ b → not b && clear rows ≡ true → (clear rows ≡ true → unless rows a ≡ value a) → unless (r ∷ rows) a ≡ value a
+      go : (b : Bool) → r .applies ≡ b → not b && noneApplies rows ≡ true → (noneApplies rows ≡ true → unless rows a ≡ value a) → unless (r ∷ rows) a ≡ value a
       go true e h ih = absurd (false≢true h)
       go false e h ih = rw e (ih h)
 
   -- the first row that applies
-  pub unless-first : (rows : List Row) (r : Refusal) (more : List Row) (a : A) → clear rows ≡ true → unless (rows ++ on r true ∷ more) a ≡ refused r
+  pub unless-first : (rows : List Row) (r : Refusal) (more : List Row) (a : A) → noneApplies rows ≡ true → unless (rows ++ on r true ∷ more) a ≡ refused r
   unless-first rows r more a h = unless-past rows (on r true ∷ more) a h ∙ (unfold unless in refl)
 
   -- a value shows that no row applies, and that it is the call's
-  pub value-clear : (rows : List Row) (a b : A) → unless rows a ≡ value b → (clear rows ≡ true) × (a ≡ b)
-  unfolding clear all unless
-  value-clear [] a b h = (refl, same h)
+  pub value-passed : (rows : List Row) (a b : A) → unless rows a ≡ value b → (noneApplies rows ≡ true) × (a ≡ b)
+  unfolding noneApplies all unless
+  value-passed [] a b h = (refl, same h)
     where
       same : value a ≡ value b → a ≡ b
       same h = cc
-  value-clear (r ∷ rows) a b h = go (r .applies) refl h (value-clear rows a b)
+  value-passed (r ∷ rows) a b h = go (r .applies) refl h (value-passed rows a b)
     where
-      go : (t : Bool) → r .applies ≡ t → unless (r ∷ rows) a ≡ value b → (unless rows a ≡ value b → (clear rows ≡ true) × (a ≡ b)) → (clear (r ∷ rows) ≡ true) × (a ≡ b)
+      go : (t : Bool) → r .applies ≡ t → unless (r ∷ rows) a ≡ value b → (unless rows a ≡ value b → (noneApplies rows ≡ true) × (a ≡ b)) → (noneApplies (r ∷ rows) ≡ true) × (a ≡ b)
       go true e h ih = let k : refused (r .refusal) ≡ value b = rw e at h in let z : _≡_ {A = ℕ} 0 1 = cc in absurd (omega arith)
       go false e h ih = rw e (ih (rw e at h))
 
   -- a refusal shows its row
   pub refused-first : (rows : List Row) (a : A) (r : Refusal) → unless rows a ≡ refused r → FirstApplies rows r
-  unfolding clear all unless
+  unfolding noneApplies all unless
   refused-first [] a r h = let z : _≡_ {A = ℕ} 0 1 = cc in absurd (omega arith)
   refused-first (q ∷ rows) a r h = go (q .applies) refl h (refused-first rows a r)
     where

@@ -1,15 +1,17 @@
--- What a call leaves in the buffers that it is lent (document 01, under the refusal table). Assumes nothing.
+-- What a call leaves in the buffers that it is lent (document 01, under the refusal table). The work space is the call's scratch memory.
+-- Assumes nothing.
 use Prim.Native.Nat.{ℕ}
-use mathlib.Core.Bool.{Bool, cond}
+use mathlib.Core.Bool.{cond}
 use mathlib.Core.List.{List, [], _∷_, _++_}
 use lib.ListN.{length, drop, replicate}
 use lib.Dec.{ltb}
 use Rattle.call.specs.declared.Refusal.the-variants.{WorkSpace}
+use Rattle.call.specs.Limits.{workSpace}
 use Rattle.call.specs.Table.{Answer, value, refused, Row, on}
 
 -- 1: work space under 64,000 bytes, in any call with a lexicon
 unfoldable pub spaceRows : List ℕ → List Row
-spaceRows work = on WorkSpace (ltb (length work) 64000) ∷ []
+spaceRows work = on WorkSpace (ltb (length work) workSpace) ∷ []
 
 -- the first n bytes are zero and later ones unchanged
 unfoldable pub zeroed : ℕ → List ℕ → List ℕ
@@ -17,7 +19,7 @@ zeroed n b = replicate n 0 ++ drop n b
 
 -- After a call that refusal 1 does not end, the first 64,000 work bytes are zero and later ones unchanged; refusal 1 leaves all as it was.
 unfoldable pub cleared : List ℕ → List ℕ
-cleared work = cond (ltb (length work) 64000) work (zeroed 64000 work)
+cleared work = cond (ltb (length work) workSpace) work (zeroed workSpace work)
 
 module _ {A : Type 0} where
   -- a value comes with its bytes at the output's start, and the bytes after them keep their values; a refusal leaves the output unchanged

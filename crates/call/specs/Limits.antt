@@ -4,9 +4,16 @@ use mathlib.Core.Bool.{Bool, not}
 use lib.Dec.{leb}
 use Rattle.endian.specs.Lists.{within}
 
+-- the least work space of a call with a lexicon, and the most words of a lexicon
+abbrev pub workSpace : ℕ
+workSpace = 64000
+
+abbrev pub mostWords : ℕ
+mostWords = 1048576
+
 -- 11: T 0 or above 1,000
-unfoldable pub badLength : ℕ → Bool
-badLength T = not (within 1 1000 T)
+unfoldable pub badFrameCount : ℕ → Bool
+badFrameCount T = not (within 1 1000 T)
 
 -- 12: n, or the number of codes to pack or unpack, not 1 to 8
 unfoldable pub badCount : ℕ → Bool

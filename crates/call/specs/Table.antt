@@ -56,8 +56,8 @@ unfoldable pub numbers : List Row → List ℕ
 numbers rows = map (λ r. number (r .refusal)) rows
 
 -- no row applies
-unfoldable pub clear : List Row → Bool
-clear rows = all (λ r. not (r .applies)) rows
+unfoldable pub noneApplies : List Row → Bool
+noneApplies rows = all (λ r. not (r .applies)) rows
 
 module _ {A : Type 0} where
   -- the first row that applies decides, in the order in which a call's rows are written; where none does, the answer is the value

@@ -4,7 +4,7 @@ ghost use lib.ListN.{length, replicate};
 ghost use Rattle.call.specs.Table.{number};
 ghost use Rattle.call.specs.Buffers.{cleared};
 
-// The work space that every call with a lexicon is lent, at least.
+// The least work space of a call with a lexicon; refusal 1 below it.
 pub const WORK_SPACE: usize = 64000;
 
 // The refusals, in the order of the table of document 01.

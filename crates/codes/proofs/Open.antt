@@ -1,7 +1,7 @@
 -- Every definition of this crate's specs/, open: a computed example names `everything` on its `unfolding` line in place of them all.
 -- Assumes nothing.
-use Rattle.codes.specs.Lookup.{wordToCodeRows, wordToCode, codeToWordRows, codeToWordAnswer, codeToWordOut, listing, listRows, listAnswer, listOut}
+use Rattle.codes.specs.Lookup.{wordToCodeRows, wordToCodeAnswer, codeToWordRows, codeToWordAnswer, codeToWordOut, listing, listRows, listAnswer, listOut}
 
 unfoldable pub everything : Unit {0}
-unfolding wordToCodeRows wordToCode codeToWordRows codeToWordAnswer codeToWordOut listing listRows listAnswer listOut
+unfolding wordToCodeRows wordToCodeAnswer codeToWordRows codeToWordAnswer codeToWordOut listing listRows listAnswer listOut
 everything = tt

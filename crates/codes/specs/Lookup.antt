@@ -17,8 +17,8 @@ use Rattle.graph.specs.Checking.{firstRows}
 unfoldable pub wordToCodeRows : List ℕ → List ℕ → List ℕ → List ℕ → List Row
 wordToCodeRows v x word work = firstRows v x work ++ on NoWord (isNone (pathOfWord v (graphOf x) word)) ∷ []
 
-unfoldable pub wordToCode : List ℕ → List ℕ → List ℕ → List ℕ → Answer ℕ
-wordToCode v x word work = unless (wordToCodeRows v x word work) (codeOf (graphOf x) (pathOfWord v (graphOf x) word))
+unfoldable pub wordToCodeAnswer : List ℕ → List ℕ → List ℕ → List ℕ → Answer ℕ
+wordToCodeAnswer v x word work = unless (wordToCodeRows v x word work) (codeOf (graphOf x) (pathOfWord v (graphOf x) word))
 
 abbrev pub wordToCodeWork : List ℕ → List ℕ → List ℕ → List ℕ → List ℕ
 wordToCodeWork v x word work = cleared work

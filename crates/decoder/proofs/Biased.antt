@@ -45,8 +45,8 @@ biased-sum s b z h e =
     sub-same (s - 32768 + b) 134217728 (s + b) (134217728 + 32768) (omega arith)
     ∙ sym (sub-add s 134217728 b 32768) ∙ ap (λ (y : ℤ). subℕ s 134217728 +ℤ y) e
 
-pub biased-is : (b : ℕ) (z : ℤ) → subℕ b 32768 ≡ z → subℕ (134184960 + b) 134217728 ≡ z
-biased-is b z e = sub-same (134184960 + b) 134217728 b 32768 (omega arith) ∙ e
+pub biased-is : (b : ℕ) (z : ℤ) → subℕ b 32768 ≡ z → subℕ (134217728 - 32768 + b) 134217728 ≡ z
+biased-is b z e = sub-same (134217728 - 32768 + b) 134217728 b 32768 (omega arith) ∙ e
 
 -- the bits of -32,768 are 32,768, and no other i16 has them
 pub not-possible : (z : ℤ) → SFits w16 z → ofZ w16 z ≡ 32768 → possible z ≡ none

@@ -7,9 +7,9 @@ use borrow.Author.Tests.{le-ltb}
 use lib.Dec.{ltb}
 use lib.ListN.{length}
 use Rattle.endian.proofs.Ranges.{inside}
-use Rattle.call.specs.Table.{on, numbers, clear}
+use Rattle.call.specs.Table.{on, numbers, noneApplies}
 use Rattle.call.specs.Buffers.{spaceRows}
-use Rattle.call.proofs.Table.{clear-join, none-clear, unless-value}
+use Rattle.call.proofs.Table.{none-join, passed-none, unless-value}
 use Rattle.call.specs.declared.Refusal.the-variants.{Count, Output}
 use Rattle.voice.specs.Voice.{voiceRows}
 use Rattle.graph.specs.Graph.{graphOf, pathLetters}
@@ -35,11 +35,11 @@ score-theorems v x frames path h =
 -- ---- decoding answers a value
 
 room : (n : ℕ) (work out : List ℕ) → 1 ≤ n → n ≤ 8 → 64000 ≤ length work → 8 * n ≤ length out
-    → (clear (spaceRows work) ≡ true) × (clear (on Count (badCount n) ∷ on Output (ltb (length out) (8 * n)) ∷ []) ≡ true)
+    → (noneApplies (spaceRows work) ≡ true) × (noneApplies (on Count (badCount n) ∷ on Output (ltb (length out) (8 * n)) ∷ []) ≡ true)
 unfolding spaceRows badCount
 room n work out low high space fits = (
-  none-clear _ (le-ltb (length work) 64000 space, tt),
-  none-clear _ (rw (inside 1 8 n low high), (le-ltb (length out) (8 * n) fits, tt)),
+  passed-none _ (le-ltb (length work) 64000 space, tt),
+  passed-none _ (rw (inside 1 8 n low high), (le-ltb (length out) (8 * n) fits, tt)),
 )
 
 pub accepted-decodes : AcceptedDecodes
@@ -47,8 +47,8 @@ unfolding decodeAnswer decodeRows firstRows
 accepted-decodes v x frames work out n images heard low high space fits =
     let r = room n work out low high space fits in
     unless-value (decodeRows v x frames n work out) (length (hits v (graphOf x) frames n))
-    (clear-join (firstRows v x work ++ frameRows v frames) (on Count (badCount n) ∷ on Output (ltb (length out) (8 * n)) ∷ [])
-    (clear-join (firstRows v x work) (frameRows v frames) (clear-join (spaceRows work) (imageRows v x) (r .0) images) heard)
+    (none-join (firstRows v x work ++ frameRows v frames) (on Count (badCount n) ∷ on Output (ltb (length out) (8 * n)) ∷ [])
+    (none-join (firstRows v x work) (frameRows v frames) (none-join (spaceRows work) (imageRows v x) (r .0) images) heard)
     (r .1))
 
 -- its rows, in order: 1 to 12, and 16

@@ -1,7 +1,7 @@
 -- The row of hits, the list, and the call decode (document 01, State paths and hits; Refusal table). Assumes nothing.
 use Prim.Native.Nat.{ℕ, _*_}
 use mathlib.Core.Path.{_≡_}
-use mathlib.Core.Bool.{Bool, true, _||_}
+use mathlib.Core.Bool.{true, _||_}
 use mathlib.Core.List.{List, [], _∷_, _++_, flatMap}
 use mathlib.Core.Option.{Option, none, some}
 use lib.IntN.{ℤ}
@@ -9,8 +9,8 @@ use lib.ListN.{length, take}
 use lib.Dec.{leb, ltb}
 use Rattle.endian.specs.Lists.{any}
 use Rattle.call.specs.declared.Refusal.the-variants.{Frames, Count, Output}
-use Rattle.call.specs.Table.{Answer, Row, on, clear, unless}
-use Rattle.call.specs.Limits.{badLength, badCount}
+use Rattle.call.specs.Table.{Answer, Row, on, noneApplies, unless}
+use Rattle.call.specs.Limits.{badFrameCount, badCount}
 use Rattle.call.specs.Buffers.{cleared, written}
 use Rattle.voice.specs.Voice.{symbolCount}
 use Rattle.graph.specs.Graph.{Graph, graphOf, fullPaths, pathCode, pathLetters}
@@ -31,7 +31,7 @@ scored code (some s) = hit s code ∷ []
 unfoldable pub row : List ℕ → Graph → List ℕ → List Hit
 row v g frames = ranked (flatMap (λ p. scored (pathCode g p) (pathScore v g p frames)) (fullPaths g))
 
--- the first n of that row, or all of it if it is shorter
+-- the first n of that row, or all of it if it is shorter (in the literature: the n-best list)
 unfoldable pub hits : List ℕ → Graph → List ℕ → ℕ → List Hit
 hits v g frames n = take n (row v g frames)
 
@@ -39,11 +39,11 @@ hits v g frames n = take n (row v g frames)
 
 -- 11: T 0 or above 1,000, or a symbol not below K
 unfoldable pub frameRows : List ℕ → List ℕ → List Row
-frameRows v frames = on Frames (badLength (length frames) || any (λ k. leb (symbolCount v) k) frames) ∷ []
+frameRows v frames = on Frames (badFrameCount (length frames) || any (λ k. leb (symbolCount v) k) frames) ∷ []
 
 -- frames are accepted if 11 doesn't apply
 abbrev pub AcceptedFrames : List ℕ → List ℕ → Type 0
-AcceptedFrames v frames = clear (frameRows v frames) ≡ true
+AcceptedFrames v frames = noneApplies (frameRows v frames) ≡ true
 
 -- 1 to 12, and 16
 unfoldable pub decodeRows : List ℕ → List ℕ → List ℕ → ℕ → List ℕ → List ℕ → List Row

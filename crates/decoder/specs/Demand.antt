@@ -61,7 +61,7 @@ module _ (v : List ℕ) (g : Graph) (frames : List ℕ) where
     pub listed-some : 0 < length hs
     pub behind : hitAt hs (length hs - 1) ≻ hit score code
 
-  -- n is at least 1 wherever decoding answers
+  -- demand 3, of the list hs that decoding leaves for n; n is at least 1 there, by 12
   pub record Demand3 (n : ℕ) (hs : List Hit) : Type 0 where
     -- listed words are lexicon words and carry their true scores
     pub listed : (h : Hit) → List·Memᴰ h hs → (word : List ℕ) × Names h word × LexiconWord v g word × IsTrueScore word (h .score)

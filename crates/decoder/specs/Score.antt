@@ -1,6 +1,6 @@
 -- What the number of a score type stands for (document 01, State paths and hits: the sentinel for 'no token' and the limits belong to the
 -- score type itself). Assumes nothing.
-use Prim.Native.Nat.{ℕ, _<_, _≤_}
+use Prim.Native.Nat.{_<_}
 use mathlib.Core.Bool.{Bool, true, false, cond}
 use mathlib.Core.Option.{Option, none, some}
 use lib.Dec.{eqb}
@@ -30,7 +30,7 @@ isHigher none b = false
 isHigher (some a) none = true
 isHigher (some a) (some b) = ltZ b a
 
--- a score from which one stored score can be added or taken without leaving the range of numbers
+-- a score to which one stored score can be added within u32; the upper bound is 2^32 - 2^16, with room to spare
 pub record Roomy (s : Score) : Type 0 where
   pub low : 0 < s .0 → 32768 < s .0
   pub high : s .0 < 4294901760

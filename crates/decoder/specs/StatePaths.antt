@@ -1,5 +1,5 @@
 -- State paths of a word over frames, as document 01 says them, their scores, and when they are permitted (State paths and hits). The word is
--- given by its letter indexes. The field calls a state path an alignment. Assumes nothing.
+-- given by its letter indexes. In the literature: frames are an observation sequence, and a state path is an alignment. Assumes nothing.
 use Prim.Native.Nat.{ℕ, suc, _+_, _-_, _<_}
 use mathlib.Core.Path.{_≡_}
 use mathlib.Core.Bool.{Bool, true, cond, not}

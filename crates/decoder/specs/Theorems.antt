@@ -8,8 +8,9 @@ use mathlib.Core.Option.{none, some}
 use lib.IntN.{ℤ, natAbs}
 use lib.Signed.{_≤ℤ_}
 use lib.ListN.{length}
+use Rattle.call.specs.Limits.{workSpace}
 use Rattle.call.specs.Table.{value}
-use Rattle.graph.specs.Graph.{Graph, graphOf, pathLetters}
+use Rattle.graph.specs.Graph.{graphOf}
 use Rattle.graph.specs.Checking.{Accepted}
 use Rattle.decoder.specs.StatePaths.{Attains, scoreLimit}
 use Rattle.decoder.specs.TrueScore.{trueScore}
@@ -27,5 +28,5 @@ pub record ScoreTheorems (v letters frames : List ℕ) : Type 0 where
 -- only the listed conditions refuse: accepted images and frames, n from 1 to 8, room and work space give a value
 abbrev pub AcceptedDecodes : Type 0
 AcceptedDecodes =
-    (v x frames work out : List ℕ) (n : ℕ) → Accepted v x → AcceptedFrames v frames → 1 ≤ n → n ≤ 8 → 64000 ≤ length work → 8 * n ≤ length out
+    (v x frames work out : List ℕ) (n : ℕ) → Accepted v x → AcceptedFrames v frames → 1 ≤ n → n ≤ 8 → workSpace ≤ length work → 8 * n ≤ length out
     → decodeAnswer v x frames n work out ≡ value (length (hits v (graphOf x) frames n))

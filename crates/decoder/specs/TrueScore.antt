@@ -1,5 +1,6 @@
 -- The true score of a word: the highest over its permitted state paths, or none where it has no such path (document 01, State paths and
--- hits). This form computes; that it is the highest of the literal state paths is proved in proofs/Literal.antt. Assumes nothing.
+-- hits). In the literature: the Viterbi score of the word. This form computes; that it is the highest over the literal state paths is proved
+-- in proofs/Literal.antt. Assumes nothing.
 use Prim.Native.Nat.{ℕ, zero, suc}
 use mathlib.Core.Bool.{cond, _&&_}
 use mathlib.Core.List.{List, [], _∷_, map, flatMap}

@@ -2,11 +2,14 @@
 // holds no token at all.
 ghost use mathlib.Core.Path.{_≡_};
 ghost use mathlib.Core.Option.{none, some};
-ghost use Prim.Native.Nat.{_+_, _<_, _≤_};
+ghost use Prim.Native.Nat.{_<_};
 ghost use lib.IntN.{pos, negℤ, subℕ};
 ghost use Rattle.endian.specs.Lists.{isNone};
 ghost use Rattle.decoder.specs.StatePaths.{scoreLimit};
 ghost use Rattle.decoder.specs.Score.{meaning, possible, plus, isHigher, Roomy};
+
+// What is added to a score so that it has no sign.
+const BIAS: u32 = 134217728;
 
 // The score of the voice model that means impossible.
 const STORED_IMPOSSIBLE: i16 = -32768;
@@ -54,14 +57,13 @@ impl Score {
     }
 
     // A score of the voice model; -32,768 means impossible.
-    pub fn of(stored: i16) -> Score
+    pub fn from_stored(stored: i16) -> Score
         ensures { λ r. ⌜ meaning r ≡ possible stored ⌝ }
     {
         if stored == STORED_IMPOSSIBLE {
             return Score::IMPOSSIBLE;
         }
-        // 2^27 - 2^15
-        Score(134184960 + raised(stored))
+        Score(BIAS - 32768 + raised(stored))
     }
 
     // The score with a score of the voice model added to it; impossible where either is.

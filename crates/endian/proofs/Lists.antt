@@ -9,7 +9,9 @@ use Prim.Native.Nat.{ℕ, zero, suc, _+_, _≤_, _<_}
 use native.Mathlib.Nat.{add-assoc, zero-add, add-zero, suc-add, add-suc}
 use native.Mathlib.Decide.{ℕ-discrete}
 use native.Mathlib.Omega.{arith}
-use lib.ListN.{length, getD, length-append}
+use lib.ListN.{length, getD, drop, length-append}
+use lib.Seq.{getD-drop, drop-drop}
+use native.Mathlib.Numerals.{add-one}
 use lib.Dec.{eqb}
 use borrow.Author.Tests.{eqb-true, eq-eqb, ne-eqb}
 use Rattle.endian.specs.Lists.{from, sum, has, before, same, hasList, repeats, all, select, first}
@@ -100,6 +102,17 @@ module _ {A B : Type 0} where
   length-flatMap f [] = refl
   length-flatMap f (a ∷ l) = length-append (f a) (flatMap f l) ∙ rw (length-flatMap f l)
 
+-- over equal functions, and over a list that is made from another
+pub flatMap-cong : {A B : Type 0} (f g : A → List B) (l : List A) → ((a : A) → List·Memᴰ a l → f a ≡ g a) → flatMap f l ≡ flatMap g l
+unfolding flatMap
+flatMap-cong f g [] h = refl
+flatMap-cong f g (a ∷ l) h = rw (h a (List·Memᴰ·head refl), flatMap-cong f g l (λ b m. h b (List·Memᴰ·tail m)))
+
+pub flatMap-map : {A B C : Type 0} (f : B → List C) (g : A → B) (l : List A) → flatMap f (map g l) ≡ flatMap (λ a. f (g a)) l
+unfolding flatMap
+flatMap-map f g [] = refl
+flatMap-map f g (a ∷ l) = rw (flatMap-map f g l)
+
 -- lists are equal where their images are, if f is injective on their members
 pub map-injective : {A B : Type 0} (f : A → B) (l m : List A) → ((a b : A) → List·Memᴰ a l → List·Memᴰ b m → f a ≡ f b → a ≡ b)
     → map f l ≡ map f m → l ≡ m
@@ -145,14 +158,14 @@ getD-from a (suc n) (suc i) d h = getD-from (suc a) n i d (omega arith) ∙ omeg
 
 -- ---- lists of numbers
 
-same-eq : (l m : List ℕ) → same l m ≡ true → l ≡ m
+pub same-eq : (l m : List ℕ) → same l m ≡ true → l ≡ m
 unfolding same
 same-eq [] [] h = refl
 same-eq [] (b ∷ m) h = absurd (false≢true h)
 same-eq (a ∷ l) [] h = absurd (false≢true h)
 same-eq (a ∷ l) (b ∷ m) h = rw (eqb-true a b (and-out (eqb a b) (same l m) h .0), same-eq l m (and-out (eqb a b) (same l m) h .1))
 
-same-refl : (l : List ℕ) → same l l ≡ true
+pub same-refl : (l : List ℕ) → same l l ≡ true
 unfolding same
 same-refl [] = refl
 same-refl (a ∷ l) = rw (eq-eqb a a refl) (same-refl l)
@@ -213,3 +226,13 @@ pub from-out : {i : ℕ} (a n : ℕ) → List·Memᴰ i (from a n) → (a ≤ i)
 unfolding from
 from-out a zero m = absurd (List·Memᴰ·not-nil m)
 from-out {i} a (suc n) m = elim (List·Memᴰ·cases-cons m) [ inl e ↦ omega arith | inr k ↦ let r = from-out (suc a) n k in omega arith ]
+
+-- ---- a list by its indexes, from k on
+
+pub by-index : {A : Type 0} (d : A) (whole l : List A) (k : ℕ) → drop k whole ≡ l → map (λ i. getD whole i d) (from k (length l)) ≡ l
+unfolding from
+by-index d whole [] k e = refl
+by-index d whole (a ∷ l) k e =
+    ap₂ _∷_
+    (ap (λ i. getD whole i d) (sym (add-zero k)) ∙ sym (getD-drop k whole 0 d) ∙ ap (λ r. getD r 0 d) e)
+    (by-index d whole l (suc k) (ap (λ i. drop i whole) (sym (add-one k)) ∙ sym (drop-drop 1 k whole) ∙ ap (drop 1) e))

@@ -1,11 +1,11 @@
 -- The pins hold: each is computed. Assumes nothing.
 use mathlib.Core.Path.{refl}
-use Rattle.examples.specs.Pins.{Fields, Conditions, Scores, Decoding, Codes, Program}
+use Rattle.examples.specs.Pins.{FieldPins, ConditionPins, ScorePins, DecodingPins, CodePins, ProgramPins}
 use Rattle.examples.proofs.Open.{everything}
 
-pub fields : Fields
+pub field-pins : FieldPins
 unfolding everything
-fields = record {
+field-pins = record {
   space = refl;
   space-kept = refl;
   space-cleared = refl;
@@ -28,9 +28,9 @@ fields = record {
   arc-total = refl;
 }
 
-pub conditions : Conditions
+pub condition-pins : ConditionPins
 unfolding everything
-conditions = record {
+condition-pins = record {
   orphans = refl;
   places = refl;
   place-counts = refl;
@@ -40,13 +40,14 @@ conditions = record {
   word-counts = refl;
   word-count-limit = refl;
   joined-again = refl;
+  twins-apart = refl;
   prefix-is-no-twin = refl;
   voice-first = refl;
 }
 
-pub scores : Scores
+pub score-pins : ScorePins
 unfolding everything
-scores = record {
+score-pins = record {
   loop-or-link = refl;
   link-better = refl;
   tied = refl;
@@ -60,9 +61,9 @@ scores = record {
   sum-is-possible = refl;
 }
 
-pub decoding : Decoding
+pub decoding-pins : DecodingPins
 unfolding everything
-decoding = record {
+decoding-pins = record {
   hit-bytes = refl;
   large-score = refl;
   no-hits = refl;
@@ -73,9 +74,9 @@ decoding = record {
   hit-room = refl;
 }
 
-pub codes : Codes
+pub code-pins : CodePins
 unfolding everything
-codes = record {
+code-pins = record {
   no-words = refl;
   code-limits = refl;
   code-room = refl;
@@ -97,8 +98,9 @@ codes = record {
   parts-unread = refl;
 }
 
-pub program : Program
+pub program-pins : ProgramPins
 unfolding everything
-program = record {
+program-pins = record {
   reports-cut = refl;
+  no-hits-printed = refl;
 }

@@ -1,27 +1,27 @@
 -- Examples that hold the definitions where the small lexicon cannot: letters of several states, unequal emissions, S ≠ K, the word aa,
 -- impossible scores, both sides of limits, two conditions at once. Each was computed apart, from the paper alone. Assumes nothing.
-use Prim.Native.Nat.{ℕ, _+_}
+use Prim.Native.Nat.{ℕ, _+_, _-_}
 use mathlib.Core.Path.{_≡_}
-use mathlib.Core.Bool.{Bool, true, false}
+use mathlib.Core.Bool.{true, false}
 use mathlib.Core.List.{List, [], _∷_, _++_, map, flatMap}
 use lib.IntN.{ℤ, pos}
 use lib.ListN.{length, take, drop, replicate}
 use Rattle.endian.specs.Lists.{from}
-use Rattle.call.specs.Table.{Answer, value, refused, signedAnswer}
+use Rattle.call.specs.Table.{value, signedAnswer}
 use Rattle.call.specs.Buffers.{cleared}
-use Rattle.voice.specs.Fields.{Verdict, verdict, wellFormed, wrongLength, outOfRange}
+use Rattle.voice.specs.Fields.{verdict, wrongLength, outOfRange}
 use Rattle.lexicon.specs.Lexicon.{successorPart, arcFields}
-use Rattle.graph.specs.Graph.{graphOf, wordCount}
+use Rattle.graph.specs.Graph.{graphOf}
 use Rattle.graph.specs.Conditions.{placeCount, manyPlaces, longWord, manyWords}
-use Rattle.graph.specs.Checking.{check}
+use Rattle.graph.specs.Checking.{checkAnswer}
 use Rattle.packing.specs.Width.{widthAnswer}
 use Rattle.ranking.specs.Mean.{meanAnswer}
 use Rattle.packing.specs.Packing.{packAnswer, packOut, unpackAnswer, unpackOut}
-use Rattle.codes.specs.Lookup.{wordToCode, codeToWordAnswer, listAnswer, listOut}
+use Rattle.codes.specs.Lookup.{wordToCodeAnswer, codeToWordAnswer, listAnswer, listOut}
 use Rattle.ranking.specs.Hits.{Hit, hit}
 use Rattle.decoder.specs.Decoding.{hits, decodeAnswer, decodeOut}
 use Rattle.report.specs.Report.{report}
-use Rattle.examples.specs.SmallLexicon.{voice, P, Q, an, at, it, in′, work, minus, twoAs, thirdRow}
+use Rattle.examples.specs.SmallLexicon.{voice, P, it, work, minus, thirdRow}
 
 -- ---- small images
 
@@ -72,18 +72,20 @@ chain n = n ∷ 0 ∷ replicate n 0 ++ flatMap (λ u. 1 ∷ 0 ∷ (u + 1) ∷ 0 
 abbrev pub fourStates : List ℕ
 fourStates = 1 ∷ 97 ∷ 4 ∷ 4 ∷ 0 ∷ replicate 16 0 ++ 1 ∷ 0 ∷ 0 ∷ 1 ∷ replicate 8 0
 
--- n layers of a and b, each node of a layer leading to both of the next: 2 ^ n words
+-- n layers of a and b, n at least 1: each node leads to both of the next layer, the last two to the sink: 2 ^ n words
 unfoldable pub layers : ℕ → List ℕ
 layers n =
-    (n + n) ∷ 0 ∷ flatMap (λ i. 0 ∷ 1 ∷ []) (from 0 n) ++ 2 ∷ 0 ∷ 1 ∷ 0 ∷ 2 ∷ 0
-    ∷ flatMap (λ i. 2 ∷ 0 ∷ (i + i + 1) ∷ 0 ∷ (i + i + 2) ∷ 0 ∷ 2 ∷ 0 ∷ (i + i + 1) ∷ 0 ∷ (i + i + 2) ∷ 0 ∷ []) (from 1 n)
+    (n + n) ∷ 0 ∷ flatMap (λ i. 0 ∷ 1 ∷ []) (from 0 n)
+    ++ 2 ∷ 0 ∷ 1 ∷ 0 ∷ 2 ∷ 0
+    ∷ flatMap (λ i. 2 ∷ 0 ∷ (i + i + 1) ∷ 0 ∷ (i + i + 2) ∷ 0 ∷ 2 ∷ 0 ∷ (i + i + 1) ∷ 0 ∷ (i + i + 2) ∷ 0 ∷ []) (from 1 (n - 1))
+    ++ 1 ∷ 0 ∷ (n + n + 1) ∷ 0 ∷ 1 ∷ 0 ∷ (n + n + 1) ∷ 0 ∷ 0 ∷ 0 ∷ []
 
 -- what checking answers to C
 unfoldable pub checkVoice : List ℕ → ℤ
-checkVoice v = signedAnswer (check v wordA work)
+checkVoice v = signedAnswer (checkAnswer v wordA work)
 
 unfoldable pub checkLexicon : List ℕ → ℤ
-checkLexicon x = signedAnswer (check A x work)
+checkLexicon x = signedAnswer (checkAnswer A x work)
 
 -- the line `refused`, with a number of one or two digits
 abbrev pub refusedLine : List ℕ → List ℕ
@@ -95,8 +97,8 @@ hitsOf v x frames = hits v (graphOf x) frames 8
 
 -- ---- refusal 1 and the work bytes; 2 and 3, 4 and 5 at both sides of every field's range
 
-pub record Fields : Type 0 where
-  pub space : signedAnswer (check [] [] (replicate 63999 9)) ∷ signedAnswer (check [] [] work) ∷ [] ≡ minus 1 ∷ minus 2 ∷ []
+pub record FieldPins : Type 0 where
+  pub space : signedAnswer (checkAnswer [] [] (replicate 63999 9)) ∷ signedAnswer (checkAnswer [] [] work) ∷ [] ≡ minus 1 ∷ minus 2 ∷ []
   pub space-kept : cleared (replicate 63999 9) ≡ replicate 63999 9
   pub space-cleared : cleared (replicate 64002 9) ≡ replicate 64000 0 ++ 9 ∷ 9 ∷ []
   -- 2 and 3: L, print byte, states, rising, S, last step, links, K
@@ -122,25 +124,27 @@ pub record Fields : Type 0 where
 
 -- ---- 6 to 10
 
-pub record Conditions : Type 0 where
+pub record ConditionPins : Type 0 where
   pub orphans : checkLexicon (3 ∷ 0 ∷ 0 ∷ 0 ∷ 0 ∷ 2 ∷ 0 ∷ 1 ∷ 0 ∷ 2 ∷ 0 ∷ 1 ∷ 0 ∷ 4 ∷ 0 ∷ 1 ∷ 0 ∷ 4 ∷ 0 ∷ 1 ∷ 0 ∷ 4 ∷ 0 ∷ 0 ∷ 0 ∷ []) ≡ minus 6
   -- 1,004 places, in a word too long: 7 comes before 8
-  pub places : signedAnswer (check fourStates (chain 251) work) ≡ minus 7
+  pub places : signedAnswer (checkAnswer fourStates (chain 251) work) ≡ minus 7
   pub place-counts : map (λ n. placeCount fourStates (graphOf (chain n))) (1 ∷ 3 ∷ []) ≡ 4 ∷ 12 ∷ []
   pub place-limit : map manyPlaces (1000 ∷ 1001 ∷ []) ≡ false ∷ true ∷ []
   pub word-lengths : map (λ n. checkLexicon (chain n)) (32 ∷ 33 ∷ []) ≡ pos 1 ∷ minus 8 ∷ []
   pub word-length-limit : map longWord (32 ∷ 33 ∷ []) ≡ false ∷ true ∷ []
-  pub word-counts : map (λ n. wordCount (graphOf (layers n))) (1 ∷ 2 ∷ 5 ∷ []) ≡ 2 ∷ 4 ∷ 32 ∷ []
+  pub word-counts : map (λ n. signedAnswer (checkAnswer fiveStates (layers n) work)) (1 ∷ 2 ∷ 4 ∷ []) ≡ pos 2 ∷ pos 4 ∷ pos 16 ∷ []
   pub word-count-limit : map manyWords (1048576 ∷ 1048577 ∷ []) ≡ false ∷ true ∷ []
   -- a then n, twice, by other nodes that join again; a to sink, and a to n, by two nodes a
-  pub joined-again : signedAnswer (check voice (4 ∷ 0 ∷ 0 ∷ 0 ∷ 2 ∷ 3 ∷ 2 ∷ 0 ∷ 1 ∷ 0 ∷ 2 ∷ 0 ∷ 1 ∷ 0 ∷ 3 ∷ 0 ∷ 2 ∷ 0 ∷ 3 ∷ 0 ∷ 4 ∷ 0 ∷ 1 ∷ 0 ∷ 5 ∷ 0 ∷ 1 ∷ 0 ∷ 5 ∷ 0 ∷ 0 ∷ 0 ∷ []) work) ≡ minus 10
-  pub prefix-is-no-twin : signedAnswer (check voice (3 ∷ 0 ∷ 0 ∷ 0 ∷ 2 ∷ 2 ∷ 0 ∷ 1 ∷ 0 ∷ 2 ∷ 0 ∷ 1 ∷ 0 ∷ 4 ∷ 0 ∷ 1 ∷ 0 ∷ 3 ∷ 0 ∷ 1 ∷ 0 ∷ 4 ∷ 0 ∷ 0 ∷ 0 ∷ []) work) ≡ pos 2
+  pub joined-again : signedAnswer (checkAnswer voice (4 ∷ 0 ∷ 0 ∷ 0 ∷ 2 ∷ 3 ∷ 2 ∷ 0 ∷ 1 ∷ 0 ∷ 2 ∷ 0 ∷ 1 ∷ 0 ∷ 3 ∷ 0 ∷ 2 ∷ 0 ∷ 3 ∷ 0 ∷ 4 ∷ 0 ∷ 1 ∷ 0 ∷ 5 ∷ 0 ∷ 1 ∷ 0 ∷ 5 ∷ 0 ∷ 0 ∷ 0 ∷ []) work) ≡ minus 10
+  -- nodes a, i, a in this order, each from root to sink: not neighbours, but the same letters
+  pub twins-apart : signedAnswer (checkAnswer voice (3 ∷ 0 ∷ 0 ∷ 1 ∷ 0 ∷ 3 ∷ 0 ∷ 1 ∷ 0 ∷ 2 ∷ 0 ∷ 3 ∷ 0 ∷ 1 ∷ 0 ∷ 4 ∷ 0 ∷ 1 ∷ 0 ∷ 4 ∷ 0 ∷ 1 ∷ 0 ∷ 4 ∷ 0 ∷ 0 ∷ 0 ∷ []) work) ≡ minus 10
+  pub prefix-is-no-twin : signedAnswer (checkAnswer voice (3 ∷ 0 ∷ 0 ∷ 0 ∷ 2 ∷ 2 ∷ 0 ∷ 1 ∷ 0 ∷ 2 ∷ 0 ∷ 1 ∷ 0 ∷ 4 ∷ 0 ∷ 1 ∷ 0 ∷ 3 ∷ 0 ∷ 1 ∷ 0 ∷ 4 ∷ 0 ∷ 0 ∷ 0 ∷ []) work) ≡ pos 2
   -- the voice model is judged before the lexicon
-  pub voice-first : signedAnswer (check (A ++ 0 ∷ []) (0 ∷ 0 ∷ []) work) ≡ minus 2
+  pub voice-first : signedAnswer (checkAnswer (A ++ 0 ∷ []) (0 ∷ 0 ∷ []) work) ≡ minus 2
 
 -- ---- scores
 
-pub record Scores : Type 0 where
+pub record ScorePins : Type 0 where
   -- in aa staying in a and passing from a to a are two moves
   pub loop-or-link : hitsOf A wordsAA (0 ∷ 0 ∷ []) ≡ hit (minus 21) 0 ∷ hit (minus 25) 1 ∷ []
   pub link-better : hitsOf (oneLetter 251 255 255 255 246 255) wordsAA (0 ∷ 0 ∷ 0 ∷ []) ≡ hit (minus 36) 1 ∷ hit (minus 40) 0 ∷ []
@@ -157,7 +161,7 @@ pub record Scores : Type 0 where
 
 -- ---- decoding: its bytes, its refusals
 
-pub record Decoding : Type 0 where
+pub record DecodingPins : Type 0 where
   pub hit-bytes : decodeOut A wordsAA (0 ∷ 0 ∷ []) 3 work (replicate 25 7) ≡ 235 ∷ 255 ∷ 255 ∷ 255 ∷ 0 ∷ 0 ∷ 0 ∷ 0 ∷ 231 ∷ 255 ∷ 255 ∷ 255 ∷ 1 ∷ 0 ∷ 0 ∷ 0 ∷ replicate 9 7
   pub large-score : decodeOut (oneLetter 255 127 0 0 255 127) wordA (0 ∷ 0 ∷ 0 ∷ []) 1 work (replicate 8 7) ≡ 251 ∷ 127 ∷ 2 ∷ 0 ∷ 0 ∷ 0 ∷ 0 ∷ 0 ∷ []
   pub no-hits : decodeAnswer A wordsAA (0 ∷ []) 8 work (replicate 64 7) ∷ decodeAnswer fiveStates fiveWords (0 ∷ []) 8 work (replicate 64 7) ∷ [] ≡ value 1 ∷ value 0 ∷ []
@@ -169,8 +173,8 @@ pub record Decoding : Type 0 where
 
 -- ---- words, codes and listing; width and mean; packing; successors
 
-pub record Codes : Type 0 where
-  pub no-words : map (λ w. signedAnswer (wordToCode voice P w work)) ([] ∷ (97 ∷ []) ∷ (it ++ 116 ∷ []) ∷ (0 ∷ 2 ∷ []) ∷ (110 ∷ 97 ∷ []) ∷ []) ≡ minus 13 ∷ minus 13 ∷ minus 13 ∷ minus 13 ∷ minus 13 ∷ []
+pub record CodePins : Type 0 where
+  pub no-words : map (λ w. signedAnswer (wordToCodeAnswer voice P w work)) ([] ∷ (97 ∷ []) ∷ (it ++ 116 ∷ []) ∷ (0 ∷ 2 ∷ []) ∷ (110 ∷ 97 ∷ []) ∷ []) ≡ minus 13 ∷ minus 13 ∷ minus 13 ∷ minus 13 ∷ minus 13 ∷ []
   pub code-limits : map (λ c. signedAnswer (codeToWordAnswer voice P c work [])) (0 ∷ 4 ∷ 5 ∷ 4294967295 ∷ []) ≡ minus 16 ∷ minus 16 ∷ minus 15 ∷ minus 15 ∷ []
   pub code-room : map (λ m. signedAnswer (codeToWordAnswer voice P 4 work (replicate m 7))) (1 ∷ 2 ∷ []) ≡ minus 16 ∷ pos 2 ∷ []
   pub list-bytes : listOut voice P work (replicate 15 7) ≡ 97 ∷ 110 ∷ 10 ∷ 97 ∷ 116 ∷ 10 ∷ 105 ∷ 10 ∷ 105 ∷ 110 ∷ 10 ∷ 105 ∷ 116 ∷ 10 ∷ 7 ∷ []
@@ -196,5 +200,7 @@ pub record Codes : Type 0 where
 
 -- ---- the program: input cut in a length, in an image, before n, before the frames
 
-pub record Program : Type 0 where
+pub record ProgramPins : Type 0 where
   pub reports-cut : map (λ n. report (take n thirdRow)) (0 ∷ 1 ∷ 64 ∷ 66 ∷ 102 ∷ 103 ∷ 104 ∷ []) ≡ refusedLine (50 ∷ []) ∷ refusedLine (50 ∷ []) ∷ refusedLine (50 ∷ []) ∷ refusedLine (52 ∷ []) ∷ refusedLine (52 ∷ []) ∷ refusedLine (49 ∷ 49 ∷ []) ∷ refusedLine (49 ∷ 49 ∷ []) ∷ []
+  -- no hits: one line
+  pub no-hits-printed : report (length fiveStates ∷ 0 ∷ fiveStates ++ length fiveWords ∷ 0 ∷ fiveWords ++ 8 ∷ 0 ∷ []) ≡ 104 ∷ 105 ∷ 116 ∷ 115 ∷ 32 ∷ 48 ∷ 32 ∷ 119 ∷ 111 ∷ 114 ∷ 100 ∷ 115 ∷ 32 ∷ 53 ∷ 32 ∷ 98 ∷ 105 ∷ 116 ∷ 115 ∷ 32 ∷ 51 ∷ 10 ∷ []

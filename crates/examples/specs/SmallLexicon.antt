@@ -1,16 +1,16 @@
 -- 'A small lexicon' of document 01: its images byte by byte, and its starred rows as one table of what the calls answer. Assumes nothing.
-use Prim.Native.Nat.{ℕ}
+use Prim.Native.Nat.{ℕ, _*_}
 use mathlib.Core.Path.{_≡_}
 use mathlib.Core.List.{List, [], _∷_, _++_, map}
 use lib.IntN.{ℤ, pos, negℤ}
 use lib.ListN.{length, drop, replicate}
-use Rattle.call.specs.Table.{Answer, value, refused, signedAnswer}
+use Rattle.call.specs.Table.{Answer, value, signedAnswer}
 use Rattle.graph.specs.Graph.{graphOf}
 use Rattle.graph.specs.Words.{wordOfCode}
-use Rattle.graph.specs.Checking.{check}
+use Rattle.graph.specs.Checking.{checkAnswer}
 use Rattle.packing.specs.Width.{widthAnswer}
 use Rattle.ranking.specs.Mean.{meanAnswer}
-use Rattle.codes.specs.Lookup.{wordToCode, codeToWordAnswer, codeToWordOut}
+use Rattle.codes.specs.Lookup.{wordToCodeAnswer, codeToWordAnswer, codeToWordOut}
 use Rattle.ranking.specs.Hits.{hitsRead}
 use Rattle.decoder.specs.Decoding.{decodeAnswer, decodeOut}
 use Rattle.report.specs.Report.{report}
@@ -106,7 +106,7 @@ pub record Coded : Type 0 where
 unfoldable pub coded : List ℕ → ℕ → List ℕ → Coded
 coded x c w = record {
   word = w;
-  code = wordToCode voice x w work;
+  code = wordToCodeAnswer voice x w work;
   count = codeToWordAnswer voice x c work (replicate 3 7);
   back = codeToWordOut voice x c work (replicate 3 7);
 }
@@ -122,40 +122,49 @@ pub record Line : Type 0 where
 abbrev pub line : List ℕ → ℤ → Line
 line w s = record { word = w; score = s }
 
--- the list read from the output's bytes, with the word of each code
-unfoldable pub linesOf : List ℕ → List ℕ → Answer ℕ → Answer (List Line)
-linesOf x bytes (value k) = value (map (λ h. line (wordOfCode voice (graphOf x) (h .code)) (h .score)) (hitsRead bytes k))
-linesOf x bytes (refused r) = refused r
+-- what decoding answers, the first k hits read from its output's bytes with the word of each code, and the bytes after them
+pub record Listed : Type 0 where
+  pub answer : Answer ℕ
+  pub lines : List Line
+  pub kept : List ℕ
 
-unfoldable pub listed : List ℕ → List ℕ → ℕ → Answer (List Line)
-listed x frames n = linesOf x (decodeOut voice x frames n work out) (decodeAnswer voice x frames n work out)
+unfoldable pub listed : List ℕ → List ℕ → ℕ → ℕ → Listed
+listed x frames n k = record {
+  answer = decodeAnswer voice x frames n work out;
+  lines = map (λ h. line (wordOfCode voice (graphOf x) (h .code)) (h .score)) (hitsRead (decodeOut voice x frames n work out) k);
+  kept = drop (8 * k) (decodeOut voice x frames n work out);
+}
+
+-- as many hits as there are lines, and the old contents after them
+abbrev pub lists : List Line → Listed
+lists ls = record { answer = value (length ls); lines = ls; kept = drop (8 * length ls) out }
 
 -- ---- the starred rows
 
 pub record Starred : Type 0 where
   -- P: W = 5, b = 3; an 0, at 1, i 2, in 3, it 4
-  pub P-words : check voice P work ≡ value 5
+  pub P-words : checkAnswer voice P work ≡ value 5
   pub P-width : widthAnswer 5 ≡ value 3
   pub P-codes : coded P 0 an ∷ coded P 1 at ∷ coded P 2 i ∷ coded P 3 in′ ∷ coded P 4 it ∷ [] ≡ is an 0 ∷ is at 1 ∷ is i 2 ∷ is in′ 3 ∷ is it 4 ∷ []
   -- P with root arcs 2, 1: i 0, in 1, it 2, an 3, at 4
   pub Q-codes : coded Q 0 i ∷ coded Q 1 in′ ∷ coded Q 2 it ∷ coded Q 3 an ∷ coded Q 4 at ∷ [] ≡ is i 0 ∷ is in′ 1 ∷ is it 2 ∷ is an 3 ∷ is at 4 ∷ []
   -- P, frames 0 2, n = 3: an -2, at -12, in -12
-  pub P-three : listed P (0 ∷ 2 ∷ []) 3 ≡ value (line an (minus 2) ∷ line at (minus 12) ∷ line in′ (minus 12) ∷ [])
+  pub P-three : listed P (0 ∷ 2 ∷ []) 3 3 ≡ lists (line an (minus 2) ∷ line at (minus 12) ∷ line in′ (minus 12) ∷ [])
   -- root arcs 2, 1, same frames and n: an -2, in -12, at -12
-  pub Q-three : listed Q (0 ∷ 2 ∷ []) 3 ≡ value (line an (minus 2) ∷ line in′ (minus 12) ∷ line at (minus 12) ∷ [])
+  pub Q-three : listed Q (0 ∷ 2 ∷ []) 3 3 ≡ lists (line an (minus 2) ∷ line in′ (minus 12) ∷ line at (minus 12) ∷ [])
   -- P, frames 0 2, n = 8: five hits in all, the three above and then i -21, it -22
-  pub P-all : listed P (0 ∷ 2 ∷ []) 8 ≡ value (line an (minus 2) ∷ line at (minus 12) ∷ line in′ (minus 12) ∷ line i (minus 21) ∷ line it (minus 22) ∷ [])
+  pub P-all : listed P (0 ∷ 2 ∷ []) 8 5 ≡ lists (line an (minus 2) ∷ line at (minus 12) ∷ line in′ (minus 12) ∷ line i (minus 21) ∷ line it (minus 22) ∷ [])
   -- P, frame 1, n = 8: only i, 0
-  pub P-one : listed P (1 ∷ []) 8 ≡ value (line i (pos 0) ∷ [])
+  pub P-one : listed P (1 ∷ []) 8 1 ≡ lists (line i (pos 0) ∷ [])
   -- P, frames 0 0 2, n = 1: an -3
-  pub P-stays : listed P (0 ∷ 0 ∷ 2 ∷ []) 1 ≡ value (line an (minus 3) ∷ [])
+  pub P-stays : listed P (0 ∷ 0 ∷ 2 ∷ []) 1 1 ≡ lists (line an (minus 3) ∷ [])
   -- b: W 1 gives 0, 6 and 8 give 3, 9 gives 4
   pub widths : map widthAnswer (1 ∷ 6 ∷ 8 ∷ 9 ∷ []) ≡ value 0 ∷ value 3 ∷ value 3 ∷ value 4 ∷ []
   -- mean of -7 over 2 is -4
   pub mean-down : meanAnswer (minus 7) 2 ≡ value (minus 4)
   -- two nodes a, both root to sink: 10; a to n and another a to t: accepted
-  pub same-letters : signedAnswer (check voice twoAs work) ≡ minus 10
-  pub branches : check voice twoBranches work ≡ value 2
+  pub same-letters : signedAnswer (checkAnswer voice twoAs work) ≡ minus 10
+  pub branches : checkAnswer voice twoBranches work ≡ value 2
 
 -- ---- what the program prints for the third row
 

@@ -9,7 +9,7 @@ use lib.Dec.{ltb, leb}
 use Rattle.endian.specs.Lists.{select}
 use Rattle.endian.proofs.Booleans.{and-out}
 use Rattle.endian.proofs.Lists.{select-out}
-use Rattle.call.proofs.Table.{clear-says}
+use Rattle.call.proofs.Table.{none-says}
 use Rattle.voice.specs.Fields.{Verdict, wellFormed, wrongLength, outOfRange, hasWrongLength, isOutOfRange}
 use Rattle.voice.specs.Voice.{letterCount, voiceVerdict, voiceRows}
 use Rattle.lexicon.specs.Lexicon.{lexiconVerdict, nodeCount}
@@ -38,7 +38,7 @@ pub record AcceptedImages (v x : List ℕ) : Type 0 where
 pub accepted : {v x : List ℕ} → Accepted v x → AcceptedImages v x
 unfolding imageRows voiceRows lexiconRows
 accepted {v} {x} h =
-    let u = clear-says (imageRows v x) h in
+    let u = none-says (imageRows v x) h in
     let l = u .1 .1 in
     let g = l .1 .1 in
     record {

@@ -5,7 +5,7 @@ use mathlib.Core.Path.{_≡_}
 use mathlib.Core.Bool.{true}
 use mathlib.Core.List.{List, [], _∷_, _++_}
 use Rattle.call.specs.declared.Refusal.the-variants.{LexiconLength, LexiconRange, Orphan, Places, LongWord, WordCount, SameLetters}
-use Rattle.call.specs.Table.{Answer, Row, on, clear, unless}
+use Rattle.call.specs.Table.{Answer, Row, on, noneApplies, unless}
 use Rattle.call.specs.Buffers.{spaceRows, cleared}
 use Rattle.voice.specs.Fields.{hasWrongLength, isOutOfRange}
 use Rattle.voice.specs.Voice.{letterCount, voiceRows}
@@ -31,15 +31,15 @@ imageRows v x = voiceRows v ++ lexiconRows v x
 
 -- a voice model and lexicon are accepted if none of 2 to 10 applies to them
 abbrev pub Accepted : List ℕ → List ℕ → Type 0
-Accepted v x = clear (imageRows v x) ≡ true
+Accepted v x = noneApplies (imageRows v x) ≡ true
 
 -- 1 to 10: what every call with a lexicon tests first
 unfoldable pub firstRows : List ℕ → List ℕ → List ℕ → List Row
 firstRows v x work = spaceRows work ++ imageRows v x
 
 -- checking answers W
-unfoldable pub check : List ℕ → List ℕ → List ℕ → Answer ℕ
-check v x work = unless (firstRows v x work) (wordCount (graphOf x))
+unfoldable pub checkAnswer : List ℕ → List ℕ → List ℕ → Answer ℕ
+checkAnswer v x work = unless (firstRows v x work) (wordCount (graphOf x))
 
 -- and leaves the work bytes cleared, as every call with a lexicon does
 abbrev pub checkWork : List ℕ → List ℕ → List ℕ → List ℕ

@@ -5,14 +5,15 @@ use mathlib.Core.List.{List, map}
 use lib.ListN.{length}
 use lib.Dec.{ltb}
 use Rattle.endian.specs.Lists.{from, sum, has, any, repeats}
+use Rattle.call.specs.Limits.{mostWords}
 use Rattle.voice.specs.Voice.{states}
-use Rattle.graph.specs.Graph.{Graph, sink, fullPaths, pathLetters, wordCount}
+use Rattle.graph.specs.Graph.{Graph, sink, fullPaths, pathLetters}
 
 -- 6: a node that is nobody's successor
 unfoldable pub orphan : Graph → Bool
 orphan g = any (λ n. not (any (λ u. has n (g .successors u)) (from 0 (sink g)))) (from 1 (g .nodes))
 
--- a place is one state of one node (the field: a state of the composed recognition network)
+-- a place is one state of one node (in the literature: a state of the recognition network)
 unfoldable pub placeCount : List ℕ → Graph → ℕ
 placeCount v g = sum (map (λ n. states v (g .letter n)) (from 1 (g .nodes)))
 
@@ -29,7 +30,7 @@ hasLongWord g = any (λ p. longWord (length (pathLetters g p))) (fullPaths g)
 
 -- 9: W above 1,048,576
 unfoldable pub manyWords : ℕ → Bool
-manyWords W = ltb 1048576 W
+manyWords W = ltb mostWords W
 
 -- 10: two different full paths with the same letters (full paths are pairwise different: proofs/Paths.antt, distinct)
 unfoldable pub sameLetters : Graph → Bool

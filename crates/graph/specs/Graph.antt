@@ -61,7 +61,7 @@ wordCount g = pathCount g 0
 
 -- ---- codes
 
--- of the arc from u to s: the sum over the successors stored before it
+-- the increment of the arc from u to s: the sum over the successors stored before s
 unfoldable pub increment : Graph → ℕ → ℕ → ℕ
 increment g u s = sum (map (pathCount g) (before s (g .successors u)))
 
@@ -70,7 +70,7 @@ unfoldable pub codeFrom : Graph → ℕ → List ℕ → ℕ
 codeFrom g u [] = 0
 codeFrom g u (s ∷ p) = increment g u s + codeFrom g s p
 
--- The code of a path from its first vertex on. The field calls it a minimal perfect hash of the words (document 000: PPH).
+-- The code of a path from its first vertex on (document 000: PPH, perfect path history; in the literature: a minimal perfect hash)
 unfoldable pub pathCode : Graph → List ℕ → ℕ
 pathCode g [] = 0
 pathCode g (u ∷ p) = codeFrom g u p

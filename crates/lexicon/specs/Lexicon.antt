@@ -1,5 +1,5 @@
--- The lexicon image: what it holds, its fields in stored order, and its verdict (document 01, Lexicon). The field calls it a DAWG, a
--- directed acyclic word graph, with the letters on the nodes. Assumes nothing.
+-- The lexicon image: what it holds, its fields in stored order, and its verdict (document 01, Lexicon). In the literature: a DAWG, a
+-- directed acyclic word graph, here with the letters on the nodes. Assumes nothing.
 use Prim.Native.Nat.{ℕ, zero, suc, _+_, _*_}
 use mathlib.Core.Bool.{Bool, true, false, cond, _&&_, _||_, not}
 use mathlib.Core.List.{List, [], _∷_, _++_, map}

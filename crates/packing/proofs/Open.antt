@@ -2,7 +2,7 @@
 -- Assumes nothing.
 use Rattle.packing.specs.Width.{digits, binaryLength, width, badWordCount, givenRows, widthAnswer}
 use Rattle.packing.specs.Packing.{bits, numberAfter, numberOf, toBytes, toBits, packedSize, packed, unpackedFrom, unpacked, paddedWithZeros, badPacked, packRows, packAnswer, packOut, unpackRows, unpackAnswer, unpackOut}
-use Rattle.packing.specs.Places.{overlay}
+use Rattle.packing.specs.Offsets.{overlay}
 
 unfoldable pub everything : Unit {0}
 unfolding digits binaryLength width badWordCount givenRows widthAnswer bits numberAfter numberOf toBytes toBits packedSize packed unpackedFrom unpacked paddedWithZeros badPacked packRows packAnswer packOut unpackRows unpackAnswer unpackOut overlay

@@ -1,4 +1,4 @@
 pub mod Width
 pub mod Packing
-pub mod Places
+pub mod Offsets
 pub mod Theorems

@@ -4,6 +4,7 @@ use mathlib.Core.Bool.{Bool, not}
 use mathlib.Core.List.{List, [], _∷_}
 use Rattle.endian.specs.Lists.{within}
 use Rattle.call.specs.declared.Refusal.the-variants.{WordCount}
+use Rattle.call.specs.Limits.{mostWords}
 use Rattle.call.specs.Table.{Answer, Row, on, unless}
 
 -- the length of n in binary, looking at no more than d digits
@@ -22,7 +23,7 @@ width W = binaryLength (W - 1)
 
 -- 9, where W is given: above 1,048,576, or 0
 unfoldable pub badWordCount : ℕ → Bool
-badWordCount W = not (within 1 1048576 W)
+badWordCount W = not (within 1 mostWords W)
 
 unfoldable pub givenRows : ℕ → List Row
 givenRows W = on WordCount (badWordCount W) ∷ []

@@ -4,15 +4,15 @@ ghost use mathlib.Core.Path.{_≡_};
 ghost use Prim.Native.Nat.{_+_, _*_, _^_, _≤_, _<_, min};
 ghost use lib.ListN.{length, take, drop};
 ghost use Rattle.packing.specs.Packing.{bits, numberOf, toBits};
-ghost use Rattle.packing.specs.Places.{overlay, InBytes};
+ghost use Rattle.packing.specs.Offsets.{overlay, InBytes};
 
-fn smaller(a: u32, b: u32) -> u32
+fn least(a: u32, b: u32) -> u32
     ensures { λ r. ⌜ r ≡ min a b ⌝ }
 {
     if a < b { a } else { b }
 }
 
-// One more than the largest number of k bits.
+// 2^k.
 fn power(k: u32) -> u32
     requires { ⌜ k < 32 ⌝ }
     ensures { λ r. ⌜ r ≡ 2 ^ k ⌝ }
@@ -20,7 +20,7 @@ fn power(k: u32) -> u32
     1 << k
 }
 
-// The byte with the bits of a chunk in place of those behind its first `used` bits; the others stay, since they may be another code's.
+// The byte with the bits of a chunk in place of those after its first `used` bits; the others stay, since they may be another code's.
 fn with_chunk(byte: u8, used: u32, size: u32, chunk: u32) -> u8
     requires { ⌜ (used + size ≤ 8) × (chunk < 2 ^ size) ⌝ }
     ensures { λ r. ⌜ bits 8 r ≡ overlay used (bits size chunk) (bits 8 byte) ⌝ }
@@ -32,7 +32,7 @@ fn with_chunk(byte: u8, used: u32, size: u32, chunk: u32) -> u8
     ((high * power(size) + chunk) * after + low) as u8
 }
 
-// The number that `size` bits of the byte make, behind its first `used` bits.
+// The number that `size` bits of the byte make, after its first `used` bits.
 fn chunk_of(byte: u8, used: u32, size: u32) -> u32
     requires { ⌜ used + size ≤ 8 ⌝ }
     ensures { λ r. ⌜ r ≡ numberOf (take size (drop used (bits 8 byte))) ⌝ }
@@ -40,7 +40,7 @@ fn chunk_of(byte: u8, used: u32, size: u32) -> u32
     ((byte as u32) >> (8 - used - size)) % power(size)
 }
 
-// Puts the code's b bits from bit `bit` of byte `byte` on; where that place comes from is the caller's matter.
+// Puts the code's b bits from bit `bit` of byte `byte` on; where that is, is the caller's matter.
 pub(crate) fn put_code(out: &mut [u8], byte: usize, bit: u32, b: u32, code: u32)
     requires { ⌜ InBytes byte bit b (now out) ⌝ }
     ensures { λ _. ⌜ toBits (now (out .exit)) ≡ overlay (byte * 8 + bit) (bits b code) (toBits (now (out .entry))) ⌝ }
@@ -49,7 +49,7 @@ pub(crate) fn put_code(out: &mut [u8], byte: usize, bit: u32, b: u32, code: u32)
     let mut at = bit;
     while at < end {
         let used = at % 8;
-        let size = smaller(8 - used, end - at);
+        let size = least(8 - used, end - at);
         let chunk = (code >> (end - at - size)) % power(size);
         let i = byte + (at / 8) as usize;
         out[i] = with_chunk(out[i], used, size, chunk);
@@ -67,7 +67,7 @@ pub(crate) fn code_at(packed: &[u8], byte: usize, bit: u32, b: u32) -> u32
     let mut code = 0;
     while at < end {
         let used = at % 8;
-        let size = smaller(8 - used, end - at);
+        let size = least(8 - used, end - at);
         let chunk = chunk_of(packed[byte + (at / 8) as usize], used, size);
         code = code * power(size) + chunk;
         at += size;

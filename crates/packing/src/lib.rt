@@ -3,14 +3,15 @@ ghost use mathlib.Core.Path.{_≡_};
 ghost use mathlib.Core.Bool.{not};
 ghost use mathlib.Core.List.{_++_, flatMap};
 ghost use Prim.Native.Nat.{_+_, _*_, _≤_, _<_};
-ghost use lib.ListN.{length, take, drop, replicate};
+ghost use lib.ListN.{length, take, drop};
 ghost use Rattle.endian.specs.Lists.{within, any};
 ghost use Rattle.endian.specs.Bytes.{u32Bytes};
 ghost use Rattle.call.specs.Table.{answerOf};
 ghost use Rattle.call.specs.Limits.{badCode};
+ghost use Rattle.call.specs.Buffers.{zeroed};
 ghost use Rattle.packing.specs.Packing.{numberOf, toBits, packed, packedSize, unpacked, badPacked, packAnswer, packOut, unpackAnswer, unpackOut};
 ghost use Rattle.packing.specs.Width.{width, widthAnswer};
-ghost use Rattle.packing.specs.Places.{overlay, Begins, Small, Room, RightSize, Held};
+ghost use Rattle.packing.specs.Offsets.{overlay, Begins, Small, Room, RightSize, Held};
 use crate::bits::code_at;
 use crate::bits::put_code;
 use call::Answer;
@@ -20,9 +21,10 @@ use endian::u32_bytes;
 
 mod bits;
 
-// The most words of a lexicon (row 9), and the most codes that are packed together (row 12).
+// The most words of a lexicon (row 9).
 const WORDS: usize = 1048576;
 
+// The most codes that are packed together (row 12).
 const CODES: usize = 8;
 
 // Rows 9 and 12 refuse a number outside its limits.
@@ -40,7 +42,7 @@ fn outside(x: usize, low: usize, high: usize) -> bool
 
 // The bits of a code below a number of words: none where there is one word, else the length of the greatest code in binary.
 fn width_of(words: u32) -> u32
-    requires { ⌜ (1 ≤ words) × (words ≤ 1048576) ⌝ }
+    requires { ⌜ 1 ≤ words ⌝ }
     ensures { λ r. ⌜ r ≡ width words ⌝ }
 {
     if words == 1 {
@@ -60,18 +62,18 @@ pub fn width(words: u32) -> Answer
 }
 
 // Where a code begins.
-struct Place {
+struct BitOffset {
     byte: usize,
     bit: u32,
 }
 
 // Code i begins at bit i × b, in byte i × b / 8; nothing else here knows where codes begin.
-fn place_of(i: usize, b: u32) -> Place
+fn offset_of(i: usize, b: u32) -> BitOffset
     requires { ⌜ Small i b ⌝ }
     ensures { λ r. ⌜ Begins i b (r .byte) (r .bit) ⌝ }
 {
     let at = i * (b as usize);
-    Place {
+    BitOffset {
         byte: at / 8,
         bit: (at % 8) as u32,
     }
@@ -119,10 +121,10 @@ fn judge_pack(words: u32, codes: &[u32], out: &[u8]) -> Answer
     Answer::Value(size as u32)
 }
 
-// The first n bytes are zero, so that the padding is.
-fn clear(out: &mut [u8], n: usize)
+// Makes the first n bytes zero, so that the padding is.
+fn zero_first(out: &mut [u8], n: usize)
     requires { ⌜ n ≤ length (now out) ⌝ }
-    ensures { λ _. ⌜ now (out .exit) ≡ replicate n 0 ++ drop n (now (out .entry)) ⌝ }
+    ensures { λ _. ⌜ now (out .exit) ≡ zeroed n (now (out .entry)) ⌝ }
 {
     zero(&mut out[0..n]);
 }
@@ -132,11 +134,11 @@ fn put_codes(out: &mut [u8], b: u32, codes: &[u32])
     requires { ⌜ Room b (length (now codes)) (now out) ⌝ }
     ensures { λ _. ⌜ now (out .exit) ≡ packed b (now (codes .entry)) ++ drop (packedSize b (length (now (codes .entry)))) (now (out .entry)) ⌝ }
 {
-    clear(out, packed_size(codes.len(), b));
+    zero_first(out, packed_size(codes.len(), b));
     let mut i = 0;
     while i < codes.len() {
-        let place = place_of(i, b);
-        put_code(out, place.byte, place.bit, b, codes[i]);
+        let at = offset_of(i, b);
+        put_code(out, at.byte, at.bit, b, codes[i]);
         i += 1;
     }
 }
@@ -164,7 +166,7 @@ fn is_bad_packed(n: usize, packed: &[u8], b: u32) -> bool
     if packed.len() != packed_size(n, b) {
         return true;
     }
-    let end = place_of(n, b);
+    let end = offset_of(n, b);
     let padding = (packed.len() - end.byte) as u32 * 8 - end.bit;
     code_at(packed, end.byte, end.bit, padding) != 0
 }
@@ -174,8 +176,8 @@ fn unpacked_code(packed: &[u8], i: usize, b: u32) -> u32
     requires { ⌜ Held i b (now packed) ⌝ }
     ensures { λ r. ⌜ r ≡ numberOf (take b (drop (i * b) (toBits (now (packed .entry))))) ⌝ }
 {
-    let place = place_of(i, b);
-    code_at(packed, place.byte, place.bit, b)
+    let at = offset_of(i, b);
+    code_at(packed, at.byte, at.bit, b)
 }
 
 // Row 15, for codes that are still packed, since nothing may be written yet.

@@ -9,7 +9,7 @@ use lib.Dec.{ltb}
 use Rattle.endian.specs.Integers.{eqZ}
 use Rattle.endian.specs.Bytes.{u32, i32, u32Bytes, i32Bytes}
 
--- The field calls hits n-best hypotheses.
+-- in the literature: one of the n best hypotheses
 pub record Hit : Type 0 where
   pub score : ℤ
   pub code : ℕ

@@ -5,7 +5,7 @@ use lib.IntN.{ℤ, pos, negsuc, _+ℤ_, _*ℤ_}
 use lib.Signed.{_≤ℤ_, _<ℤ_}
 use Rattle.call.specs.declared.Refusal.the-variants.{Frames}
 use Rattle.call.specs.Table.{Answer, value, refused, on, unless}
-use Rattle.call.specs.Limits.{badLength}
+use Rattle.call.specs.Limits.{badFrameCount}
 use Rattle.ranking.specs.declared.MeanScore.{MeanScore}
 use Rattle.ranking.specs.declared.MeanScore.the-variants.{Value, Refused}
 
@@ -19,7 +19,7 @@ mean score T = floorQuotient score T
 
 -- the mean as a call
 unfoldable pub meanAnswer : ℤ → ℕ → Answer ℤ
-meanAnswer score T = unless (on Frames (badLength T) ∷ []) (mean score T)
+meanAnswer score T = unless (on Frames (badFrameCount T) ∷ []) (mean score T)
 
 -- the answer that each case of the code's enum is
 abbrev pub meanOf : MeanScore → Answer ℤ

@@ -4,6 +4,7 @@ use mathlib.Core.List.{List, [], _∷_, _++_, flatMap}
 use lib.IntN.{ℤ, pos, negsuc}
 use lib.ListN.{length, take, drop, replicate}
 use Rattle.endian.specs.Bytes.{u8, u16}
+use Rattle.call.specs.Limits.{workSpace}
 use Rattle.call.specs.Table.{Answer, value, refused, number}
 use Rattle.graph.specs.Graph.{Graph, graphOf, wordCount}
 use Rattle.graph.specs.Words.{wordOfCode}
@@ -85,4 +86,4 @@ reported v g frames n (refused r) = refusedText ++ decimal (number r) ++ (10 ∷
 unfoldable pub report : List ℕ → List ℕ
 report input =
     reported (voiceIn input) (graphOf (lexiconIn input)) (framesIn input) (countIn input)
-    (decodeAnswer (voiceIn input) (lexiconIn input) (framesIn input) (countIn input) (replicate 64000 0) (replicate 64 0))
+    (decodeAnswer (voiceIn input) (lexiconIn input) (framesIn input) (countIn input) (replicate workSpace 0) (replicate 64 0))

@@ -1,5 +1,7 @@
--- The voice model: what it holds, its fields in stored order, and its verdict (document 01, Voice model). A letter is a letter model of the
--- field (a left-to-right hidden Markov model without skips), a symbol a codebook index, a score a logarithmic probability. Assumes nothing.
+-- The voice model: what it holds, its fields in stored order, and its verdict (document 01, Voice model). In the literature: an acoustic
+-- model; a letter is a left-to-right hidden Markov model without skips, a symbol a codebook index, a score a logarithmic probability: loop and
+-- step are transitions of a state to itself and to the next, link the transition between models, emission the probability of an observation.
+-- Assumes nothing.
 use Prim.Native.Nat.{ℕ, zero, suc, _+_, _*_}
 use mathlib.Core.Bool.{Bool, true, false, cond, _&&_, _||_}
 use mathlib.Core.List.{List, [], _∷_, _++_, map, flatMap}
@@ -66,7 +68,7 @@ symbolCount v = u8 v (symbolsAt v)
 unfoldable pub impossible : ℤ
 impossible = negsuc 32767
 
--- of symbol k in state s; a symbol that the model does not have is impossible
+-- the emission score of symbol k in state s; a symbol that the model does not have is impossible
 unfoldable pub emission : List ℕ → ℕ → ℕ → ℤ
 emission v s k = cond (ltb k (symbolCount v)) (i16 v (symbolsAt v + 1 + 2 * (s * symbolCount v + k))) impossible
 

@@ -20,7 +20,7 @@ use Rattle.packing.specs.Width.{width, givenRows, badWordCount}
 use Rattle.call.specs.Buffers.{written}
 use Rattle.call.specs.Limits.{badCount, badCode}
 use Rattle.packing.specs.Packing.{packedSize, packed, unpacked, badPacked, paddedWithZeros, packAnswer, packOut, unpackAnswer, unpackOut, packRows, unpackRows}
-use Rattle.packing.specs.Places.{overlay}
+use Rattle.packing.specs.Offsets.{overlay}
 use Rattle.packing.proofs.Laws.Width.{width-enough, width-limit}
 use Rattle.packing.proofs.Laws.Stretches.{Below, length-flat, flat-at}
 use Rattle.packing.proofs.Laws.Packing.{length-packed, packed-padded, unpack-pack, pack-unpack, length-unpacked, unpacked-at}

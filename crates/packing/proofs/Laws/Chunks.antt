@@ -10,7 +10,7 @@ use lib.Pow.{pow-mono, pow-pos, pow-add, shr-shr, shr-lt, high}
 use lib.ListN.{length, take, drop, set, getD, length-drop, length-take}
 use lib.Seq.{set-split, take-add, drop-drop, length-take-le}
 use Rattle.packing.specs.Packing.{bits, numberOf, toBits}
-use Rattle.packing.specs.Places.{overlay}
+use Rattle.packing.specs.Offsets.{overlay}
 use Rattle.packing.proofs.Laws.Stretches.{below-take, below-drop, overlay-none, stretch-take, overlay-more, overlay-inner}
 use Rattle.packing.proofs.Laws.Bits.{below-toBits, number-below, number-of-none, length-bits, bits-mod, bits-add, bits-low, take-bits, drop-bits, number-bits-mod, number-of-append, toBits-cons, toBits-append, toBits-take, toBits-drop, toBits-at, length-toBits}
 

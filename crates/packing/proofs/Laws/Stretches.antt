@@ -8,7 +8,7 @@ use native.Mathlib.Numerals.{add-one}
 use native.Mathlib.Omega.{arith}
 use lib.ListN.{length, take, drop, getD, replicate, length-append, length-take, length-drop, take-append-drop}
 use lib.Seq.{sets, sets-eq, take-suc, take-nil, drop-nil, length-take-le, take-at, take-take, drop-drop, take-add, drop-append-le, take-append-add, drop-append-add}
-use Rattle.packing.specs.Places.{overlay}
+use Rattle.packing.specs.Offsets.{overlay}
 
 -- ---- lists of numbers below k
 

@@ -13,7 +13,7 @@ use Rattle.packing.proofs.is_bad_packed.Statement.{statement}
 use Rattle.packing.proofs.is_bad_packed.Tie as tie
 
 -- the bytes end within 7 bits of the codes
-ends : (c : tie.After-place-of) →
+ends : (c : tie.After-offset-of) →
     let a = c .before .before .before .before .args in
     let bytes = length (a .packed .now) in
     (bytes ≡ packedSize (a .b) (a .n)) × (a .n * a .b ≤ bytes * 8) × (bytes * 8 ≤ a .n * a .b + 7) × (a .n * a .b ≤ 160)
@@ -32,22 +32,22 @@ unfolding badPacked
 returns c = rw (← c .before .packed-size .ensures, ne-eqb _ _ (c .if1 .taken))
 
 sub-padding : tie.Need-sub-padding
-sub-padding c = let h = ends (c .before) in omega (arith, c .before .place-of .ensures .place)
+sub-padding c = let h = ends (c .before) in omega (arith, c .before .offset-of .ensures .offset)
 
 cast-padding : tie.Need-cast-padding
-cast-padding c = let h = ends (c .before) in omega (arith, c .before .place-of .ensures .place)
+cast-padding c = let h = ends (c .before) in omega (arith, c .before .offset-of .ensures .offset)
 
 mul-padding : tie.Need-mul-padding
-mul-padding c = let h = ends (c .before) in omega (arith, c .before .place-of .ensures .place)
+mul-padding c = let h = ends (c .before) in omega (arith, c .before .offset-of .ensures .offset)
 
 sub-padding-2 : tie.Need-sub-padding-2
-sub-padding-2 c = let h = ends (c .before .before) in omega (arith, c .before .before .place-of .ensures .place)
+sub-padding-2 c = let h = ends (c .before .before) in omega (arith, c .before .before .offset-of .ensures .offset)
 
 code-at-requires : tie.Need-code-at-requires
 code-at-requires c κs =
     let h = ends (c .before .before) in
-    let p = c .before .before .place-of .ensures in
-    record { within = p .within; short = omega (arith, p .place); room = omega (arith, p .place) }
+    let p = c .before .before .offset-of .ensures in
+    record { within = p .within; short = omega (arith, p .offset); room = omega (arith, p .offset) }
 
 returns-2 : tie.Need-returns-2
 unfolding badPacked
@@ -55,11 +55,11 @@ returns-2 c =
     let d = c .before .before .before in
     let a = d .before .before .before .before .args in
     let h = ends d in
-    let p = d .place-of .ensures in
-    let m = (length (a .packed .now) - d .place-of .result .byte) * 8 - d .place-of .result .bit in
+    let p = d .offset-of .ensures in
+    let m = (length (a .packed .now) - d .offset-of .result .byte) * 8 - d .offset-of .result .bit in
     let e : c .code-at .result ≡ numberOf (take m (drop (a .n * a .b) (toBits (a .packed .now)))) =
-    c .code-at .ensures ∙ ap (λ (k : ℕ). numberOf (take m (drop k (toBits (a .packed .now))))) (p .place) in
-    rw (eq-eqb _ _ (h .0), padding-zero (a .b) (a .n) m (a .packed .now) (omega (arith, p .place)), e)
+    c .code-at .ensures ∙ ap (λ (k : ℕ). numberOf (take m (drop k (toBits (a .packed .now))))) (p .offset) in
+    rw (eq-eqb _ _ (h .0), padding-zero (a .b) (a .n) m (a .packed .now) (omega (arith, p .offset)), e)
 
 pub is-bad-packed-spec : {M : Type 1} → statement M
 is-bad-packed-spec =

@@ -7,7 +7,7 @@ use Rattle.call.specs.Table.{answerOf, unless}
 use Rattle.packing.specs.Width.{width, givenRows, badWordCount}
 use Rattle.call.specs.Limits.{badCount, badCode}
 use Rattle.packing.specs.Packing.{packAnswer, packedSize, packRows}
-use Rattle.packing.specs.Places.{Small}
+use Rattle.packing.specs.Offsets.{Small}
 use Rattle.endian.specs.Lists.{any}
 use lib.ListN.{length}
 use mathlib.Core.Bool.{false}
@@ -60,7 +60,9 @@ returns-3 c = rw (words-good (c .before .before .before .before), count-good (c 
 
 width-of-requires : tie.Need-width-of-requires
 unfolding badWordCount
-width-of-requires c κs = inside 1 1048576 _ (words-good (c .before .before .before .before))
+width-of-requires c κs =
+    let d = c .before .before .before .before in
+    inside 1 1048576 (d .before .before .before .before .args .words) (words-good d) .0
 
 returns-4 : tie.Need-returns-4
 unfolding packAnswer packRows givenRows unless

@@ -10,7 +10,7 @@ use Rattle.call.specs.Table.{answerOf, unless}
 use Rattle.packing.specs.Width.{width, givenRows, badWordCount}
 use Rattle.call.specs.Limits.{badCount, badCode}
 use Rattle.packing.specs.Packing.{unpackAnswer, unpacked, badPacked, unpackRows}
-use Rattle.packing.specs.Places.{Small}
+use Rattle.packing.specs.Offsets.{Small}
 use Rattle.packing.proofs.Laws.Width.{width-limit}
 use Rattle.packing.proofs.Laws.Calls.{inside, good-packed}
 use Rattle.packing.proofs.judge_unpack.Statement.{statement}
@@ -55,7 +55,9 @@ returns-2 c = rw (words-good (c .before .before), sym (c .before .outside2 .ensu
 
 width-of-requires : tie.Need-width-of-requires
 unfolding badWordCount
-width-of-requires c κs = inside 1 1048576 _ (words-good (c .before .before))
+width-of-requires c κs =
+    let d = c .before .before in
+    inside 1 1048576 (d .before .before .before .before .args .words) (words-good d) .0
 
 returns-3 : tie.Need-returns-3
 unfolding unpackAnswer unpackRows givenRows unless

@@ -48,7 +48,7 @@ pack-spec =
     (tie.spec
     (λ c κs. search needs)
     (λ c. search needs)
-    (λ c κs. accepted (c .before) .words)
+    (λ c κs. accepted (c .before) .words .0)
     put-codes-requires
     (λ c. search needs)
     (λ c. search needs)

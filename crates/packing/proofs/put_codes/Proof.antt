@@ -8,8 +8,9 @@ use native.Mathlib.Omega.{arith}
 use borrow.Author.Needs.{needs}
 use lib.Seq.{take-all}
 use lib.ListN.{length, getD, take, drop, replicate}
+use Rattle.call.specs.Buffers.{zeroed}
 use Rattle.packing.specs.Packing.{bits, toBits}
-use Rattle.packing.specs.Places.{overlay}
+use Rattle.packing.specs.Offsets.{overlay}
 use Rattle.packing.proofs.Laws.Stretches.{overlay-next, overlay-none, Below, below-each}
 use Rattle.packing.proofs.Laws.Bits.{length-bits}
 use Rattle.packing.proofs.Laws.Packing.{put-all-codes, size-enough}
@@ -26,7 +27,7 @@ abbrev μ-loop : tie.MeasureT-loop
 loop-holds : tie.Need-loop-holds Inv-loop μ-loop
 unfolding flatMap
 loop-holds c =
-    let out = c .before .before .clear .last .0 in
+    let out = c .before .before .zero-first .last .0 in
     (search needs, refl, below-each 256 out (λ i. c .slice-known2 .given i .fits), sym (overlay-none 0 (toBits out)))
 
 put-code-requires : tie.Need-put-code-requires Inv-loop μ-loop
@@ -34,15 +35,15 @@ put-code-requires c κs =
     let start = c .before .before .before .before .before .before .before .before .before .before .before .before in
     let a = start .args in
     let h = start .pre in
-    let p = c .before .before .place-of .ensures in
+    let p = c .before .before .offset-of .ensures in
     let l = c .before .before .before .before .loop in
-    let kept = c .before .before .before .before .before .before .before .clear .kept .0 in
+    let kept = c .before .before .before .before .before .before .before .zero-first .kept .0 in
     let n = length (a .codes .now) in
     let next : l .i + 1 ≤ n = search needs in
     record {
       within = p .within;
       short = h .small .short;
-      room = omega (arith, p .place, l .inv .1, kept, h .fits, mul-le-mul-right (a .b) next, add-mul (l .i) 1 (a .b), size-enough (a .b) n);
+      room = omega (arith, p .offset, l .inv .1, kept, h .fits, mul-le-mul-right (a .b) next, add-mul (l .i) 1 (a .b), size-enough (a .b) n);
     }
 
 loop-again : tie.Need-loop-again Inv-loop μ-loop
@@ -54,16 +55,17 @@ loop-again c =
       c .before .before .put-code .kept .0 ∙ l .inv .1,
       below-each 256 out (λ i. c .slice-known3 .given i .fits),
       c .before .before .put-code .ensures
-          ∙ ap₂ (λ (p : ℕ) (t : List ℕ). overlay p (bits (a .b) (getD (a .codes .now) (l .i) 0)) t) (c .before .before .before .before .before .place-of .ensures .place) (l .inv .3)
+          ∙ ap₂ (λ (p : ℕ) (t : List ℕ). overlay p (bits (a .b) (getD (a .codes .now) (l .i) 0)) t) (c .before .before .before .before .before .offset-of .ensures .offset) (l .inv .3)
           ∙ overlay-next (bits (a .b)) (a .b) (length-bits (a .b)) (l .i) (a .codes .now) _ (search needs),
     )
 
 returns : tie.Need-returns Inv-loop μ-loop
+unfolding zeroed
 returns c =
     let known = c .before .before .before .before .before .before .before .before in
     let a = known .before .args in
     let l = c .before .loop in
-    let k = c .before .before .before .before .clear in
+    let k = c .before .before .before .before .zero-first in
     let size = c .before .before .before .before .before .packed-size in
     put-all-codes (a .b) (a .codes .now) (l .out) (a .out .now) (l .inv .2)
     (below-each 256 (a .out .now) (λ i. known .slice-known .given i .fits))

@@ -8,7 +8,7 @@ use lib.ListN.{length, getD, take}
 use lib.Seq.{take-all}
 use Rattle.endian.specs.Bytes.{u32Bytes}
 use Rattle.packing.specs.Packing.{unpacked}
-use Rattle.packing.specs.Places.{overlay}
+use Rattle.packing.specs.Offsets.{overlay}
 use Rattle.packing.proofs.Laws.Stretches.{overlay-none, overlay-next}
 use Rattle.packing.proofs.Laws.Packing.{held, length-unpacked, unpacked-at}
 use Rattle.packing.proofs.put_unpacked.Statement.{statement}

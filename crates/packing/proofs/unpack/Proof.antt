@@ -7,7 +7,7 @@ use borrow.Author.Needs.{needs}
 use Rattle.endian.specs.Bytes.{u32Bytes}
 use Rattle.call.specs.Table.{answerOf, value}
 use Rattle.packing.specs.Packing.{unpacked, unpackAnswer}
-use Rattle.packing.specs.Places.{overlay}
+use Rattle.packing.specs.Offsets.{overlay}
 use Rattle.packing.proofs.Laws.Width.{width-limit}
 use Rattle.packing.proofs.Laws.Calls.{Unpacks, unpacks, unpack-written, unpack-refused}
 use Rattle.packing.proofs.unpack.Statement.{statement}
@@ -51,7 +51,7 @@ unpack-spec =
     (tie.spec
     (λ c κs. search needs)
     (λ c. search needs)
-    (λ c κs. accepted (c .before) .words)
+    (λ c κs. accepted (c .before) .words .0)
     put-unpacked-requires
     (λ c. search needs)
     (λ c. search needs)

@@ -19,7 +19,7 @@ words-good c = sym (c .before .outside .ensures) ∙ c .if1 .left
 
 width-of-requires : tie.Need-width-of-requires
 unfolding badWordCount
-width-of-requires c κs = inside 1 1048576 _ (words-good c)
+width-of-requires c κs = inside 1 1048576 (c .before .before .args .words) (words-good c) .0
 
 returns-2 : tie.Need-returns-2
 unfolding widthAnswer givenRows unless

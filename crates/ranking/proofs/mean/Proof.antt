@@ -12,17 +12,17 @@ use borrow.Author.Needs.{needs}
 use Rattle.call.specs.Table.{value, unless}
 use Rattle.endian.proofs.Ranges.{inside, below, above}
 use Rattle.endian.proofs.Signed.{toZ-low, flip-fits, flip-is, is-neg, is-pos, negated-fits, negated-is}
-use Rattle.call.specs.Limits.{badLength}
+use Rattle.call.specs.Limits.{badFrameCount}
 use Rattle.ranking.specs.Mean.{meanAnswer, mean, floorQuotient}
 use Rattle.ranking.proofs.mean.Statement.{statement}
 use Rattle.ranking.proofs.mean.Tie as tie
 
 returns : tie.Need-returns
-unfolding meanAnswer badLength unless
+unfolding meanAnswer badFrameCount unless
 returns c = rw (below 1 1000 (c .before .args .frames) (omega arith))
 
 returns-2 : tie.Need-returns-2
-unfolding meanAnswer badLength unless
+unfolding meanAnswer badFrameCount unless
 returns-2 c = rw (above 1 1000 (c .before .before .args .frames) (omega arith))
 
 -- a quotient is below 2^31 where the dividend is
@@ -50,7 +50,7 @@ sub-t8 c =
     rw (flipped c) (negated-fits w32 (mag (s .args .score) / s .args .frames) (small (mag (s .args .score)) (s .args .frames) (s .fits .score .sfits)))
 
 returns-3 : tie.Need-returns-3
-unfolding meanAnswer badLength unless mean floorQuotient
+unfolding meanAnswer badFrameCount unless mean floorQuotient
 returns-3 c =
     let s = c .before .before .before in
     let n = mag (s .args .score) in
@@ -72,7 +72,7 @@ cast-t12 c =
     rw (positive c) (record { sfits = small (mag (s .args .score)) _ (s .fits .score .sfits) })
 
 returns-4 : tie.Need-returns-4
-unfolding meanAnswer badLength unless mean floorQuotient
+unfolding meanAnswer badFrameCount unless mean floorQuotient
 returns-4 c =
     let s = c .before .before .before in
     let n = mag (s .args .score) in

@@ -8,7 +8,7 @@ use borrow.Author.Needs.{needs}
 use lib.Pow.{pow-pos}
 use lib.ListN.{length, length-set}
 use Rattle.packing.specs.Packing.{bits, toBits}
-use Rattle.packing.specs.Places.{overlay}
+use Rattle.packing.specs.Offsets.{overlay}
 use Rattle.packing.proofs.Laws.Bits.{length-toBits}
 use Rattle.packing.proofs.Laws.Chunks.{put-none, put-step, put-all}
 use Rattle.packing.proofs.bits.put_code.Statement.{statement}
@@ -26,16 +26,16 @@ loop-holds : tie.Need-loop-holds Inv-loop μ-loop
 loop-holds c = (search needs, search needs, refl, put-none _ _ _ _)
 
 rem-chunk : tie.Need-rem-chunk Inv-loop μ-loop
-rem-chunk c = rw (c .power .ensures) (pow-pos (c .before .smaller .result))
+rem-chunk c = rw (c .power .ensures) (pow-pos (c .before .least .result))
 
 with-chunk-requires : tie.Need-with-chunk-requires Inv-loop μ-loop
-with-chunk-requires c κs = (search needs, rw (c .before .power .ensures) (mod-lt _ (pow-pos (c .before .before .smaller .result))))
+with-chunk-requires c κs = (search needs, rw (c .before .power .ensures) (mod-lt _ (pow-pos (c .before .before .least .result))))
 
 loop-again : tie.Need-loop-again Inv-loop μ-loop
 loop-again c =
     let a = c .before .before .before .before .before .before .before .args in
     let l = c .before .before .before .before .before .loop in
-    let size = c .before .before .before .smaller .result in (
+    let size = c .before .before .before .least .result in (
       search needs,
       search needs,
       simp length-set (l .inv .2),

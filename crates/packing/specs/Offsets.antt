@@ -23,7 +23,7 @@ pub record Small (n b : ℕ) : Type 0 where
 -- code i, of b bits, begins at bit `bit` of byte `byte`
 pub record Begins (i b byte bit : ℕ) : Type 0 where
   pub within : bit < 8
-  pub place : byte * 8 + bit ≡ i * b
+  pub offset : byte * 8 + bit ≡ i * b
 
 -- code i, of b bits, lies in the bytes
 pub record Held (i b : ℕ) (bytes : List ℕ) : Type 0 where

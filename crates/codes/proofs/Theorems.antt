@@ -1,0 +1,101 @@
+-- The theorems of specs/Theorems.antt: the first path that spells a word is the only one, since different full paths spell different words.
+-- Assumes nothing.
+use Prim.Native.Nat.{ℕ, _<_}
+use mathlib.Core.Path.{_≡_, refl, sym, ap, _∙_}
+use mathlib.Core.Bool.{Bool, true, false, true≢false}
+use mathlib.Core.Logic.{_↔_}
+use mathlib.Core.List.{List, [], _∷_, _++_, map, flatMap, List·Memᴰ}
+use mathlib.Core.Option.{some, none}
+use native.Mathlib.Omega.{arith}
+use lib.ListN.{length, getD}
+use Rattle.endian.specs.Lists.{from, same, isNone}
+use Rattle.endian.proofs.Lists.{mem-getD, first-none, first-at, same-eq, same-refl, from-out, flatMap-cong, flatMap-map, by-index}
+use Rattle.voice.specs.Voice.{letterCount}
+use Rattle.graph.specs.Graph.{graphOf, fullPaths, pathCode, wordCount}
+use Rattle.graph.specs.Words.{wordOfPath, LexiconWord, pathOfWord, codeOf, wordOfCode}
+use Rattle.graph.specs.Checking.{Accepted}
+use Rattle.graph.specs.Theorems.{PathTheorems}
+use Rattle.graph.proofs.Sound.{Sound, sound}
+use Rattle.graph.proofs.Codes.{code-at}
+use Rattle.graph.proofs.Paths.{at-code}
+use Rattle.graph.proofs.Accepted.{accepted}
+use Rattle.graph.proofs.Theorems.{path-theorems}
+use Rattle.codes.specs.Lookup.{listing}
+use Rattle.codes.specs.Theorems.{CodeTheorems}
+
+-- the full path of index c, and its word
+abbrev pathAt : List ℕ → ℕ → List ℕ
+pathAt x c = getD (fullPaths (graphOf x)) c []
+
+abbrev wordAt : List ℕ → List ℕ → ℕ → List ℕ
+wordAt v x c = wordOfPath v (graphOf x) (pathAt x c)
+
+module _ (v x : List ℕ) (h : Accepted v x) where
+  known : PathTheorems v (graphOf x)
+  known = path-theorems v x h
+
+  ok : Sound (graphOf x)
+  ok = sound (letterCount v) x (accepted h .lexicon)
+
+  -- no path before it spells its word, so it is the one that is found
+  found : (c : ℕ) → c < wordCount (graphOf x) → pathOfWord v (graphOf x) (wordAt v x c) ≡ some (pathAt x c)
+  unfolding pathOfWord
+  found c k =
+      first-at (λ p. same (wordOfPath v (graphOf x) p) (wordAt v x c)) (fullPaths (graphOf x)) c [] (omega (arith, known .counted)) (same-refl (wordAt v x c))
+      (λ j l. other j l (same (wordAt v x j) (wordAt v x c)) refl)
+    where
+      other : (j : ℕ) → j < c → (b : Bool) → same (wordAt v x j) (wordAt v x c) ≡ b → same (wordAt v x j) (wordAt v x c) ≡ false
+      other j l true e = absurd (omega (arith, known .different-words j c (omega arith) k (same-eq (wordAt v x j) (wordAt v x c) e)))
+      other j l false e = e
+
+  code-found : (c : ℕ) → c < wordCount (graphOf x) → codeOf (graphOf x) (pathOfWord v (graphOf x) (wordAt v x c)) ≡ c
+  unfolding codeOf
+  code-found c k = rw (found c k) (code-at ok k)
+
+  -- a lexicon word is the word of some index
+  record Indexed (word : List ℕ) : Type 0 where
+    index : ℕ
+    below : index < wordCount (graphOf x)
+    spells : wordAt v x index ≡ word
+
+  indexed : {word : List ℕ} → LexiconWord v (graphOf x) word → Indexed word
+  indexed w =
+      let a = at-code ok (known .full (w .path) .1 (w .full)) in
+      record { index = pathCode (graphOf x) (w .path); below = a .0; spells = ap (wordOfPath v (graphOf x)) (a .1) ∙ w .spells }
+
+  code-is : {word : List ℕ} (i : Indexed word) → codeOf (graphOf x) (pathOfWord v (graphOf x) word) ≡ i .index
+  code-is i = ap (λ w. codeOf (graphOf x) (pathOfWord v (graphOf x) w)) (sym (i .spells)) ∙ code-found (i .index) (i .below)
+
+  of-path : (p : List ℕ) → List·Memᴰ p (fullPaths (graphOf x)) → LexiconWord v (graphOf x) (wordOfPath v (graphOf x) p)
+  of-path p m = record { path = p; full = known .full p .0 m; spells = refl }
+
+  nowhere : (word : List ℕ) → (isNone (pathOfWord v (graphOf x) word) ≡ true) ↔ (¬ LexiconWord v (graphOf x) word)
+  unfolding isNone pathOfWord
+  nowhere word = (
+    λ e w. let i = indexed w in true≢false (sym e ∙ ap isNone (ap (pathOfWord v (graphOf x)) (sym (i .spells)) ∙ found (i .index) (i .below))),
+    λ n. ap isNone (first-none (λ p. same (wordOfPath v (graphOf x) p) word) (fullPaths (graphOf x)) (λ p m. fails n p m (same (wordOfPath v (graphOf x) p) word) refl)),
+  )
+    where
+      fails : ¬ LexiconWord v (graphOf x) word → (p : List ℕ) → List·Memᴰ p (fullPaths (graphOf x)) → (b : Bool)
+          → same (wordOfPath v (graphOf x) p) word ≡ b → same (wordOfPath v (graphOf x) p) word ≡ false
+      fails n p m true e = absurd (n (record { path = p; full = known .full p .0 m; spells = same-eq (wordOfPath v (graphOf x) p) word e }))
+      fails n p m false e = e
+
+  all-listed : listing v (graphOf x) ≡ flatMap (λ c. wordOfCode v (graphOf x) c ++ (10 ∷ [])) (from 0 (wordCount (graphOf x)))
+  unfolding listing
+  all-listed =
+      ap (flatMap (λ p. wordOfPath v (graphOf x) p ++ (10 ∷ []))) (sym (ap (λ n. map (pathAt x) (from 0 n)) (sym (known .counted)) ∙ by-index [] (fullPaths (graphOf x)) (fullPaths (graphOf x)) 0 refl))
+      ∙ flatMap-map (λ p. wordOfPath v (graphOf x) p ++ (10 ∷ [])) (pathAt x) (from 0 (wordCount (graphOf x)))
+      ∙ flatMap-cong _ _ (from 0 (wordCount (graphOf x))) (λ c m. ap (λ w. w ++ (10 ∷ [])) (sym (known .word-of-code c (omega (arith, from-out 0 (wordCount (graphOf x)) m)))))
+
+pub code-theorems : (v x : List ℕ) → Accepted v x → CodeTheorems v (graphOf x)
+code-theorems v x h =
+    let T = known v x h in
+    record {
+      no-word = nowhere v x h;
+      code-below = λ word w. let i = indexed v x h w in rw (code-is v x h i) (i .below);
+      word-back = λ word w. let i = indexed v x h w in rw (code-is v x h i) (T .word-of-code (i .index) (i .below) ∙ i .spells);
+      word-there = λ c k. rw (T .word-of-code c k) (of-path v x h (pathAt x c) (mem-getD (fullPaths (graphOf x)) c [] (omega (arith, T .counted))));
+      code-back = λ c k. rw (T .word-of-code c k) (code-found v x h c k);
+      listed = all-listed v x h;
+    }

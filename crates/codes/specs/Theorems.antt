@@ -1,0 +1,23 @@
+-- What is proved of words and codes of every accepted lexicon, in document 01's words (Lexicon; demand 2). proofs/Theorems.antt proves it.
+-- Assumes nothing.
+use Prim.Native.Nat.{ℕ, _<_}
+use mathlib.Core.Path.{_≡_}
+use mathlib.Core.Bool.{true}
+use mathlib.Core.Logic.{_↔_}
+use mathlib.Core.List.{List, [], _∷_, _++_, flatMap}
+use Rattle.endian.specs.Lists.{from, isNone}
+use Rattle.graph.specs.Graph.{Graph, wordCount}
+use Rattle.graph.specs.Words.{LexiconWord, pathOfWord, codeOf, wordOfCode}
+use Rattle.codes.specs.Lookup.{listing}
+
+pub record CodeTheorems (v : List ℕ) (g : Graph) : Type 0 where
+  -- 13: the bytes given spell no word exactly where they are no lexicon word
+  pub no-word : (word : List ℕ) → (isNone (pathOfWord v g word) ≡ true) ↔ (¬ LexiconWord v g word)
+  -- a lexicon word's code is below W, and code to word gives the word back
+  pub code-below : (word : List ℕ) → LexiconWord v g word → codeOf g (pathOfWord v g word) < wordCount g
+  pub word-back : (word : List ℕ) → LexiconWord v g word → wordOfCode v g (codeOf g (pathOfWord v g word)) ≡ word
+  -- each number below W is the code of a lexicon word, and word to code gives it back
+  pub word-there : (c : ℕ) → c < wordCount g → LexiconWord v g (wordOfCode v g c)
+  pub code-back : (c : ℕ) → c < wordCount g → codeOf g (pathOfWord v g (wordOfCode v g c)) ≡ c
+  -- the listing is the words of the codes 0, 1, .., W - 1, each followed by byte 10
+  pub listed : listing v g ≡ flatMap (λ c. wordOfCode v g c ++ (10 ∷ [])) (from 0 (wordCount g))
