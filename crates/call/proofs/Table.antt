@@ -23,6 +23,9 @@ none-append (r ∷ rows) more = go (not (r .applies)) (none-append rows more)
 pub none-join : (rows more : List Row) → noneApplies rows ≡ true → noneApplies more ≡ true → noneApplies (rows ++ more) ≡ true
 none-join rows more h k = none-append rows more ∙ and-in h k
 
+pub none-parts : (rows more : List Row) → noneApplies (rows ++ more) ≡ true → (noneApplies rows ≡ true) × (noneApplies more ≡ true)
+none-parts rows more h = and-out (noneApplies rows) (noneApplies more) (sym (none-append rows more) ∙ h)
+
 -- each row, one after the other, does not apply
 abbrev pub EachPassed : List Row → Type 0
 EachPassed [] = Unit {0}

@@ -8,3 +8,5 @@ pub mod Literal
 pub mod Limits
 pub mod Row
 pub mod Theorems
+pub mod Listed
+pub mod Demanded

@@ -2,6 +2,7 @@ pub mod Open
 pub mod Booleans
 pub mod Lists
 pub mod Pairs
+pub mod Pigeonhole
 pub mod Ranges
 pub mod Signed
 pub mod Differences

@@ -9,7 +9,7 @@ use Prim.Native.Nat.{ℕ, zero, suc, _+_, _≤_, _<_}
 use native.Mathlib.Nat.{add-assoc, zero-add, add-zero, suc-add, add-suc}
 use native.Mathlib.Decide.{ℕ-discrete}
 use native.Mathlib.Omega.{arith}
-use lib.ListN.{length, getD, drop, length-append}
+use lib.ListN.{length, getD, take, drop, length-append, take-append-drop}
 use lib.Seq.{getD-drop, drop-drop}
 use native.Mathlib.Numerals.{add-one}
 use lib.Dec.{eqb}
@@ -34,6 +34,20 @@ module _ {A : Type 0} where
   pub place : (d : A) {a : A} {l : List A} → List·Memᴰ a l → Place l d a
   place d (List·Memᴰ·head e) = record { index = 0; inside = omega arith; holds = sym e }
   place d (List·Memᴰ·tail m) = let u = place d m in let h = u .inside in record { index = suc (u .index); inside = omega arith; holds = u .holds }
+
+  pub take-out : (n : ℕ) (l : List A) {a : A} → List·Memᴰ a (take n l) → List·Memᴰ a l
+  take-out n l m = rw (take-append-drop n l) at (Memᴰ·append-left (drop n l) m)
+
+  -- a member has what can be decided, or none has it
+  pub some-or-none : {P : A → Type 0} → ((a : A) → Dec (P a)) → (l : List A) → ((a : A) × List·Memᴰ a l × P a) ⊎ ((a : A) → List·Memᴰ a l → ¬ P a)
+  some-or-none d [] = inr (λ b m. absurd (List·Memᴰ·not-nil m))
+  some-or-none {P} d (a ∷ l) = elim (d a) [
+    | yes p ↦ inl (a, List·Memᴰ·head refl, p)
+    | no n ↦ ⊎-elim
+        (λ s. inl (s .0, List·Memᴰ·tail (s .1), s .2))
+        (λ f. inr (λ b m p. ⊎-elim (λ e. n (rw e at p)) (λ k. f b k p) (List·Memᴰ·cases-cons m)))
+        (some-or-none d l)
+  ]
 
   -- the first that passes: there is none, or what stands at i with none before it
   pub first-none : (p : A → Bool) (l : List A) → ((a : A) → List·Memᴰ a l → p a ≡ false) → first p l ≡ none

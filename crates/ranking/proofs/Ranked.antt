@@ -13,13 +13,19 @@ use Rattle.endian.proofs.Pairs.{Pairs, none, next}
 use Rattle.ranking.specs.Hits.{Hit, _≻_, higher, tied, outranks, insert, ranked}
 use Rattle.ranking.proofs.Hits.{outranks-is}
 
--- ---- the order is transitive, and total between hits of different codes
+-- ---- the order is transitive, never goes both ways, and is total between hits of different codes
 
 pub ≻-trans : {a b c : Hit} → a ≻ b → b ≻ c → a ≻ c
 ≻-trans (higher h) (higher k) = higher (omega (arith, ints))
 ≻-trans (higher h) (tied e k) = higher (omega (arith, ints))
 ≻-trans (tied e h) (higher k) = higher (omega (arith, ints))
 ≻-trans (tied e h) (tied f k) = tied (e ∙ f) (omega arith)
+
+pub ≻-asym : {a b : Hit} → a ≻ b → ¬ (b ≻ a)
+≻-asym (higher h) (higher k) = omega (arith, ints)
+≻-asym (higher h) (tied f k) = omega (arith, ints)
+≻-asym (tied e h) (higher k) = omega (arith, ints)
+≻-asym (tied e h) (tied f k) = omega arith
 
 abbrev pub Differ : Hit → Hit → Type 0
 Differ a b = ¬ (a .code ≡ b .code)
