@@ -37,7 +37,7 @@ fn arcs_at(lexicon: &[u8], vertex: usize) -> usize
 }
 
 // The part of the image that holds the successors of a vertex, for any bytes and any vertex: empty where the vertex is above the N read there or
-// the bytes end before its list does. Where an empty part begins is left free.
+// the bytes end before its list does. Only its bytes are promised, not where in the image they lie.
 pub fn successors(lexicon: &[u8], vertex: usize) -> &[u8]
     ensures { λ r. ⌜ now r ≡ successorPart (now (lexicon .entry)) vertex ⌝ }
 {
