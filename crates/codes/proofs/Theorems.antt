@@ -5,9 +5,9 @@ use mathlib.Core.Path.{_≡_, refl, sym, ap, _∙_}
 use mathlib.Core.Bool.{Bool, true, false, true≢false}
 use mathlib.Core.Logic.{_↔_}
 use mathlib.Core.List.{List, [], _∷_, _++_, map, flatMap, List·Memᴰ}
-use mathlib.Core.Option.{some, none}
+use mathlib.Core.Option.{some}
 use native.Mathlib.Omega.{arith}
-use lib.ListN.{length, getD}
+use lib.ListN.{getD}
 use Rattle.endian.specs.Lists.{from, same, isNone}
 use Rattle.endian.proofs.Lists.{mem-getD, first-none, first-at, same-eq, same-refl, from-out, flatMap-cong, flatMap-map, by-index}
 use Rattle.voice.specs.Voice.{letterCount}

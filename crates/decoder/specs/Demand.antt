@@ -1,13 +1,13 @@
 -- Demand 3 in the customer's sentences, of what decoding leaves. A word is its print bytes, a state path is the literal one, and the list is
 -- read back from the output's bytes (document 01, State paths and hits). Assumes nothing.
-use Prim.Native.Nat.{ℕ, suc, _+_, _-_, _≤_, _<_}
+use Prim.Native.Nat.{ℕ, _-_, _≤_, _<_}
 use mathlib.Core.Path.{_≡_}
 use mathlib.Core.Logic.{_⊎_}
-use mathlib.Core.List.{List, [], _∷_, List·Memᴰ}
+use mathlib.Core.List.{List, [], List·Memᴰ}
 use lib.IntN.{ℤ, pos}
 use lib.Signed.{_≤ℤ_}
 use lib.ListN.{length, getD, take}
-use Rattle.call.specs.Table.{Answer, value}
+use Rattle.call.specs.Table.{value}
 use Rattle.voice.specs.Voice.{letterCount}
 use Rattle.graph.specs.Graph.{Graph, graphOf, wordCount}
 use Rattle.graph.specs.Words.{spelled, LexiconWord, wordOfCode}

@@ -19,9 +19,9 @@ pub struct Score(pub u32);
 impl Score {
     // No token. It stands outside all sums: a sum of scores may well be -32,768.
     pub const IMPOSSIBLE: Score = Score(0);
-    // -65,501,233 and 65,501,233: 1,000 emissions and 999 moves of at most 32,767 each
+    // -65,501,233: 1,000 emissions and 999 moves of at least -32,767 each.
     pub const LOWEST: Score = Score(68716495);
-
+    // 65,501,233: as many of at most 32,767 each.
     pub const HIGHEST: Score = Score(199718961);
 
     pub fn impossible() -> Score

@@ -14,7 +14,7 @@ use Rattle.voice.specs.Fields.{Verdict, wellFormed, wrongLength, outOfRange, ha
 use Rattle.voice.specs.Voice.{letterCount, voiceVerdict, voiceRows}
 use Rattle.lexicon.specs.Lexicon.{lexiconVerdict, nodeCount}
 use Rattle.lexicon.proofs.WellFormed.{letter-known}
-use Rattle.graph.specs.Graph.{Graph, graphOf, isNode, pathLetters, wordCount}
+use Rattle.graph.specs.Graph.{graphOf, isNode, pathLetters, wordCount}
 use Rattle.graph.specs.Conditions.{orphan, placeCount, manyPlaces, hasLongWord, manyWords, sameLetters}
 use Rattle.graph.specs.Checking.{lexiconRows, imageRows, Accepted}
 use Rattle.graph.proofs.Spelling.{Known}

@@ -1,6 +1,6 @@
 -- Where a vertex's list stands, cut off at the end of the bytes, and the part that holds it. Once an offset is past the end it stays there,
 -- so the cut offset is all that the part depends on. Assumes nothing.
-use mathlib.Core.Path.{_≡_, refl, ap}
+use mathlib.Core.Path.{_≡_, refl}
 use mathlib.Core.Bool.{Bool, true, false, cond, _&&_}
 use mathlib.Core.List.{List, []}
 use Prim.Native.Nat.{ℕ, suc, _+_, _*_, _-_, min, _≤_, _<_}

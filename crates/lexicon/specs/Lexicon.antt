@@ -1,7 +1,7 @@
 -- The lexicon image: what it holds, its fields in stored order, and its verdict (document 01, Lexicon). In the literature: a DAWG, a
 -- directed acyclic word graph, here with the letters on the nodes. Assumes nothing.
 use Prim.Native.Nat.{ℕ, zero, suc, _+_, _*_}
-use mathlib.Core.Bool.{Bool, true, false, cond, _&&_, _||_, not}
+use mathlib.Core.Bool.{Bool, cond, _&&_, _||_, not}
 use mathlib.Core.List.{List, [], _∷_, _++_, map}
 use lib.ListN.{length, take, drop}
 use lib.Dec.{eqb, leb, ltb}

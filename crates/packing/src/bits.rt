@@ -2,7 +2,7 @@
 // one byte, so that a step handles up to eight bits.
 ghost use mathlib.Core.Path.{_≡_};
 ghost use Prim.Native.Nat.{_+_, _*_, _^_, _≤_, _<_, min};
-ghost use lib.ListN.{length, take, drop};
+ghost use lib.ListN.{take, drop};
 ghost use Rattle.packing.specs.Packing.{bits, numberOf, toBits};
 ghost use Rattle.packing.specs.Offsets.{overlay, InBytes};
 

@@ -1,7 +1,7 @@
 -- The mean is the score divided by T, rounded down: T × mean ≤ score < T × (mean + 1). From the quotient of natural numbers, by the sign.
 -- Assumes nothing.
 use Prim.Native.Nat.{ℕ, zero, suc, _+_, _*_, _/_, _≤_, _<_}
-use mathlib.Core.Path.{_≡_, refl, ap, _∙_}
+use mathlib.Core.Path.{_≡_, refl, ap}
 use native.Mathlib.Nat.{mul-zero, mul-div-le, lt-mul-div-succ}
 use native.Mathlib.Numerals.{add-one}
 use borrow.Author.Tests.{lt-ltb}

@@ -1,11 +1,11 @@
 -- Packing and unpacking as calls: what an answer with a value shows, and that the two calls undo each other. Assumes nothing.
 use Prim.Native.Nat.{ℕ, suc, _+_, _*_, _/_, _^_, _≤_, _<_}
 use mathlib.Core.Path.{_≡_, refl, sym, ap, _∙_}
-use mathlib.Core.Bool.{Bool, true, false, _&&_, _||_, not, cond}
+use mathlib.Core.Bool.{Bool, true, false, not, cond}
 use mathlib.Core.List.{List, [], _∷_, _++_, flatMap}
 use native.Mathlib.Nat.{zero-add, add-zero, lt-of-lt-of-le, div-div-eq-div-mul, mod-eq-of-lt}
 use native.Mathlib.Omega.{arith}
-use borrow.Author.Tests.{leb-true, leb-false, ltb-false, eqb-true, not-false, le-leb, le-ltb, eq-eqb}
+use borrow.Author.Tests.{leb-false, ltb-false, eqb-true, not-false, le-leb, le-ltb, eq-eqb}
 use lib.Dec.{leb, eqb}
 use lib.Pow.{pow-mono}
 use lib.ListN.{length, getD, take, drop, length-drop}

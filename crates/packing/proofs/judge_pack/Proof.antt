@@ -3,7 +3,7 @@ use mathlib.Core.Path.{_≡_, sym, _∙_}
 use native.Mathlib.Omega.{arith}
 use borrow.Author.Needs.{needs}
 use borrow.Author.Tests.{lt-ltb, le-ltb}
-use Rattle.call.specs.Table.{answerOf, unless}
+use Rattle.call.specs.Table.{unless}
 use Rattle.packing.specs.Width.{width, givenRows, badWordCount}
 use Rattle.call.specs.Limits.{badCount, badCode}
 use Rattle.packing.specs.Packing.{packAnswer, packedSize, packRows}

@@ -6,7 +6,7 @@ use borrow.Author.Needs.{needs}
 use borrow.Author.Tests.{lt-ltb, le-ltb}
 use lib.ListN.{length}
 use Rattle.endian.specs.Lists.{any}
-use Rattle.call.specs.Table.{answerOf, unless}
+use Rattle.call.specs.Table.{unless}
 use Rattle.packing.specs.Width.{width, givenRows, badWordCount}
 use Rattle.call.specs.Limits.{badCount, badCode}
 use Rattle.packing.specs.Packing.{unpackAnswer, unpacked, badPacked, unpackRows}

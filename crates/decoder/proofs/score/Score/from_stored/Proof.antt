@@ -1,5 +1,5 @@
 -- `Score::from_stored` meets its contract: 2^27 - 2^15 and a score raised by 2^15 make the score plus 2^27. Assumes nothing.
-use mathlib.Core.Path.{refl, sym, ap, _∙_}
+use mathlib.Core.Path.{sym, ap, _∙_}
 use borrow.Author.Needs.{needs}
 use Prim.Native.Nat.{_+_, _-_}
 use native.Mathlib.Omega.{arith}

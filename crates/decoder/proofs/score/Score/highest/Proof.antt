@@ -1,6 +1,5 @@
 -- `Score::highest` meets its contract: the number of HIGHEST is the limit plus 2^27. Assumes nothing.
-use mathlib.Core.Path.{refl, sym, ap, _∙_}
-use borrow.Author.Needs.{needs}
+use mathlib.Core.Path.{refl}
 use Rattle.decoder.specs.StatePaths.{scoreLimit}
 use Rattle.decoder.specs.Score.{meaning}
 use Rattle.decoder.proofs.score.Score.highest.Statement.{statement}

@@ -1,6 +1,5 @@
 -- `Score::impossible` meets its contract: the number of IMPOSSIBLE is 0. Assumes nothing.
-use mathlib.Core.Path.{refl, sym, ap, _∙_}
-use borrow.Author.Needs.{needs}
+use mathlib.Core.Path.{refl}
 use Rattle.decoder.specs.Score.{meaning}
 use Rattle.decoder.proofs.score.Score.impossible.Statement.{statement}
 use Rattle.decoder.proofs.score.Score.impossible.Tie as tie

@@ -1,6 +1,5 @@
 -- `Score::is_higher` meets its contract: biased scores are ordered as what they stand for, and 0 is below all others. Assumes nothing.
-use mathlib.Core.Path.{refl, sym, ap, _∙_}
-use borrow.Author.Needs.{needs}
+use mathlib.Core.Path.{sym}
 use Rattle.decoder.proofs.Biased.{order}
 use Rattle.decoder.proofs.score.Score.is_higher.Statement.{statement}
 use Rattle.decoder.proofs.score.Score.is_higher.Tie as tie

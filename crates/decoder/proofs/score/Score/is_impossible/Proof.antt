@@ -1,6 +1,5 @@
 -- `Score::is_impossible` meets its contract: only 0 stands for no token. Assumes nothing.
-use mathlib.Core.Path.{refl, sym, ap, _∙_}
-use borrow.Author.Needs.{needs}
+use mathlib.Core.Path.{sym}
 use Rattle.decoder.proofs.Biased.{none-is-zero}
 use Rattle.decoder.proofs.score.Score.is_impossible.Statement.{statement}
 use Rattle.decoder.proofs.score.Score.is_impossible.Tie as tie

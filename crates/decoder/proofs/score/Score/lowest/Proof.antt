@@ -1,6 +1,5 @@
 -- `Score::lowest` meets its contract: the number of LOWEST is 2^27 less the limit. Assumes nothing.
-use mathlib.Core.Path.{refl, sym, ap, _∙_}
-use borrow.Author.Needs.{needs}
+use mathlib.Core.Path.{refl}
 use Rattle.decoder.specs.StatePaths.{scoreLimit}
 use Rattle.decoder.specs.Score.{meaning}
 use Rattle.decoder.proofs.score.Score.lowest.Statement.{statement}

@@ -1,5 +1,5 @@
 -- `Score::plus` meets its contract: the sum of the numbers, less the bias of one, stands for the sum of the scores. Assumes nothing.
-use mathlib.Core.Path.{refl, sym, ap, _∙_}
+use mathlib.Core.Path.{ap, _∙_}
 use borrow.Author.Needs.{needs}
 use Prim.Native.Nat.{_+_, _-_}
 use native.Mathlib.Omega.{arith}
