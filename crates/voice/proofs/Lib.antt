@@ -2,3 +2,4 @@ pub mod Open
 pub mod Fields
 pub mod Tiling
 pub mod Letters
+pub mod Walk

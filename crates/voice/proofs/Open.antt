@@ -2,7 +2,8 @@
 -- Assumes nothing.
 use Rattle.voice.specs.Fields.{verdict, hasWrongLength, isOutOfRange}
 use Rattle.voice.specs.Voice.{printByte, states, firstState, statesAt, stateCount, loopScore, stepScore, linksAt, linkCount, linkScore, symbolsAt, symbolCount, impossible, emission, rising, letterFields, stateFields, voiceFields, voiceVerdict, voiceRows}
+use Rattle.voice.specs.Sections.{fieldVerdict, andThen, firstBad, lettersPart, statesPart, lastPart}
 
 unfoldable pub everything : Unit {0}
-unfolding verdict hasWrongLength isOutOfRange printByte states firstState statesAt stateCount loopScore stepScore linksAt linkCount linkScore symbolsAt symbolCount impossible emission rising letterFields stateFields voiceFields voiceVerdict voiceRows
+unfolding verdict hasWrongLength isOutOfRange printByte states firstState statesAt stateCount loopScore stepScore linksAt linkCount linkScore symbolsAt symbolCount impossible emission rising letterFields stateFields voiceFields voiceVerdict voiceRows fieldVerdict andThen firstBad lettersPart statesPart lastPart
 everything = tt

@@ -15,7 +15,8 @@ use Rattle.voice.specs.Fields.{Field, field, wellFormed}
 use Rattle.voice.specs.Voice.{letterCount, states, firstState, statesAt, stateCount, linksAt, symbolsAt, letterFields, stateFields, voiceFields, voiceVerdict}
 use Rattle.voice.proofs.Fields.{Tiles, tiles-append, tiles-rows, tiles-whole, well-formed-says}
 
-firstState-suc : (v : List ℕ) (i : ℕ) → firstState v (suc i) ≡ firstState v i + states v i
+-- the first state of the next letter
+pub firstState-suc : (v : List ℕ) (i : ℕ) → firstState v (suc i) ≡ firstState v i + states v i
 unfolding firstState
 firstState-suc v i = rw (← add-one i, from-add 0 i 1, map-append, sum-append) (unfold from sum in rw (zero-add, add-zero))
 

@@ -4,6 +4,8 @@ use Prim.Native.Nat.{ℕ, _+_}
 use mathlib.Core.Bool.{Bool, true, false, cond}
 use mathlib.Core.List.{List, [], _∷_}
 use lib.Dec.{eqb, leb}
+use Rattle.voice.specs.declared.Verdict as declared
+use Rattle.voice.specs.declared.Verdict.the-variants.{WellFormed, WrongLength, OutOfRange}
 
 -- A field: where its bytes begin, how many they are, and whether its value is in its range. Scores that may take any value and stand
 -- together are one field.
@@ -25,6 +27,12 @@ pub data Verdict : Type 0 where
   wrongLength : Verdict
   -- a field is out of its range
   outOfRange : Verdict
+
+-- the verdict that each case of the code's enum is
+abbrev pub verdictOf : declared.Verdict → Verdict
+verdictOf WellFormed = wellFormed
+verdictOf WrongLength = wrongLength
+verdictOf OutOfRange = outOfRange
 
 -- on an image of len bytes: the last field read ends at done, and the fields are still to be read
 unfoldable pub verdict : ℕ → ℕ → List Field → Verdict
