@@ -3,3 +3,4 @@ pub mod Arcs
 pub mod WellFormed
 pub mod Readers
 pub mod Tiling
+pub mod Sections

@@ -25,7 +25,7 @@ pub record Arc (x : List ℕ) (u s : ℕ) : Type 0 where
   pub worded : u ≡ 0 → s ≡ sinkOf x → ⊥
 
 module _ (x : List ℕ) (u : ℕ) where
-  allowed-says : (earlier : List ℕ) (s : ℕ) → allowed x u earlier s ≡ true → Arc x u s × (List·Memᴰ s earlier → ⊥)
+  pub allowed-says : (earlier : List ℕ) (s : ℕ) → allowed x u earlier s ≡ true → Arc x u s × (has s earlier ≡ false)
   unfolding allowed
   allowed-says earlier s h =
       let whole = and-out (ltb u s && leb s (sinkOf x) && not (has s earlier)) (ltb 0 u || not (eqb s (sinkOf x))) h in
@@ -37,7 +37,7 @@ module _ (x : List ℕ) (u : ℕ) where
           bounded = leb-true s (sinkOf x) (up .1);
           worded = λ z e. false≢true (rw (z, eq-eqb s (sinkOf x) e) at word);
         },
-        λ m. true≢false (sym (mem-has m) ∙ not-true (has s earlier) (new .1)),
+        not-true (has s earlier) (new .1),
       )
 
   module _ {len : ℕ} where
@@ -48,7 +48,7 @@ module _ (x : List ℕ) (u : ℕ) where
 
     once-from : (at : ℕ) (earlier l m : List ℕ) (s : ℕ) → AllGood len (successorFields x u at earlier (l ++ s ∷ m)) → (List·Memᴰ s earlier → ⊥) × (List·Memᴰ s l → ⊥)
     unfolding successorFields
-    once-from at earlier [] m s g = (allowed-says earlier s (g _ (List·Memᴰ·head refl) .inRange) .1, List·Memᴰ·not-nil)
+    once-from at earlier [] m s g = (λ i. true≢false (sym (mem-has i) ∙ allowed-says earlier s (g _ (List·Memᴰ·head refl) .inRange) .1), List·Memᴰ·not-nil)
     once-from at earlier (y ∷ l) m s g = go (once-from (at + 2) (y ∷ earlier) l m s (λ f i. g f (List·Memᴰ·tail i)))
       where
         go : (List·Memᴰ s (y ∷ earlier) → ⊥) × (List·Memᴰ s l → ⊥) → (List·Memᴰ s earlier → ⊥) × (List·Memᴰ s (y ∷ l) → ⊥)

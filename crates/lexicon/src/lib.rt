@@ -1,12 +1,20 @@
-// The lexicon image: where the successors of a vertex stand.
+// The lexicon image: the verdict on its fields, and where the successors of a vertex stand.
 ghost use mathlib.Core.Path.{_≡_};
 ghost use Prim.Native.Nat.{_+_, _*_, _≤_, min};
 ghost use lib.ListN.{length};
 ghost use Rattle.endian.specs.Bytes.{u16};
-ghost use Rattle.lexicon.specs.Lexicon.{nodeCount, arcsAt, successorPart};
+ghost use Rattle.voice.specs.Fields.{verdictOf};
+ghost use Rattle.lexicon.specs.Lexicon.{arcsAt, successorPart, lexiconVerdict};
+use crate::fields::Found;
+use crate::fields::arcs;
+use crate::fields::nodes;
+use crate::fields::reserve;
 use endian::u16_at;
+use voice::Verdict;
 
-fn least(a: usize, b: usize) -> usize
+mod fields;
+
+pub(crate) fn least(a: usize, b: usize) -> usize
     ensures { λ r. ⌜ r ≡ min a b ⌝ }
 {
     if a < b { a } else { b }
@@ -50,7 +58,21 @@ pub fn successors(lexicon: &[u8], vertex: usize) -> &[u8]
     if left < 2 + size {
         return &lexicon[0..0];
     }
-    let a = at + 2;
-    let e = a + size;
-    &lexicon[a..e]
+    let start = at + 2;
+    let end = start + size;
+    &lexicon[start..end]
+}
+
+// The verdict on any bytes as a lexicon of words in so many letters: the first field that is missing or out of its range decides, and bytes
+// after the last come last.
+pub fn judge(lexicon: &[u8], letters: usize) -> Verdict
+    ensures { λ r. ⌜ verdictOf r ≡ lexiconVerdict letters (now (lexicon .entry)) ⌝ }
+{
+    match nodes(lexicon, letters) {
+        Found::Bad(v) => v,
+        Found::Good(n) => match arcs(lexicon, n) {
+            Found::Bad(v) => v,
+            Found::Good(at) => reserve(lexicon, at),
+        },
+    }
 }

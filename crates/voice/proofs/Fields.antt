@@ -113,3 +113,18 @@ module _ {len : ℕ} where
 -- fields that follow one another fill a well-formed image
 pub tiles-whole : (len a b : ℕ) (l : List Field) → Tiles a b l → verdict len a l ≡ wellFormed → Tiles a len l
 tiles-whole len a b l t h = rw (sym (tiles-end a b l t) ∙ well-formed-says a l h .1) at t
+
+-- ---- one step: a field is missing, is out of its range, or is good and the rest decides
+
+module _ {len : ℕ} (done : ℕ) (f : Field) (later : List Field) where
+  pub step-missing : len < end f → verdict len done (f ∷ later) ≡ wrongLength
+  unfolding verdict
+  step-missing h = rw (lt-leb (end f) len h)
+
+  pub step-out : end f ≤ len → f .inRange ≡ false → verdict len done (f ∷ later) ≡ outOfRange
+  unfolding verdict
+  step-out h k = rw (le-leb (end f) len h, k)
+
+  pub step-good : end f ≤ len → f .inRange ≡ true → verdict len done (f ∷ later) ≡ verdict len (end f) later
+  unfolding verdict
+  step-good h k = rw (le-leb (end f) len h, k)

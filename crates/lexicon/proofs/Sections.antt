@@ -1,0 +1,5 @@
+pub mod Numbers
+pub mod Successors
+pub mod Nodes
+pub mod Lists
+pub mod Image
