@@ -102,5 +102,6 @@ pub program-pins : ProgramPins
 unfolding everything
 program-pins = record {
   reports-cut = refl;
+  counts-cut = refl;
   no-hits-printed = refl;
 }

@@ -20,7 +20,7 @@ use Rattle.packing.specs.Packing.{packAnswer, packOut, unpackAnswer, unpackOut}
 use Rattle.codes.specs.Lookup.{wordToCodeAnswer, codeToWordAnswer, listAnswer, listOut}
 use Rattle.ranking.specs.Hits.{Hit, hit}
 use Rattle.decoder.specs.Decoding.{hits, decodeAnswer, decodeOut}
-use Rattle.report.specs.Report.{report}
+use Rattle.report.specs.Report.{countIn, report}
 use Rattle.examples.specs.SmallLexicon.{voice, P, it, work, minus, thirdRow}
 
 -- ---- small images
@@ -202,5 +202,7 @@ pub record CodePins : Type 0 where
 
 pub record ProgramPins : Type 0 where
   pub reports-cut : map (λ n. report (take n thirdRow)) (0 ∷ 1 ∷ 64 ∷ 66 ∷ 102 ∷ 103 ∷ 104 ∷ []) ≡ refusedLine (50 ∷ []) ∷ refusedLine (50 ∷ []) ∷ refusedLine (50 ∷ []) ∷ refusedLine (52 ∷ []) ∷ refusedLine (52 ∷ []) ∷ refusedLine (49 ∷ 49 ∷ []) ∷ refusedLine (49 ∷ 49 ∷ []) ∷ []
+  -- a missing n is 0
+  pub counts-cut : map (λ n. countIn (take n thirdRow)) (0 ∷ 103 ∷ 104 ∷ []) ≡ 0 ∷ 0 ∷ 3 ∷ []
   -- no hits: one line
   pub no-hits-printed : report (length fiveStates ∷ 0 ∷ fiveStates ++ length fiveWords ∷ 0 ∷ fiveWords ++ 8 ∷ 0 ∷ []) ≡ 104 ∷ 105 ∷ 116 ∷ 115 ∷ 32 ∷ 48 ∷ 32 ∷ 119 ∷ 111 ∷ 114 ∷ 100 ∷ 115 ∷ 32 ∷ 53 ∷ 32 ∷ 98 ∷ 105 ∷ 116 ∷ 115 ∷ 32 ∷ 51 ∷ 10 ∷ []
