@@ -4,3 +4,4 @@ pub mod WellFormed
 pub mod Readers
 pub mod Tiling
 pub mod Sections
+pub mod Shape

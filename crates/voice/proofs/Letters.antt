@@ -1,6 +1,6 @@
 -- The letters of an accepted voice model: each has 1 to 4 states, and their print bytes rise, so that no two letters have the same. Read off
 -- the fields of a well-formed model. Assumes nothing.
-use Prim.Native.Nat.{ℕ, zero, suc, _≤_, _<_}
+use Prim.Native.Nat.{ℕ, zero, suc, _+_, _*_, _≤_, _<_}
 use mathlib.Core.Path.{_≡_, refl}
 use mathlib.Core.List.{List, List·Memᴰ, Memᴰ·append-left, List·Memᴰ·head as here, List·Memᴰ·tail as there}
 use native.Mathlib.Omega.{arith}
@@ -27,6 +27,11 @@ module _ (v : List ℕ) (accepted : voiceVerdict v ≡ wellFormed) where
   states-range {l} h =
       let w = and-out (leb 1 (states v l)) (leb (states v l) 4) (letter-field h (there (here refl)) .inRange) in
       (leb-true 1 (states v l) (w .0), leb-true (states v l) 4 (w .1))
+
+  -- its number of states stands inside the model
+  pub states-there : {l : ℕ} → l < letterCount v → 2 + 2 * l < length v
+  unfolding letterFields
+  states-there {l} h = omega (arith, letter-field h (there (here refl)) .there)
 
   prints-rise-by-one : {i : ℕ} → suc i < letterCount v → printByte v i < printByte v (suc i)
   unfolding letterFields rising
