@@ -1,0 +1,17 @@
+pub mod Tables
+pub mod Arcs
+pub mod Members
+pub mod Reached
+pub mod Judging
+pub mod Finding
+pub mod Marks
+pub mod Counting
+pub mod Filling
+pub mod Capped
+pub mod Longest
+pub mod Common
+pub mod Forks
+pub mod Booleans
+pub mod Bits
+pub mod Masks
+pub mod PairTable

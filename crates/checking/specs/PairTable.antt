@@ -1,0 +1,43 @@
+-- The table of pairs, one bit each: a row for each vertex, and in it a bit for each. The words of this crate's own helpers; no public contract
+-- cites them. Assumes nothing.
+use Prim.Native.Nat.{ℕ, _+_, _*_, _≤_, _<_, min}
+use mathlib.Core.Path.{_≡_}
+use mathlib.Core.Bool.{Bool, false, _&&_, _||_}
+use mathlib.Core.List.{List}
+use lib.ListN.{length}
+use lib.Dec.{eqb, leb}
+use Rattle.endian.specs.Lists.{any}
+use Rattle.graph.specs.Graph.{Graph, sink}
+use Rattle.checking.specs.Bits.{bit}
+use Rattle.checking.specs.Pairs.{common, meets, clashAt}
+
+-- a row of 51 bytes has 408 bits
+unfoldable pub pairBit : List ℕ → ℕ → ℕ → Bool
+pairBit b s t = bit b (s * 408 + t)
+
+-- the pairs of vertices from k on are marked, and no others
+pub record Marked (g : Graph) (k : ℕ) (b : List ℕ) : Type 0 where
+  pub long : length b ≡ 20502
+  pub bits : (s t : ℕ) → s ≤ sink g → t ≤ sink g → pairBit b s t ≡ leb k (min s t) && common g s t
+
+-- of the vertices above u, the mask has those that have something in common with a successor of u
+pub record MaskOf (g : Graph) (u : ℕ) (mask : List ℕ) : Type 0 where
+  pub bits : (y : ℕ) → u < y → y ≤ sink g → bit mask y ≡ meets g (g .successors u) y
+
+-- the answer tells whether two successors of u have something in common; if none have, the mask is made
+pub record Gathered (g : Graph) (u : ℕ) (mask : List ℕ) (answer : Bool) : Type 0 where
+  pub tells : answer ≡ clashAt g u
+  pub made : answer ≡ false → MaskOf g u mask
+
+-- v has u's letter, and the mask has a successor of v
+abbrev pub maskTells : Graph → List ℕ → ℕ → ℕ → Bool
+maskTells g mask u v = eqb (g .letter u) (g .letter v) && any (bit mask) (g .successors v)
+
+-- the pair of u and v, both ways, was marked if the test says so
+pub record PairSet (u v : ℕ) (test : Bool) (b after : List ℕ) : Type 0 where
+  pub bits : (i : ℕ) → bit after i ≡ ((eqb (u * 408 + v) i || eqb (v * 408 + u) i) && test) || bit b i
+
+-- the answer tells whether two successors of u have something in common; if none have, the pairs with u are marked too
+pub record RowDone (g : Graph) (u : ℕ) (b : List ℕ) (answer : Bool) : Type 0 where
+  pub tells : answer ≡ clashAt g u
+  pub marked : answer ≡ false → Marked g u b

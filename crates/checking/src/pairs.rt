@@ -1,0 +1,164 @@
+// Refusal 10: two different full paths with the same letters. The paths part at some vertex, into two successors that have something in common:
+// ways to the sink with the same letters. Which vertices have something in common is kept in a table of bits, filled from vertex N down.
+ghost use mathlib.Core.Path.{_≡_};
+ghost use mathlib.Core.Bool.{false};
+ghost use Prim.Native.Nat.{suc, _+_, _*_, _≤_, _<_};
+ghost use lib.ListN.{length, replicate};
+ghost use Rattle.endian.specs.Lists.{any};
+ghost use Rattle.lexicon.specs.Lexicon.{nodeCount, successors};
+ghost use Rattle.graph.specs.Graph.{graphOf};
+ghost use Rattle.graph.specs.Conditions.{orphan, sameLetters};
+ghost use Rattle.checking.specs.Tables.{Listed};
+ghost use Rattle.checking.specs.Bits.{bit, BitSet, Joined};
+ghost use Rattle.checking.specs.PairTable.{Marked, MaskOf, Gathered, maskTells, PairSet, RowDone};
+use crate::lists::number_at;
+use call::zero;
+
+// The bytes of a row: a bit for each vertex.
+const ROW: usize = 51;
+
+// Its bits.
+const ROW_BITS: usize = 408;
+
+// The bytes of the table: a row for each vertex.
+pub(crate) const PAIR_BYTES: usize = 20502;
+
+fn has_bit(mask: &[u8; 51], i: usize) -> bool
+    requires { ⌜ i < 408 ⌝ }
+    ensures { λ r. ⌜ r ≡ bit (now (mask .entry)) i ⌝ }
+{
+    let k = (i % 8) as u32;
+    (mask[i / 8] >> k) % 2 == 1
+}
+
+fn set_bit(pairs: &mut [u8], i: usize)
+    requires { ⌜ i < 8 * length (now pairs) ⌝ }
+    ensures { λ _. ⌜ BitSet i (now (pairs .entry)) (now (pairs .exit)) ⌝ }
+{
+    let k = (i % 8) as u32;
+    let at = i / 8;
+    pairs[at] = pairs[at] | (1 << k);
+}
+
+// Joins the row at an offset to the mask.
+fn join_row(mask: &mut [u8; 51], pairs: &[u8], at: usize)
+    requires { ⌜ (length (now mask) ≡ 51) × (at + 51 ≤ length (now pairs)) ⌝ }
+    ensures { λ _. ⌜ Joined (now (mask .entry)) (now (pairs .entry)) at (now (mask .exit)) ⌝ }
+{
+    let mut i = 0;
+    while i < ROW {
+        mask[i] = mask[i] | pairs[at + i];
+        i += 1;
+    }
+}
+
+// Joins the rows of u's successors to the mask, or answers that one of them has something in common with an earlier one.
+fn gather(lexicon: &[u8], lists: &[u16; 402], u: usize, pairs: &[u8], mask: &mut [u8; 51]) -> bool
+    requires { ⌜ Listed (now lexicon) (now lists) × (u ≤ nodeCount (now lexicon)) × Marked (graphOf (now lexicon)) (suc u) (now pairs) × (now mask ≡ replicate 51 0) ⌝ }
+    ensures { λ r. ⌜ Gathered (graphOf (now (lexicon .entry))) u (now (mask .exit)) r ⌝ }
+{
+    let start = lists[u] as usize;
+    let stop = start + 2 + 2 * number_at(lexicon, start);
+    let mut at = start + 2;
+    while at < stop {
+        let s = number_at(lexicon, at);
+        if has_bit(&*mask, s) {
+            return true;
+        }
+        join_row(mask, pairs, s * ROW);
+        at += 2;
+    }
+    false
+}
+
+// Some successor of v has its bit in the mask.
+fn meets_mask(lexicon: &[u8], lists: &[u16; 402], v: usize, mask: &[u8; 51]) -> bool
+    requires { ⌜ Listed (now lexicon) (now lists) × (v ≤ nodeCount (now lexicon)) ⌝ }
+    ensures { λ r. ⌜ r ≡ any (bit (now (mask .entry))) (successors (now (lexicon .entry)) v) ⌝ }
+{
+    let start = lists[v] as usize;
+    let stop = start + 2 + 2 * number_at(lexicon, start);
+    let mut at = start + 2;
+    while at < stop {
+        if has_bit(mask, number_at(lexicon, at)) {
+            return true;
+        }
+        at += 2;
+    }
+    false
+}
+
+// Marks the pair of u and v, both ways, if they have something in common.
+fn mark_pair(
+    lexicon: &[u8],
+    lists: &[u16; 402],
+    u: usize,
+    v: usize,
+    mask: &[u8; 51],
+    pairs: &mut [u8],
+)
+    requires { ⌜ Listed (now lexicon) (now lists) × (u ≤ nodeCount (now lexicon)) × (v ≤ nodeCount (now lexicon)) × (length (now pairs) ≡ 20502) ⌝ }
+    ensures { λ _. ⌜ PairSet u v (maskTells (graphOf (now (lexicon .entry))) (now (mask .entry)) u v) (now (pairs .entry)) (now (pairs .exit)) ⌝ }
+{
+    if lexicon[1 + u] != lexicon[1 + v] {
+        return;
+    }
+    if meets_mask(lexicon, lists, v, mask) {
+        set_bit(pairs, u * ROW_BITS + v);
+        set_bit(pairs, v * ROW_BITS + u);
+    }
+}
+
+// Marks the pairs of u and the vertices from u on.
+fn mark_row(lexicon: &[u8], lists: &[u16; 402], u: usize, mask: &[u8; 51], pairs: &mut [u8])
+    requires { ⌜ Listed (now lexicon) (now lists) × (1 ≤ u) × (u ≤ nodeCount (now lexicon)) × MaskOf (graphOf (now lexicon)) u (now mask) × Marked (graphOf (now lexicon)) (suc u) (now pairs) ⌝ }
+    ensures { λ _. ⌜ Marked (graphOf (now (lexicon .entry))) u (now (pairs .exit)) ⌝ }
+{
+    let nodes = number_at(lexicon, 0);
+    set_bit(pairs, u * ROW_BITS + u);
+    let mut v = u + 1;
+    while v <= nodes {
+        mark_pair(lexicon, lists, u, v, mask, pairs);
+        v += 1;
+    }
+}
+
+// Whether two successors of u have something in common; if not, the pairs with u are marked.
+fn add_row(lexicon: &[u8], lists: &[u16; 402], u: usize, pairs: &mut [u8]) -> bool
+    requires { ⌜ Listed (now lexicon) (now lists) × (1 ≤ u) × (u ≤ nodeCount (now lexicon)) × Marked (graphOf (now lexicon)) (suc u) (now pairs) ⌝ }
+    ensures { λ r. ⌜ RowDone (graphOf (now (lexicon .entry))) u (now (pairs .exit)) r ⌝ }
+{
+    let mut mask = [0; 51];
+    if gather(lexicon, lists, u, &pairs[..], &mut mask) {
+        return true;
+    }
+    mark_row(lexicon, lists, u, &mask, pairs);
+    false
+}
+
+// The pair of the sink with itself alone is marked.
+fn begin_table(sink: usize, pairs: &mut [u8])
+    requires { ⌜ (sink < 402) × (length (now pairs) ≡ 20502) ⌝ }
+    ensures { λ _. ⌜ BitSet (sink * 408 + sink) (replicate (length (now (pairs .entry))) 0) (now (pairs .exit)) ⌝ }
+{
+    zero(pairs);
+    set_bit(pairs, sink * ROW_BITS + sink);
+}
+
+// Adds the rows from vertex N down, until one finds two successors with something in common. The root has no letter, so it needs no row.
+pub(crate) fn has_same_letters(lexicon: &[u8], lists: &[u16; 402], pairs: &mut [u8]) -> bool
+    requires { ⌜ Listed (now lexicon) (now lists) × (orphan (graphOf (now lexicon)) ≡ false) × (length (now pairs) ≡ 20502) ⌝ }
+    ensures { λ r. ⌜ r ≡ sameLetters (graphOf (now (lexicon .entry))) ⌝ }
+    ensures { λ _. ⌜ length (now (pairs .exit)) ≡ length (now (pairs .entry)) ⌝ }
+{
+    let mut u = number_at(lexicon, 0);
+    begin_table(u + 1, pairs);
+    while 0 < u {
+        if add_row(lexicon, lists, u, pairs) {
+            return true;
+        }
+        u -= 1;
+    }
+    let mut mask = [0; 51];
+    gather(lexicon, lists, 0, &pairs[..], &mut mask)
+}

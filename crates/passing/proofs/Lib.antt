@@ -1,0 +1,16 @@
+pub mod Open
+pub mod Order
+pub mod Insertion
+pub mod Covering
+pub mod Best
+pub mod Shifting
+pub mod Members
+pub mod Uncut
+pub mod InPlace
+pub mod Chains
+pub mod Moves
+pub mod Arrivals
+pub mod Walks
+pub mod Decoded
+pub mod Bounds
+pub mod Theorems

@@ -1,0 +1,4 @@
+pub mod Best
+pub mod Tokens
+pub mod InPlace
+pub mod Theorems
