@@ -1,0 +1,88 @@
+//! Counts of answers, for each group of calls: how often a value, and how often each refusal. A group says which
+//! answers it has to show; a count of 0 there is a fault of the test.
+
+struct Row {
+    group: &'static str,
+    due: Vec<usize>,
+    seen: Vec<u64>,
+}
+
+pub struct Counts {
+    /// The refusals that the call can answer; column 0 is for values.
+    numbers: Vec<usize>,
+    rows: Vec<Row>,
+}
+
+impl Counts {
+    pub fn of(numbers: &[usize]) -> Counts {
+        Counts {
+            numbers: numbers.to_vec(),
+            rows: Vec::new(),
+        }
+    }
+
+    /// Opens a group; `due` are the refusals that it has to show, 0 for a value.
+    pub fn begin(&mut self, group: &'static str, due: &[usize]) {
+        self.rows.push(Row {
+            group,
+            due: due.to_vec(),
+            seen: vec![0; 17],
+        });
+    }
+
+    pub fn group(&self) -> &'static str {
+        self.rows.last().map_or("", |row| row.group)
+    }
+
+    pub fn add(&mut self, answer: i32) {
+        let column = if answer < 0 { -answer as usize } else { 0 };
+        if let Some(row) = self.rows.last_mut() {
+            row.seen[column.min(16)] += 1;
+        }
+    }
+
+    fn total(&self, column: usize) -> u64 {
+        self.rows.iter().map(|row| row.seen[column]).sum()
+    }
+
+    pub fn calls(&self) -> u64 {
+        (0..17).map(|column| self.total(column)).sum()
+    }
+
+    pub fn print(&self, value: &str) {
+        let heads: String = self.numbers.iter().map(|k| format!("{k:>8}")).collect();
+        println!("{:<18}{value:>9}{heads}   calls", "");
+        for row in &self.rows {
+            let seen = |column: &usize| format!("{:>8}", row.seen[*column]);
+            let cells: String = self.numbers.iter().map(seen).collect();
+            let calls: u64 = row.seen.iter().sum();
+            println!("{:<18}{:>9}{cells}{calls:>8}", row.group, row.seen[0]);
+        }
+        let seen = |column: &usize| format!("{:>8}", self.total(*column));
+        let cells: String = self.numbers.iter().map(seen).collect();
+        println!(
+            "{:<18}{:>9}{cells}{:>8}",
+            "all",
+            self.total(0),
+            self.calls()
+        );
+    }
+
+    /// Prints each answer that was due and never seen; says how many there are.
+    pub fn missing(&self) -> usize {
+        let mut missing = 0;
+        for row in &self.rows {
+            for answer in row.due.iter().filter(|answer| row.seen[**answer] == 0) {
+                println!("never seen in '{}': {answer}", row.group);
+                missing += 1;
+            }
+        }
+        for column in [0].iter().chain(&self.numbers) {
+            if self.total(*column) == 0 {
+                println!("never seen: {column}");
+                missing += 1;
+            }
+        }
+        missing
+    }
+}
