@@ -1,7 +1,7 @@
 /* Wundaleth: a word decoder for voice terminals, for C and C++. Link libwundaleth.a beside it.
  *
- * Arguments. Bytes are passed as a pointer and their number. A pointer is never null, not even where the number is 0. The buffers of one call
- * do not overlap. Nothing is kept between calls, and nothing is written but the work space and the output.
+ * Arguments. Bytes, and codes to pack, are passed as a pointer and their number. A pointer is never null, not even where the number is 0.
+ * The buffers of one call do not overlap. Nothing is kept between calls, and nothing is written but the work space and the output.
  *
  * Answers. A call answers a value, 0 or above, or a refusal's number made negative: -4 is WUNDALETH_LEXICON_LENGTH. Of the refusals that apply
  * the lowest number is answered. Within one image the fields are read in order, so that 2 and 3, and 4 and 5, follow the first bad field.
@@ -46,6 +46,34 @@ enum wundaleth_refusal {
 /* Checks a voice model and a lexicon. Answers W, the number of words, 1 to 1,048,576, or refuses with 1 to 10. */
 int32_t wundaleth_check(const uint8_t *voice, size_t voice_length, const uint8_t *lexicon, size_t lexicon_length, uint8_t *work,
                         size_t work_length);
+
+/* Output, in the calls below. A refusal leaves the output unchanged. A value comes with its bytes at the output's start, and the bytes after
+ * those written keep their values. */
+
+/* The code of a word, given as its print bytes. Answers the code, 0 to W - 1, or refuses with 1 to 10 or 13. */
+int32_t wundaleth_word_to_code(const uint8_t *voice, size_t voice_length, const uint8_t *lexicon, size_t lexicon_length, const uint8_t *word,
+                               size_t word_length, uint8_t *work, size_t work_length);
+
+/* Writes the word of a code as its print bytes, with nothing after them. Answers the bytes written, 1 to 32, or refuses with 1 to 10, 15 or
+ * 16. */
+int32_t wundaleth_code_to_word(const uint8_t *voice, size_t voice_length, const uint8_t *lexicon, size_t lexicon_length, uint32_t code,
+                               uint8_t *work, size_t work_length, uint8_t *out, size_t out_length);
+
+/* Writes every word, each followed by byte 10, in the order of the codes 0 to W - 1. Answers the bytes written, or refuses with 1 to 10 or
+ * 16. It takes stack for every arc on the way down, some 112 bytes each; every other call takes less than 4 KB. */
+int32_t wundaleth_list(const uint8_t *voice, size_t voice_length, const uint8_t *lexicon, size_t lexicon_length, uint8_t *work,
+                       size_t work_length, uint8_t *out, size_t out_length);
+
+/* Packing and unpacking are given no image but W, as `words`: the W that wundaleth_check answered for the image that the codes belong to. A
+ * code takes b bits: 0 if W is 1, else the length of W - 1 in binary, at most 20. n codes take n x b / 8 bytes, rounded up, at most 20. */
+
+/* Packs 1 to 8 codes. `codes` is aligned as C aligns uint32_t, and codes_length is the number of codes, not of bytes. Answers the bytes
+ * written, 0 if W is 1, or refuses with 9, 12, 15 or 16. */
+int32_t wundaleth_pack(uint32_t words, const uint32_t *codes, size_t codes_length, uint8_t *out, size_t out_length);
+
+/* Unpacks n codes, 1 to 8, and writes each as 4 bytes, the lowest first (little-endian); the output needs no alignment. packed_length is
+ * exactly what n codes take. Answers n, or refuses with 9, 12, 14, 15 or 16. */
+int32_t wundaleth_unpack(uint32_t words, uint32_t n, const uint8_t *packed, size_t packed_length, uint8_t *out, size_t out_length);
 
 #ifdef __cplusplus
 }

@@ -1,7 +1,10 @@
 -- Every definition of this crate's specs/, open: a computed example names `everything` on its `unfolding` line in place of them all.
 -- Assumes nothing.
 use Rattle.codes.specs.Lookup.{wordToCodeRows, wordToCodeAnswer, codeToWordRows, codeToWordAnswer, codeToWordOut, listing, listRows, listAnswer, listOut}
+use Rattle.codes.specs.Steps.{roomAnswer}
+use Rattle.codes.specs.Marks.{fits, fitsAfter, markOf, marked, lookedUp}
+use Rattle.codes.specs.Lines.{linesFrom, linesOver, arcsOnWays, roomRows}
 
 unfoldable pub everything : Unit {0}
-unfolding wordToCodeRows wordToCodeAnswer codeToWordRows codeToWordAnswer codeToWordOut listing listRows listAnswer listOut
+unfolding wordToCodeRows wordToCodeAnswer codeToWordRows codeToWordAnswer codeToWordOut listing listRows listAnswer listOut roomAnswer fits fitsAfter markOf marked lookedUp linesFrom linesOver arcsOnWays roomRows
 everything = tt

@@ -1,2 +1,5 @@
 pub mod Lookup
 pub mod Theorems
+pub mod Steps
+pub mod Marks
+pub mod Lines

@@ -1,1 +1,75 @@
 // Word to code, code to word, and listing: definitions in specs/.
+ghost use mathlib.Core.Path.{_≡_};
+ghost use Rattle.call.specs.Table.{answerOf};
+ghost use Rattle.codes.specs.Lookup.{wordToCodeAnswer, wordToCodeWork, codeToWordAnswer, codeToWordWork, codeToWordOut, listAnswer, listOut, listWork};
+use crate::descent::put_word;
+use crate::descent::spell;
+use crate::listing::put_listing;
+use crate::suffixes::TABLE;
+use crate::suffixes::look_up;
+use call::Answer;
+use call::Refusal;
+use call::clear;
+use checking::open;
+
+mod descent;
+mod image;
+mod listing;
+mod suffixes;
+
+// The code of a word, given as print bytes.
+pub fn word_to_code(voice: &[u8], lexicon: &[u8], word: &[u8], work: &mut [u8]) -> Answer
+    ensures { λ r. ⌜ answerOf r ≡ wordToCodeAnswer (now (voice .entry)) (now (lexicon .entry)) (now (word .entry)) (now (work .entry)) ⌝ }
+    ensures { λ _. ⌜ now (work .exit) ≡ wordToCodeWork (now (voice .entry)) (now (lexicon .entry)) (now (word .entry)) (now (work .entry)) ⌝ }
+{
+    let mut lists = [0u16; 402];
+    let mut counts = [0u32; 402];
+    let opened = open(voice, lexicon, work, &mut lists, &mut counts);
+    let Answer::Value(_) = opened else {
+        return opened;
+    };
+    let answer = look_up(voice, lexicon, &lists, &counts, word, &mut work[0..TABLE]);
+    clear(work);
+    answer
+}
+
+// Writes the word of a code, as print bytes, and answers the bytes written.
+pub fn code_to_word(
+    voice: &[u8],
+    lexicon: &[u8],
+    code: u32,
+    work: &mut [u8],
+    out: &mut [u8],
+) -> Answer
+    ensures { λ r. ⌜ answerOf r ≡ codeToWordAnswer (now (voice .entry)) (now (lexicon .entry)) code (now (work .entry)) (now (out .entry)) ⌝ }
+    ensures { λ _. ⌜ now (work .exit) ≡ codeToWordWork (now (voice .entry)) (now (lexicon .entry)) code (now (work .entry)) ⌝ }
+    ensures { λ _. ⌜ now (out .exit) ≡ codeToWordOut (now (voice .entry)) (now (lexicon .entry)) code (now (work .entry)) (now (out .entry)) ⌝ }
+{
+    let mut lists = [0u16; 402];
+    let mut counts = [0u32; 402];
+    let opened = open(voice, lexicon, work, &mut lists, &mut counts);
+    let Answer::Value(words) = opened else {
+        return opened;
+    };
+    if words <= code {
+        return Answer::Refused(Refusal::Code);
+    }
+    let mut letters = [0u8; 32];
+    let n = spell(voice, lexicon, &lists, &counts, code, &mut letters);
+    put_word(out, &letters, n)
+}
+
+// Writes the words in code order, each followed by byte 10, and answers the bytes written.
+pub fn list(voice: &[u8], lexicon: &[u8], work: &mut [u8], out: &mut [u8]) -> Answer
+    ensures { λ r. ⌜ answerOf r ≡ listAnswer (now (voice .entry)) (now (lexicon .entry)) (now (work .entry)) (now (out .entry)) ⌝ }
+    ensures { λ _. ⌜ now (work .exit) ≡ listWork (now (voice .entry)) (now (lexicon .entry)) (now (work .entry)) ⌝ }
+    ensures { λ _. ⌜ now (out .exit) ≡ listOut (now (voice .entry)) (now (lexicon .entry)) (now (work .entry)) (now (out .entry)) ⌝ }
+{
+    let mut lists = [0u16; 402];
+    let mut counts = [0u32; 402];
+    let answer = open(voice, lexicon, work, &mut lists, &mut counts);
+    match answer {
+        Answer::Value(_) => put_listing(voice, lexicon, &lists, &counts, out),
+        Answer::Refused(_) => answer,
+    }
+}

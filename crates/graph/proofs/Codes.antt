@@ -22,7 +22,7 @@ length-cond : (b : Bool) (l : List (List ℕ)) (n : ℕ) → length l ≡ n → 
 length-cond true l n e = refl
 length-cond false l n e = e
 
-length-ways : (g : Graph) (d u : ℕ) → length (ways g d u) ≡ pathCountWithin g d u
+pub length-ways : (g : Graph) (d u : ℕ) → length (ways g d u) ≡ pathCountWithin g d u
 unfolding ways pathCountWithin
 length-ways g zero u = length-cond (eqb u (sink g)) [] 0 refl
 length-ways g (suc d) u =

@@ -2,4 +2,5 @@ pub mod Open
 pub mod Fields
 pub mod Tiling
 pub mod Letters
+pub mod Scores
 pub mod Walk

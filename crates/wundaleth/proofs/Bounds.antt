@@ -1,26 +1,108 @@
 -- The values that calls answer are small: the rows of each call's table bound them. Assumes nothing.
-use Prim.Native.Nat.{ℕ, _≤_}
-use mathlib.Core.Path.{_≡_}
+use Prim.Native.Nat.{ℕ, _*_, _≤_, _<_}
+use mathlib.Core.Path.{_≡_, sym, _∙_}
+use mathlib.Core.Bool.{true, false, true≢false}
 use mathlib.Core.List.{List}
+use native.Mathlib.Nat.{mul-le-mul}
+use native.Mathlib.Decide.{decLe}
 use native.Mathlib.Omega.{arith}
-use borrow.Author.Tests.{ltb-false}
-use Rattle.call.specs.Limits.{mostWords}
-use Rattle.call.specs.Table.{value}
+use lib.ListN.{length}
+use borrow.Author.Tests.{ltb-false, leb-false}
+use Rattle.endian.specs.Lists.{isNone}
+use Rattle.call.specs.Limits.{mostWords, badCode}
+use Rattle.call.specs.Table.{value, noneApplies}
 use Rattle.call.specs.Buffers.{spaceRows}
-use Rattle.call.proofs.Table.{none-parts, value-passed}
-use Rattle.graph.specs.Graph.{graphOf, wordCount}
+use Rattle.call.proofs.Table.{none-parts, none-says, value-passed}
+use Rattle.voice.specs.Voice.{letterCount}
+use Rattle.lexicon.proofs.Shape.{shape}
+use Rattle.graph.specs.Graph.{graphOf, sink, wordCount}
+use Rattle.graph.specs.Words.{pathOfWord, codeOf, wordOfCode}
 use Rattle.graph.specs.Conditions.{manyWords}
-use Rattle.graph.specs.Checking.{imageRows, firstRows, checkAnswer}
+use Rattle.graph.specs.Checking.{Accepted, imageRows, firstRows, checkAnswer}
 use Rattle.graph.proofs.Accepted.{accepted}
+use Rattle.codes.specs.Lookup.{wordToCodeRows, wordToCodeAnswer, codeToWordRows, codeToWordAnswer, listing, listRows, listAnswer}
+use Rattle.codes.proofs.Theorems.{code-theorems}
+use Rattle.codes.proofs.Words.{sound-images, word-short}
+use Rattle.codes.proofs.Sizes.{listing-size, arcs-most}
+use Rattle.packing.specs.Packing.{packedSize, packAnswer, unpackAnswer}
+use Rattle.packing.proofs.Laws.Width.{width-limit}
+use Rattle.packing.proofs.Laws.Calls.{packs, unpacks}
 use Rattle.wundaleth.specs.Answers.{Small}
 
-words-limit : (v x work : List ℕ) (n : ℕ) → checkAnswer v x work ≡ value n → n ≤ mostWords
-unfolding checkAnswer firstRows manyWords
-words-limit v x work n e =
-    let p = value-passed (firstRows v x work) (wordCount (graphOf x)) n e in
-    let ok = accepted (none-parts (spaceRows work) (imageRows v x) (p .0) .1) in
-    let h = ltb-false mostWords (wordCount (graphOf x)) (ok .few-words) in
-    omega (arith, p .1, h)
+-- ---- calls with a lexicon: a value shows that the images are accepted
+
+images-accepted : (v x work : List ℕ) → noneApplies (firstRows v x work) ≡ true → Accepted v x
+unfolding firstRows
+images-accepted v x work h = none-parts (spaceRows work) (imageRows v x) h .1
+
+module _ (v x : List ℕ) (h : Accepted v x) where
+  words-limit : wordCount (graphOf x) ≤ mostWords
+  unfolding manyWords
+  words-limit = ltb-false mostWords (wordCount (graphOf x)) (accepted h .few-words)
+
+  -- bytes that spell a word have a code below W
+  code-limit : (word : List ℕ) → isNone (pathOfWord v (graphOf x) word) ≡ false → codeOf (graphOf x) (pathOfWord v (graphOf x) word) < wordCount (graphOf x)
+  code-limit word e = go (decLe (wordCount (graphOf x)) (codeOf (graphOf x) (pathOfWord v (graphOf x) word)))
+    where
+      go : Dec (wordCount (graphOf x) ≤ codeOf (graphOf x) (pathOfWord v (graphOf x) word)) → codeOf (graphOf x) (pathOfWord v (graphOf x) word) < wordCount (graphOf x)
+      go (no q) = omega arith
+      go (yes p) = let t = code-theorems v x h in absurd (true≢false (sym (t .no-word word .1 (λ w. omega (arith, t .code-below word w))) ∙ e))
+
+  -- a line has a byte for each arc of its path
+  listing-limit : length (listing v (graphOf x)) ≤ 401 * wordCount (graphOf x)
+  unfolding sink wordCount
+  listing-limit =
+      let ok = sound-images (accepted h) in
+      let few = shape (letterCount v) x (accepted h .lexicon) .few in
+      omega (arith, listing-size ok v (omega arith), arcs-most ok (omega arith) 0)
 
 pub check-small : (v x work : List ℕ) → Small (checkAnswer v x work)
-check-small v x work = record { below = λ n e. omega (arith, words-limit v x work n e) }
+unfolding checkAnswer
+check-small v x work = record {
+  below = λ n e.
+    let p = value-passed (firstRows v x work) (wordCount (graphOf x)) n e in
+    omega (arith, p .1, words-limit v x (images-accepted v x work (p .0)));
+}
+
+pub word-to-code-small : (v x word work : List ℕ) → Small (wordToCodeAnswer v x word work)
+unfolding wordToCodeAnswer wordToCodeRows
+word-to-code-small v x word work = record {
+  below = λ n e.
+    let p = value-passed (wordToCodeRows v x word work) (codeOf (graphOf x) (pathOfWord v (graphOf x) word)) n e in
+    let r = none-parts (firstRows v x work) _ (p .0) in
+    let h = images-accepted v x work (r .0) in
+    omega (arith, p .1, words-limit v x h, code-limit v x h word (none-says _ (r .1) .0));
+}
+
+pub code-to-word-small : (v x : List ℕ) (code : ℕ) (work out : List ℕ) → Small (codeToWordAnswer v x code work out)
+unfolding codeToWordAnswer codeToWordRows badCode
+code-to-word-small v x code work out = record {
+  below = λ n e.
+    let p = value-passed (codeToWordRows v x code work out) (length (wordOfCode v (graphOf x) code)) n e in
+    let r = none-parts (firstRows v x work) _ (p .0) in
+    let h = images-accepted v x work (r .0) in
+    let k = leb-false (wordCount (graphOf x)) code (none-says _ (r .1) .0) in
+    omega (arith, p .1, word-short (accepted h) k);
+}
+
+pub list-small : (v x work out : List ℕ) → Small (listAnswer v x work out)
+unfolding listAnswer listRows
+list-small v x work out = record {
+  below = λ n e.
+    let p = value-passed (listRows v x work out) (length (listing v (graphOf x))) n e in
+    let h = images-accepted v x work (none-parts (firstRows v x work) _ (p .0) .0) in
+    omega (arith, p .1, words-limit v x h, listing-limit v x h);
+}
+
+-- ---- packed codes: at most 8, of at most 20 bits each
+
+pub pack-small : (W : ℕ) (codes out : List ℕ) → Small (packAnswer W codes out)
+unfolding packedSize
+pack-small W codes out = record {
+  below = λ n e.
+    let p = packs W codes out n e in
+    omega (arith, p .size, mul-le-mul (p .count .1) (width-limit W (p .words .1)));
+}
+
+pub unpack-small : (W n : ℕ) (bytes out : List ℕ) → Small (unpackAnswer W n bytes out)
+unpack-small W n bytes out = record { below = λ k e. let u = unpacks W n bytes out k e in omega (arith, u .all, u .count .1) }

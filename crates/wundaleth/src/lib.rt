@@ -2,9 +2,16 @@
 ghost use mathlib.Core.Path.{_≡_};
 ghost use Rattle.call.specs.Table.{answerOf, signedAnswer};
 ghost use Rattle.graph.specs.Checking.{checkAnswer, checkWork};
+ghost use Rattle.codes.specs.Lookup.{wordToCodeAnswer, wordToCodeWork, codeToWordAnswer, codeToWordWork, codeToWordOut, listAnswer, listOut, listWork};
+ghost use Rattle.packing.specs.Packing.{packAnswer, packOut, unpackAnswer, unpackOut};
 ghost use Rattle.wundaleth.specs.Answers.{Small};
 use call::Answer;
 use checking::check;
+use codes::code_to_word;
+use codes::list;
+use codes::word_to_code;
+use packing::pack;
+use packing::unpack;
 
 // An answer as C takes it.
 fn signed_of(answer: Answer) -> i32
@@ -27,4 +34,67 @@ pub extern "C" fn wundaleth_check(voice: &[u8], lexicon: &[u8], work: &mut [u8])
     ensures { λ _. ⌜ now (work .exit) ≡ checkWork (now (voice .entry)) (now (lexicon .entry)) (now (work .entry)) ⌝ }
 {
     signed_of(check(voice, lexicon, work))
+}
+
+// The code of a word, given as print bytes.
+#[no_mangle]
+pub extern "C" fn wundaleth_word_to_code(
+    voice: &[u8],
+    lexicon: &[u8],
+    word: &[u8],
+    work: &mut [u8],
+) -> i32
+    ensures { λ r. ⌜ r ≡ signedAnswer (wordToCodeAnswer (now (voice .entry)) (now (lexicon .entry)) (now (word .entry)) (now (work .entry))) ⌝ }
+    ensures { λ _. ⌜ now (work .exit) ≡ wordToCodeWork (now (voice .entry)) (now (lexicon .entry)) (now (word .entry)) (now (work .entry)) ⌝ }
+{
+    signed_of(word_to_code(voice, lexicon, word, work))
+}
+
+// Writes the word of a code, as print bytes, and answers the bytes written.
+#[no_mangle]
+pub extern "C" fn wundaleth_code_to_word(
+    voice: &[u8],
+    lexicon: &[u8],
+    code: u32,
+    work: &mut [u8],
+    out: &mut [u8],
+) -> i32
+    ensures { λ r. ⌜ r ≡ signedAnswer (codeToWordAnswer (now (voice .entry)) (now (lexicon .entry)) code (now (work .entry)) (now (out .entry))) ⌝ }
+    ensures { λ _. ⌜ now (work .exit) ≡ codeToWordWork (now (voice .entry)) (now (lexicon .entry)) code (now (work .entry)) ⌝ }
+    ensures { λ _. ⌜ now (out .exit) ≡ codeToWordOut (now (voice .entry)) (now (lexicon .entry)) code (now (work .entry)) (now (out .entry)) ⌝ }
+{
+    signed_of(code_to_word(voice, lexicon, code, work, out))
+}
+
+// Writes the words in code order, each followed by byte 10, and answers the bytes written.
+#[no_mangle]
+pub extern "C" fn wundaleth_list(
+    voice: &[u8],
+    lexicon: &[u8],
+    work: &mut [u8],
+    out: &mut [u8],
+) -> i32
+    ensures { λ r. ⌜ r ≡ signedAnswer (listAnswer (now (voice .entry)) (now (lexicon .entry)) (now (work .entry)) (now (out .entry))) ⌝ }
+    ensures { λ _. ⌜ now (work .exit) ≡ listWork (now (voice .entry)) (now (lexicon .entry)) (now (work .entry)) ⌝ }
+    ensures { λ _. ⌜ now (out .exit) ≡ listOut (now (voice .entry)) (now (lexicon .entry)) (now (work .entry)) (now (out .entry)) ⌝ }
+{
+    signed_of(list(voice, lexicon, work, out))
+}
+
+// Packs codes and answers the bytes written.
+#[no_mangle]
+pub extern "C" fn wundaleth_pack(words: u32, codes: &[u32], out: &mut [u8]) -> i32
+    ensures { λ r. ⌜ r ≡ signedAnswer (packAnswer words (now (codes .entry)) (now (out .entry))) ⌝ }
+    ensures { λ _. ⌜ now (out .exit) ≡ packOut words (now (codes .entry)) (now (out .entry)) ⌝ }
+{
+    signed_of(pack(words, codes, out))
+}
+
+// Unpacks n codes, writes each as u32, and answers n.
+#[no_mangle]
+pub extern "C" fn wundaleth_unpack(words: u32, n: u32, packed: &[u8], out: &mut [u8]) -> i32
+    ensures { λ r. ⌜ r ≡ signedAnswer (unpackAnswer words n (now (packed .entry)) (now (out .entry))) ⌝ }
+    ensures { λ _. ⌜ now (out .exit) ≡ unpackOut words n (now (packed .entry)) (now (out .entry)) ⌝ }
+{
+    signed_of(unpack(words, n, packed, out))
 }

@@ -1,0 +1,57 @@
+-- The list of a vertex in the image, by the table of where the lists begin: its count, and each of its arcs by number. Assumes nothing.
+use mathlib.Core.Path.{_≡_, refl, sym, ap, _∙_}
+use mathlib.Core.List.{List, [], _∷_, List·Memᴰ, Memᴰ·cast}
+use Prim.Native.Nat.{ℕ, zero, suc, _+_, _*_, _≤_, _<_}
+use native.Mathlib.Nat.{add-zero}
+use native.Mathlib.Numerals.{add-one}
+use native.Mathlib.Omega.{arith}
+use lib.ListN.{length, getD, drop}
+use lib.Seq.{drop-cons, drop-length}
+use Rattle.endian.specs.Bytes.{u16, u16s}
+use Rattle.endian.proofs.Lists.{mem-getD}
+use Rattle.lexicon.specs.Lexicon.{nodeCount, sinkOf, arcsAt, arcCount, successors}
+use Rattle.lexicon.proofs.Shape.{arcs-next}
+use Rattle.lexicon.proofs.Readers.{length-successors}
+use Rattle.graph.specs.Graph.{sink}
+use Rattle.checking.specs.Tables.{Listed}
+use Rattle.checking.proofs.Tables.{entry}
+use Rattle.checking.proofs.Arcs.{shape-of, sound-of}
+
+-- the list of u begins at an offset
+pub record Head (x : List ℕ) (u at : ℕ) : Type 0 where
+  pub there : at + 2 + 2 * arcCount x u ≤ length x
+  pub small : at ≤ 9204
+  pub few : arcCount x u ≤ 4601
+  pub count : u16 x at ≡ arcCount x u
+  -- the arcs from number i on, of which the first is there to read
+  pub next : {i : ℕ} → i < arcCount x u → drop i (successors x u) ≡ u16 x (at + 2 + 2 * i) ∷ drop (i + 1) (successors x u)
+  pub arc : {i : ℕ} → i < arcCount x u → List·Memᴰ (u16 x (at + 2 + 2 * i)) (successors x u)
+  pub rises : {i : ℕ} → i < arcCount x u → (u < u16 x (at + 2 + 2 * i)) × (u16 x (at + 2 + 2 * i) ≤ sinkOf x)
+
+getD-u16s : (b : List ℕ) (at n i : ℕ) → i < n → getD (u16s b at n) i 0 ≡ u16 b (at + 2 * i)
+unfolding u16s
+getD-u16s b at zero i h = absurd (omega arith)
+getD-u16s b at (suc n) zero h = rw add-zero
+getD-u16s b at (suc n) (suc i) h = let e : at + 2 + 2 * i ≡ at + 2 * suc i = omega arith in getD-u16s b (at + 2) n i (omega arith) ∙ ap (u16 b) e
+
+pub head-at : {x lists : List ℕ} → Listed x lists → {u : ℕ} → u ≤ nodeCount x → Head x u (getD lists u 0)
+unfolding sinkOf sink arcCount successors
+head-at {x} {lists} t {u} h = rw (entry (t .table) {u = u} (omega arith)) (record {
+  there = omega (arith, arcs-next x u, shape-of (t .well-formed) .there {u = u} (omega arith));
+  small = shape-of (t .well-formed) .small {u = u} (omega arith);
+  few = omega (arith, arcs-next x u, shape-of (t .well-formed) .small {u = suc u} (omega arith));
+  count = refl;
+  next = λ {i} k. drop-cons (successors x u) i 0 (rw (length-successors x u) k) ∙ rw (number k, add-one i);
+  arc = λ {i} k. mem k;
+  rises = λ {i} k. sound-of (t .well-formed) .rises (omega arith) (mem k);
+})
+  where
+    number : {i : ℕ} → i < arcCount x u → getD (successors x u) i 0 ≡ u16 x (arcsAt x u + 2 + 2 * i)
+    number {i} k = getD-u16s x (arcsAt x u + 2) (arcCount x u) i k
+
+    mem : {i : ℕ} → i < arcCount x u → List·Memᴰ (u16 x (arcsAt x u + 2 + 2 * i)) (successors x u)
+    mem {i} k = Memᴰ·cast (sym (number k)) (mem-getD (successors x u) i 0 (rw (length-successors x u) k))
+
+-- after the last arc none is left
+pub none-left : (x : List ℕ) (u i : ℕ) → i ≡ arcCount x u → drop i (successors x u) ≡ []
+none-left x u i e = rw (e, ← length-successors x u) (drop-length (successors x u))

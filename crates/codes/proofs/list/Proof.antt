@@ -1,0 +1,47 @@
+-- `list` answers what its rows give: a refusal of 1 to 10 at once, and after it the listing, or row 16. Assumes nothing.
+use mathlib.Core.Path.{_≡_, sym, ap, _∙_}
+use borrow.Author.Needs.{needs}
+use Rattle.call.specs.Table.{answerOf, value}
+use Rattle.graph.specs.Checking.{checkAnswer}
+use Rattle.codes.proofs.Shells.{ready, list-refused, list-kept, list-written}
+use Rattle.codes.proofs.list.Statement.{statement}
+use Rattle.codes.proofs.list.Tie as tie
+
+-- checking has answered a value
+passed : (c : tie.After-enum-told) → let a = c .before .before .before .before .before .before .before .before .before .before .before .before .args in checkAnswer (a .voice .now) (a .lexicon .now) (a .work .now) ≡ value (c .enum-told .given .0 .0)
+passed c = sym (c .before .before .before .before .«open» .ensures .0) ∙ ap answerOf (c .enum-told .given .1)
+
+put-listing-requires : tie.Need-put-listing-requires
+put-listing-requires c κs =
+    let t = c .before .before .before in
+    let opened = c .before .before .before .before .before .before .before .«open» .ensures .1 .1 in
+    ready _ _ _ (passed t) (rw (ap answerOf (t .enum-told .given .1)) at opened)
+
+returns : tie.Need-returns
+returns c =
+    let a = c .before .before .before .before .before .before .before .before .before .before .before .before .before .before .before .before .before .before .args in
+    let w = list-written (a .voice .now) (a .lexicon .now) (a .work .now) (a .out .now) (passed (c .before .before .before .before .before .before)) (c .before .before .put-listing .ensures) in
+    (w .0, (c .before .before .before .before .before .before .before .before .before .before .«open» .ensures .1 .0, w .1))
+
+returns-2 : tie.Need-returns-2
+returns-2 c =
+    let a = c .before .before .before .before .before .before .before .before .before .before .before .before .args in
+    let o = c .before .before .before .before .«open» in
+    let refused = sym (o .ensures .0) ∙ ap answerOf (c .enum-told2 .given .1) in (
+      ap answerOf (c .enum-told2 .given .1) ∙ sym (list-refused (a .voice .now) (a .lexicon .now) (a .work .now) (a .out .now) refused),
+      (o .ensures .1 .0, sym (list-kept (a .voice .now) (a .lexicon .now) (a .work .now) (a .out .now) refused)),
+    )
+
+pub list-spec : {M : Type 1} → statement M
+list-spec =
+    tie.close
+    (tie.spec
+    (λ c κs. search needs)
+    (λ c. search needs)
+    put-listing-requires
+    (λ c. search needs)
+    (λ c. search needs)
+    (λ c. search needs)
+    returns
+    (λ c. search needs)
+    returns-2)

@@ -1,0 +1,98 @@
+-- `suffixes::leads` meets its contract: no successor that was passed has a mark. The measure is what is left of the list. Assumes nothing.
+use Prim.Native.Nat.{ℕ, _+_, _*_, _-_, _≤_, _<_}
+use mathlib.Core.Path.{sym}
+use lib.ListN.{length, getD}
+use native.Mathlib.Omega.{arith}
+use borrow.Author.Needs.{needs}
+use Rattle.endian.specs.Bytes.{u16}
+use Rattle.lexicon.specs.Lexicon.{sinkOf}
+use Rattle.checking.proofs.Arcs.{ArcNext, arc-next}
+use Rattle.codes.proofs.Walks.{has-entry, list-entry, list-there, list-end}
+use Rattle.codes.proofs.Search.{is-marked, not-marked, Unmarked, unmarked-start, unmarked-found, unmarked-next, unmarked-none}
+use Rattle.codes.proofs.suffixes.leads.Statement.{statement}
+use Rattle.codes.proofs.suffixes.leads.Tie as tie
+
+abbrev Inv-loop : tie.InvT-loop
+Inv-loop lexicon lists table vertex row start end at₀ at = Unmarked lexicon table row vertex at end
+
+abbrev μ-loop : tie.MeasureT-loop
+μ-loop lexicon lists table vertex row start end at₀ at = end - at
+
+low : (c : tie.After-shared-slice-known2 Inv-loop μ-loop) → c .before .before .args .vertex < 402
+unfolding sinkOf
+low c = let p = c .before .before .pre in has-entry (p .0 .well-formed) (omega (arith, p .1 .0))
+
+-- the list begins here
+abbrev start : tie.After-start Inv-loop μ-loop → ℕ
+start c = let a = c .before .before .before .args in getD (a .lists .now) (a .vertex) 0
+
+ends : (c : tie.After-start Inv-loop μ-loop) →
+    let x = c .before .before .before .args .lexicon .now in (start c + 2 + 2 * u16 x (start c) ≤ length x) × (start c + 2 + 2 * u16 x (start c) ≤ 9204)
+ends c = let p = c .before .before .before .pre in (list-there (p .0) (p .1 .0), list-end (p .0) (p .1 .0))
+
+number-at-requires : tie.Need-number-at-requires Inv-loop μ-loop
+number-at-requires c κs = omega (arith, ends c .0)
+
+ended : (c : tie.After-number-at Inv-loop μ-loop) → start (c .before) + 2 + 2 * c .number-at .result ≤ 9204
+ended c = rw (c .number-at .ensures) (ends (c .before) .1)
+
+loop-holds : tie.Need-loop-holds Inv-loop μ-loop
+loop-holds c =
+    let p = c .before .before .before .before .pre in
+    rw (c .number-at .ensures) (unmarked-start (p .0) (p .1 .0) (list-entry (p .0) (p .1 .0)))
+
+next : (c : tie.In-loop Inv-loop μ-loop) →
+    let l = c .before in
+    let n = l .before in
+    let a = n .before .before .before .before .args in
+    ArcNext (a .lexicon .now) (a .vertex) (l .loop .at) (start (n .before) + 2 + 2 * n .number-at .result) (l .loop .inv .left)
+next c = arc-next (c .before .loop .inv .arcs) (c .loop-test .taken)
+
+there : (c : tie.In-loop Inv-loop μ-loop) → c .before .loop .at + 2 ≤ length (c .before .before .before .before .before .before .args .lexicon .now)
+there c = omega (arith, next c .room, c .before .loop .inv .arcs .there)
+
+-- the successor has a place in the row
+placed : (c : tie.After-number-at2 Inv-loop μ-loop) →
+    let a = c .before .before .before .before .before .before .before .args in a .row + c .number-at2 .result < length (a .table .now)
+placed c =
+    let p = c .before .before .before .before .before .before .before .pre in
+    omega (arith, p .1 .1, c .number-at2 .ensures, has-entry (p .0 .well-formed) (next (c .before) .bounded))
+
+returns : tie.Need-returns Inv-loop μ-loop
+returns c =
+    let n = c .before .before in
+    let a = n .before .before .before .before .before .before .before .args in
+    sym (unmarked-found (n .before .before .loop .inv) (n .before .loop-test .taken) (rw (n .number-at2 .ensures) at (is-marked (a .table .now) (a .row) (n .number-at2 .result) (c .if1 .taken))))
+
+loop-again : tie.Need-loop-again Inv-loop μ-loop
+loop-again c =
+    let n = c .before .before in
+    let a = n .before .before .before .before .before .before .before .args in
+    unmarked-next (n .before .before .loop .inv) (n .before .loop-test .taken) (rw (n .number-at2 .ensures) at (not-marked (a .table .now) (a .row) (n .number-at2 .result) (c .if1 .left)))
+
+returns-2 : tie.Need-returns-2 Inv-loop μ-loop
+returns-2 c = sym (unmarked-none (c .before .loop .inv) (c .loop-test .left))
+
+pub leads-spec : {M : Type 1} → statement M
+leads-spec =
+    tie.close
+    (tie.spec
+    Inv-loop
+    μ-loop
+    (λ c. let h = low c in search needs)
+    low
+    (λ c. let h = ends c .1 in search needs)
+    (λ c. let h = ends c .1 in search needs)
+    number-at-requires
+    (λ c. let h = ended c in search needs)
+    (λ c. let h = ended c in search needs)
+    (λ c. let h = ended c in search needs)
+    loop-holds
+    (λ c κs. there c)
+    (λ c. let h = placed c in search needs)
+    (λ c. placed (c .before))
+    returns
+    (λ c. let h = there (c .before .before .before) in search needs)
+    (λ c. let h = next (c .before .before .before) .room in search needs)
+    loop-again
+    returns-2)

@@ -1,0 +1,80 @@
+-- `word_to_code` meets its contract: it answers as checking does where that refuses, and else looks the word up. Assumes nothing.
+use Prim.Native.Nat.{ℕ, _≤_}
+use mathlib.Core.Path.{sym, ap, _∙_}
+use mathlib.Core.List.{List, _++_}
+use lib.ListN.{length, drop}
+use lib.Seq.{length-take-le}
+use native.Mathlib.Omega.{arith}
+use borrow.Author.Needs.{needs}
+use Rattle.call.specs.Table.{answerOf}
+use Rattle.call.specs.Buffers.{cleared}
+use Rattle.call.proofs.Buffers.{cleared-length}
+use Rattle.codes.specs.Steps.{Ready}
+use Rattle.codes.proofs.Calls.{Passed, passed, ready, word-refused, word-looked, part-cleared}
+use Rattle.codes.proofs.word_to_code.Statement.{statement}
+use Rattle.codes.proofs.word_to_code.Tie as tie
+
+returns : tie.Need-returns
+returns c =
+    let o = c .before .before .before .before in
+    let e = ap answerOf (c .enum-told2 .given .1) in
+    (e ∙ sym (word-refused _ _ _ _ (sym (o .«open» .ensures .0) ∙ e)), o .«open» .ensures .1 .0)
+
+-- checking has answered W
+passes : (c : tie.After-enum-told) →
+    let o = c .before .before .before .before in
+    let a = o .before .before .before .before .before .before .before .before .args in
+    Passed (a .voice .now) (a .lexicon .now) (a .work .now) (c .enum-told .given .0 .0)
+passes c =
+    let o = c .before .before .before .before in
+    passed _ _ _ _ (sym (o .«open» .ensures .0) ∙ ap answerOf (c .enum-told .given .1))
+
+prepared : (c : tie.After-enum-told) →
+    let o = c .before .before .before .before in
+    let a = o .before .before .before .before .before .before .before .before .args in
+    Ready (a .voice .now) (a .lexicon .now) (o .«open» .last .1 .1 .1 .0) (o .«open» .last .1 .1 .1 .1 .0)
+prepared c =
+    let o = c .before .before .before .before in
+    ready _ _ _ _ _ (passes c) (rw (c .enum-told .given .1) at (o .«open» .ensures .1 .1))
+
+-- the table has room in the work space
+room : (c : tie.After-enum-told) → 13266 ≤ length (c .before .before .before .before .«open» .last .1 .1 .0)
+room c =
+    let o = c .before .before .before .before in
+    let w = o .before .before .before .before .before .before .before .before .args .work .now in
+    omega (arith, ap length (o .«open» .ensures .1 .0), cleared-length w, passes c .room)
+
+look-up-requires : tie.Need-look-up-requires
+look-up-requires c κs =
+    let k = c .before .before .before in
+    (prepared k, length-take-le 13266 (k .before .before .before .before .«open» .last .1 .1 .0) (room k))
+
+returns-2 : tie.Need-returns-2
+returns-2 c =
+    let l = c .before .before .before .before .before .before in
+    let k = l .before .before .before .before in
+    let o = k .before .before .before .before in
+    let a = o .before .before .before .before .before .before .before .before .args in
+    let part = l .look-up .last .1 .1 .1 .1 .1 .0 in (
+      l .look-up .ensures ∙ sym (word-looked (a .voice .now) (a .lexicon .now) (a .work .now) (a .word .now) (passes k)),
+      c .before .before .clear .ensures
+          ∙ ap (λ (w : List ℕ). cleared (part ++ drop 13266 w)) (o .«open» .ensures .1 .0)
+          ∙ part-cleared 13266 (a .work .now) part (omega arith) (passes k .room) (l .look-up .kept .1 .1 .1 .1 .1 .0 ∙ length-take-le 13266 (o .«open» .last .1 .1 .0) (room k)),
+    )
+
+pub word-to-code-spec : {M : Type 1} → statement M
+word-to-code-spec =
+    tie.close
+    (tie.spec
+    (λ c κs. search needs)
+    (λ c. search needs)
+    (λ c. search needs)
+    (λ c. search needs)
+    returns
+    (λ c. search needs)
+    (λ c. search needs)
+    (λ c. let h = room (c .before .before) in search needs)
+    look-up-requires
+    (λ c κs. search needs)
+    (λ c. search needs)
+    returns-2)

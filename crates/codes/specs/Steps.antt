@@ -1,0 +1,45 @@
+-- The vocabulary of the contracts of the private functions that go along arcs, by a code or by the letters of a word. No public contract
+-- cites it. Assumes nothing.
+use Prim.Native.Nat.{ℕ, suc, _+_, _*_, _≤_, _<_}
+use mathlib.Core.Path.{_≡_}
+use mathlib.Core.List.{List, [], _∷_, List·Memᴰ}
+use lib.ListN.{length, take}
+use lib.Dec.{ltb}
+use Rattle.call.specs.declared.Refusal.the-variants.{Output}
+use Rattle.call.specs.Table.{Answer, on, unless}
+use Rattle.lexicon.specs.Lexicon.{sinkOf, nodeLetter}
+use Rattle.graph.specs.Graph.{Graph, graphOf, pathCount, increment}
+use Rattle.graph.specs.Checking.{Accepted}
+use Rattle.checking.specs.Tables.{TableOf, Listed}
+
+-- a well-formed lexicon with the tables of its lists and path counts
+pub record Tabled (x lists counts : List ℕ) : Type 0 where
+  pub listed : Listed x lists
+  pub counted : TableOf (suc (sinkOf x)) (pathCount (graphOf x)) counts
+
+-- what a call works with that no row of 1 to 10 ends
+pub record Ready (v x lists counts : List ℕ) : Type 0 where
+  pub accepted : Accepted v x
+  pub tabled : Tabled x lists counts
+
+-- the letter of a node, and its print byte, lie inside the images
+pub record Readable (v x : List ℕ) (node : ℕ) : Type 0 where
+  pub letter : 1 + node < length x
+  pub print : 1 + 2 * nodeLetter x node < length v
+
+-- the arc from u along which a code leads: to s, with so much of it left there
+pub record Stepped (g : Graph) (u code s left : ℕ) : Type 0 where
+  pub arc : List·Memᴰ s (g .successors u)
+  pub split : code ≡ increment g u s + left
+  pub below : left < pathCount g s
+
+-- the first n bytes are the word
+pub record Spelled (word letters : List ℕ) (n : ℕ) : Type 0 where
+  pub size : n ≡ length word
+  pub few : n ≤ 32
+  pub long : length letters ≡ 32
+  pub start : take n letters ≡ word
+
+-- 16, or the bytes written
+unfoldable pub roomAnswer : List ℕ → List ℕ → Answer ℕ
+roomAnswer word out = unless (on Output (ltb (length out) (length word)) ∷ []) (length word)

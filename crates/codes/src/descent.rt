@@ -1,0 +1,93 @@
+// Code to word: from the root along the arcs to which the code leads (document 000, pseudo-code 5).
+ghost use mathlib.Core.Path.{_≡_};
+ghost use Prim.Native.Nat.{_≤_, _<_};
+ghost use lib.ListN.{length, take};
+ghost use Rattle.call.specs.Table.{answerOf};
+ghost use Rattle.call.specs.Buffers.{written};
+ghost use Rattle.lexicon.specs.Lexicon.{nodeCount};
+ghost use Rattle.graph.specs.Graph.{graphOf, pathCount, wordCount};
+ghost use Rattle.graph.specs.Words.{wordOfCode};
+ghost use Rattle.codes.specs.Steps.{Tabled, Ready, Stepped, Spelled, roomAnswer};
+use crate::image::number_at;
+use crate::image::print_byte;
+use call::Answer;
+use call::Refusal;
+
+// The vertex that an arc leads to, and a code that goes with it.
+pub(crate) struct Step {
+    pub vertex: usize,
+    pub code: u32,
+}
+
+// The arc along which the code leads, and what of the code is left behind it: the path counts of the successors before it are taken off.
+fn descend(
+    lexicon: &[u8],
+    lists: &[u16; 402],
+    counts: &[u32; 402],
+    vertex: usize,
+    code: u32,
+) -> Step
+    requires { ⌜ Tabled (now lexicon) (now lists) (now counts) ⌝ }
+    requires { ⌜ (vertex ≤ nodeCount (now lexicon)) × (code < pathCount (graphOf (now lexicon)) vertex) ⌝ }
+    ensures { λ r. ⌜ Stepped (graphOf (now (lexicon .entry))) vertex code (r .vertex) (r .code) ⌝ }
+{
+    let mut at = lists[vertex] as usize + 2;
+    let mut left = code;
+    loop {
+        let next = number_at(lexicon, at);
+        let count = counts[next];
+        if left < count {
+            return Step {
+                vertex: next,
+                code: left,
+            };
+        }
+        left -= count;
+        at += 2;
+    }
+}
+
+// Writes the word of a code below W, and answers its letters.
+pub(crate) fn spell(
+    voice: &[u8],
+    lexicon: &[u8],
+    lists: &[u16; 402],
+    counts: &[u32; 402],
+    code: u32,
+    letters: &mut [u8; 32],
+) -> usize
+    requires { ⌜ Ready (now voice) (now lexicon) (now lists) (now counts) ⌝ }
+    requires { ⌜ (code < wordCount (graphOf (now lexicon))) × (length (now letters) ≡ 32) ⌝ }
+    ensures { λ r. ⌜ Spelled (wordOfCode (now (voice .entry)) (graphOf (now (lexicon .entry))) code) (now (letters .exit)) r ⌝ }
+{
+    let sink = number_at(lexicon, 0) + 1;
+    let first = descend(lexicon, lists, counts, 0, code);
+    let mut vertex = first.vertex;
+    let mut left = first.code;
+    let mut length = 0;
+    while vertex < sink {
+        letters[length] = print_byte(voice, lexicon, vertex);
+        length += 1;
+        let next = descend(lexicon, lists, counts, vertex, left);
+        vertex = next.vertex;
+        left = next.code;
+    }
+    length
+}
+
+// Writes the first n letters at the output's start, or answers 16 where they have no room.
+pub(crate) fn put_word(out: &mut [u8], letters: &[u8; 32], n: usize) -> Answer
+    requires { ⌜ (n ≤ 32) × (length (now letters) ≡ 32) ⌝ }
+    ensures { λ r. ⌜ answerOf r ≡ roomAnswer (take n (now (letters .entry))) (now (out .entry)) ⌝ }
+    ensures { λ r. ⌜ now (out .exit) ≡ written (answerOf r) (take n (now (letters .entry))) (now (out .entry)) ⌝ }
+{
+    if out.len() < n {
+        return Answer::Refused(Refusal::Output);
+    }
+    let mut i = 0;
+    while i < n {
+        out[i] = letters[i];
+        i += 1;
+    }
+    Answer::Value(n as u32)
+}

@@ -1,0 +1,13 @@
+pub mod Open
+pub mod Slots
+pub mod Entering
+pub mod Falling
+pub mod Moving
+pub mod Lending
+pub mod Numbers
+pub mod Held
+pub mod Kept
+pub mod Numbering
+pub mod Gaining
+pub mod Listing
+pub mod Search

@@ -1,0 +1,132 @@
+-- The numbers of the places: each node's stretch begins where that of the node below it ends, so that no two places have the same number and
+-- all are below their count. And the table of the first places while it is filled, node by node. Assumes nothing.
+use mathlib.Core.Path.{_≡_, refl, sym, ap, _∙_}
+use mathlib.Core.Bool.{cond}
+use mathlib.Core.List.{List, map, map-append}
+use Prim.Native.Nat.{ℕ, zero, suc, _+_, _*_, _≤_, _<_}
+use native.Mathlib.Nat.{add-zero}
+use native.Mathlib.Omega.{arith}
+use native.Mathlib.Numerals.{add-one}
+use native.Mathlib.Decide.{decLt}
+use lib.ListN.{length, getD, set, replicate}
+use lib.Dec.{ltb}
+use borrow.Author.Tests.{le-ltb}
+use Rattle.endian.specs.Lists.{from, sum}
+use Rattle.endian.proofs.Lists.{from-add, sum-append}
+use Rattle.voice.specs.Voice.{letterCount, states}
+use Rattle.voice.proofs.Letters.{states-range, states-there}
+use Rattle.lexicon.specs.Lexicon.{nodeCount, nodeLetter, sinkOf}
+use Rattle.lexicon.proofs.WellFormed.{letter-known}
+use Rattle.graph.specs.Graph.{Graph, graphOf, sink}
+use Rattle.graph.specs.Conditions.{placeCount}
+use Rattle.checking.specs.Tables.{TableOf}
+use Rattle.checking.proofs.Tables.{table-start, table-next}
+use Rattle.checking.proofs.Arcs.{nodes-there, shape-of}
+use Rattle.checking.proofs.Counting.{Images, well-formed}
+use Rattle.decoding.specs.Places.{firstPlace}
+
+module _ (v : List ℕ) (g : Graph) where
+  -- after a node's places come those of the next
+  pub place-next : (m : ℕ) → firstPlace v g (suc (suc m)) ≡ firstPlace v g (suc m) + states v (g .letter (suc m))
+  unfolding firstPlace
+  place-next m =
+      rw (← add-one m, from-add 1 m 1, map-append, sum-append)
+      (unfold from sum in rw add-zero (ap (λ n. sum (map (λ n. states v (g .letter n)) (from 1 m)) + states v (g .letter n)) (omega arith)))
+
+  pub places-all : firstPlace v g (sink g) ≡ placeCount v g
+  unfolding firstPlace placeCount sink
+  places-all = refl
+
+  -- a node's places end before those of any higher vertex begin
+  pub place-end : {u w : ℕ} → 1 ≤ u → u < w → firstPlace v g u + states v (g .letter u) ≤ firstPlace v g w
+  place-end {u = zero} {w} h k = absurd (omega arith)
+  place-end {u = suc u} {w = zero} h k = absurd (omega arith)
+  place-end {u = suc u} {w = suc zero} h k = absurd (omega arith)
+  place-end {u = suc u} {w = suc (suc w)} h k =
+      let e = place-next w in
+      elim (decLt u w) [
+        | yes l ↦ omega (arith, e, place-end {u = suc u} {w = suc w} h (omega arith))
+        | no n ↦ let q : u ≡ w = omega arith in rw q (omega (arith, e))
+      ]
+
+  -- a state of a node has a number below the count of places
+  pub place-below : {u s : ℕ} → 1 ≤ u → u ≤ g .nodes → s < states v (g .letter u) → firstPlace v g u + s < placeCount v g
+  unfolding sink
+  place-below {u} {s} h k l = omega (arith, place-end {u = u} {w = sink g} h (omega arith), places-all)
+
+  -- and no other state has it
+  pub place-once : {u w s r : ℕ} → 1 ≤ u → 1 ≤ w → s < states v (g .letter u) → r < states v (g .letter w)
+      → firstPlace v g u + s ≡ firstPlace v g w + r → (u ≡ w) × (s ≡ r)
+  place-once {u} {w} {s} {r} h k l m e = elim (decLt u w) [
+    | yes n ↦ absurd (omega (arith, place-end {u = u} {w = w} h n))
+    | no n ↦ elim (decLt w u) [
+      | yes q ↦ absurd (omega (arith, place-end {u = w} {w = u} k q))
+      | no q ↦ let same : u ≡ w = omega arith in (same, let f : firstPlace v g u ≡ firstPlace v g w = ap (firstPlace v g) same in omega arith)
+    ]
+  ]
+
+-- ---- the table
+
+-- the nodes below this one have their entry, and its own is known
+pub record PlacesFound (v x : List ℕ) (node place : ℕ) (firsts : List ℕ) : Type 0 where
+  pub table : TableOf node (firstPlace v (graphOf x)) firsts
+  pub here : place ≡ firstPlace v (graphOf x) node
+  pub first : 1 ≤ node
+  pub last : node ≤ sinkOf x
+  pub few : place ≤ 4 * node
+
+pub places-start : (v x : List ℕ) {firsts : List ℕ} → firsts ≡ replicate 402 0 → PlacesFound v x 1 0 firsts
+unfolding firstPlace sinkOf from sum
+places-start v x h = rw h (record {
+  table = record { long = refl; holds = λ u. table-start first .holds u ∙ root u };
+  here = refl;
+  first = omega arith;
+  last = omega arith;
+  few = omega arith;
+})
+  where
+    first : ℕ → ℕ
+    first = firstPlace v (graphOf x)
+
+    -- the root has no place, and 0 stands there
+    root : (u : ℕ) → cond (ltb u 0) (first u) 0 ≡ cond (ltb u 1) (first u) 0
+    root zero = refl
+    root (suc u) = rw (le-ltb (suc u) 0 (omega arith), le-ltb (suc u) 1 (omega arith))
+
+-- the bytes that are read for a node
+pub record PlaceRead (v x : List ℕ) (node place : ℕ) (firsts : List ℕ) : Type 0 where
+  pub node-there : 1 + node < length x
+  pub states-there : 2 + 2 * getD x (1 + node) 0 < length v
+  pub few : getD v (2 + 2 * getD x (1 + node) 0) 0 ≤ 4
+  pub after : PlacesFound v x (node + 1) (place + getD v (2 + 2 * getD x (1 + node) 0) 0) (set firsts node place)
+
+pub place-read : {v x : List ℕ} {node place : ℕ} {firsts : List ℕ} → Images v x → PlacesFound v x node place firsts → node ≤ nodeCount x
+    → PlaceRead v x node place firsts
+unfolding nodeLetter states sinkOf
+place-read {v} {x} {node} {place} {firsts} i p h = record {
+  node-there = omega (arith, nodes-there (well-formed i));
+  states-there = states-there v (i .voice) known;
+  few = few;
+  after = rw add-one (record {
+    table = table-next (p .table) (omega (arith, shape-of (well-formed i) .few)) (p .here);
+    here = next node (p .first) (p .here);
+    first = omega arith;
+    last = omega arith;
+    few = omega (arith, p .few, few);
+  });
+}
+  where
+    known : nodeLetter x node < letterCount v
+    known = letter-known (letterCount v) x (i .lexicon) node (p .first) h
+
+    few : states v (nodeLetter x node) ≤ 4
+    few = states-range v (i .voice) known .1
+
+    next : (n : ℕ) → 1 ≤ n → place ≡ firstPlace v (graphOf x) n → place + states v (nodeLetter x n) ≡ firstPlace v (graphOf x) (suc n)
+    next zero l e = absurd (omega arith)
+    next (suc m) l e = rw e (sym (place-next v (graphOf x) m))
+
+pub places-done : {v x : List ℕ} {node place : ℕ} {firsts : List ℕ} → PlacesFound v x node place firsts → nodeCount x < node
+    → TableOf (sinkOf x) (firstPlace v (graphOf x)) firsts
+unfolding sinkOf
+places-done {x} {node} p h = let e : node ≡ suc (nodeCount x) = omega (arith, p .last) in rw e at (p .table)

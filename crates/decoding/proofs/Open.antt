@@ -1,0 +1,12 @@
+-- Every definition of this crate's specs/, open: a computed example names `everything` on its `unfolding` line in place of them all.
+-- Assumes nothing.
+use Rattle.decoding.specs.Slots.{tokenAt, slots, codePart, position, push, enter, offered, shifted}
+use Rattle.decoding.specs.Held.{raised, tokenOf, pad, upOf, downOf}
+use Rattle.decoding.specs.Places.{firstPlace}
+use Rattle.decoding.specs.Gains.{gainOf, pairOf, letterPairs, pairGain, loopGain, stepGain, entryGain}
+use Rattle.decoding.specs.Listing.{hitOf, hitsOf}
+use Rattle.decoding.specs.Calling.{callRows}
+
+unfoldable pub everything : Unit {0}
+unfolding tokenAt slots codePart position push enter offered shifted raised tokenOf pad upOf downOf firstPlace gainOf pairOf letterPairs pairGain loopGain stepGain entryGain hitOf hitsOf callRows
+everything = tt

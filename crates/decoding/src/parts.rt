@@ -1,0 +1,46 @@
+// A place within the whole store, by the slot that it begins at: its part is lent on, and nothing else changes.
+ghost use mathlib.Core.Path.{_≡_};
+ghost use mathlib.Core.List.{_++_};
+ghost use Prim.Native.Nat.{_-_};
+ghost use lib.ListN.{take, replicate};
+ghost use Rattle.decoding.specs.Slots.{slots, offered, shifted, Room, Movable, Offer, Changed};
+use crate::store::clear_place;
+use crate::store::copy_place;
+use crate::store::offer;
+use crate::store::shift;
+
+pub(crate) fn copy_at(store: &[u8], n: usize, slot: usize) -> [u64; 8]
+    requires { ⌜ Room n slot (now store) ⌝ }
+    ensures { λ r. ⌜ r ≡ slots n slot (now (store .entry)) ++ replicate (8 - n) 0 ⌝ }
+{
+    let start = 8 * slot;
+    let end = start + 8 * n;
+    copy_place(&store[start..end], n)
+}
+
+pub(crate) fn clear_at(store: &mut [u8], n: usize, slot: usize)
+    requires { ⌜ Room n slot (now store) ⌝ }
+    ensures { λ _. ⌜ Changed slot n (replicate n 0) (now (store .entry)) (now (store .exit)) ⌝ }
+{
+    let start = 8 * slot;
+    let end = start + 8 * n;
+    clear_place(&mut store[start..end], n);
+}
+
+pub(crate) fn shift_at(store: &mut [u8], n: usize, slot: usize, up: u64, down: u64)
+    requires { ⌜ Room n slot (now store) × Movable up down (slots n slot (now store)) ⌝ }
+    ensures { λ _. ⌜ Changed slot n (shifted up down (slots n slot (now (store .entry)))) (now (store .entry)) (now (store .exit)) ⌝ }
+{
+    let start = 8 * slot;
+    let end = start + 8 * n;
+    shift(&mut store[start..end], n, up, down);
+}
+
+pub(crate) fn offer_at(store: &mut [u8], n: usize, slot: usize, from: &[u64; 8], up: u64, down: u64)
+    requires { ⌜ Offer n slot up down (now from) (now store) ⌝ }
+    ensures { λ _. ⌜ Changed slot n (offered up down (take n (now (from .entry))) (slots n slot (now (store .entry)))) (now (store .entry)) (now (store .exit)) ⌝ }
+{
+    let start = 8 * slot;
+    let end = start + 8 * n;
+    offer(&mut store[start..end], n, from, up, down);
+}
