@@ -4,47 +4,27 @@
 mod limits;
 mod several;
 
-use crate::buffers::Buffer;
+use crate::buffers::{cut, whole, Buffer, Lent};
 use crate::counts::Counts;
 use crate::damage::{damaged, with_field, EDGES};
 use crate::draw;
+use crate::faults::faulty_images;
 use crate::image::{bytes_of, small_lexicon, small_voice, Field, Lexicon, Voice};
 use crate::library;
 use crate::random::Random;
 use crate::reference::{self, WORK_SPACE};
 use crate::sketch::{Sketch, SINK};
+use crate::work::{self, Work};
 
 const ALL: [usize; 11] = [0, 1, 2, 3, 4, 5, 6, 7, 8, 9, 10];
-static ZEROS: [u8; WORK_SPACE] = [0; WORK_SPACE];
 const SHOWN_DIFFERENCES: usize = 10;
 const SHOWN_BYTES: usize = 400;
-
-/// What is lent of an image, and what follows it in memory.
-#[derive(Clone, Copy)]
-struct Image<'a> {
-    lent: &'a [u8],
-    behind: &'a [u8],
-}
-
-fn whole(bytes: &[u8]) -> Image<'_> {
-    Image {
-        lent: bytes,
-        behind: &[],
-    }
-}
-
-fn cut(bytes: &[u8], length: usize) -> Image<'_> {
-    let (lent, behind) = bytes.split_at(length);
-    Image { lent, behind }
-}
 
 struct Checking {
     random: Random,
     voice: Buffer,
     lexicon: Buffer,
-    work: Buffer,
-    /// Random bytes, of which any stretch is an old content of the work space.
-    old: Vec<u8>,
+    work: Work,
     counts: Counts,
     differences: usize,
 }
@@ -53,11 +33,10 @@ struct Checking {
 pub fn run(seed: u64) -> usize {
     let mut random = Random::from_seed(seed);
     let mut checking = Checking {
-        old: random.bytes(1 << 18),
+        work: Work::new(&mut random),
         random,
         voice: Buffer::new(),
         lexicon: Buffer::new(),
-        work: Buffer::new(),
         counts: Counts::of(&ALL[1..]),
         differences: 0,
     };
@@ -84,23 +63,20 @@ pub fn run(seed: u64) -> usize {
 
 impl Checking {
     /// One call, held to the reference, whose answer is returned.
-    fn call(&mut self, voice: Image, lexicon: Image, work_length: usize) -> i32 {
-        self.voice.hold(voice.lent, voice.behind, &mut self.random);
-        self.lexicon
-            .hold(lexicon.lent, lexicon.behind, &mut self.random);
-        let at = self.random.below(self.old.len() - work_length);
-        self.work
-            .hold(&self.old[at..at + work_length], &[], &mut self.random);
-        let answer = library::check(&mut self.voice, &mut self.lexicon, &mut self.work);
-        let expected = reference::check(voice.lent, lexicon.lent, work_length);
-        let cleared = if expected == -1 { 0 } else { WORK_SPACE };
+    fn call(&mut self, voice: Lent, lexicon: Lent, work_length: usize) -> i32 {
+        self.voice.hold(voice, &mut self.random);
+        self.lexicon.hold(lexicon, &mut self.random);
+        self.work.hold(work_length, &mut self.random);
+        let work = &mut self.work.buffer;
+        let answer = library::check(&mut self.voice, &mut self.lexicon, work);
+        let expected = reference::check(voice.bytes, lexicon.bytes, work_length);
         if answer != expected {
             self.difference(&format!("answered {answer}, expected {expected}"));
         } else if !self.voice.unchanged() || !self.lexicon.unchanged() {
             self.difference(&format!(
                 "answered {answer}, an image or bytes around it changed"
             ));
-        } else if !self.work.begins_with(&ZEROS[..cleared]) {
+        } else if !self.work.is_left_by(expected) {
             self.difference(&format!(
                 "answered {answer}, work bytes or bytes around them differ"
             ));
@@ -119,20 +95,11 @@ impl Checking {
             let shown = &buffer.contents()[..buffer.length().min(SHOWN_BYTES)];
             println!("  {name} of {} bytes: {shown:?}", buffer.length());
         }
-        println!("  work space of {} bytes", self.work.length());
-    }
-
-    /// Long enough nearly always.
-    fn any_work_length(&mut self) -> usize {
-        match self.random.below(100) {
-            0 => self.random.below(WORK_SPACE),
-            1..=10 => self.random.between(WORK_SPACE, 70_000),
-            _ => WORK_SPACE,
-        }
+        println!("  work space of {} bytes", self.work.buffer.length());
     }
 
     fn call_with(&mut self, voice: &[u8], lexicon: &[u8]) -> i32 {
-        let work_length = self.any_work_length();
+        let work_length = work::any_length(&mut self.random);
         self.call(whole(voice), whole(lexicon), work_length)
     }
 
@@ -317,12 +284,9 @@ impl Checking {
             let several = self.random.below(1 << 9) & self.random.below(1 << 9);
             let (voice, lexicon) = match k % 3 {
                 0 => self.short_images_as_bytes(),
-                _ => self.faulty_images(several),
+                _ => faulty_images(&mut self.random, several),
             };
-            for length in [0, 1, 7, 8, 400, 20_100, 32_768, 63_992, 63_999] {
-                self.call(whole(&voice), whole(&lexicon), length);
-            }
-            for length in [64_000, 64_001, 64_007, 65_535, 65_536, 70_000] {
+            for length in work::LENGTHS {
                 self.call(whole(&voice), whole(&lexicon), length);
             }
         }

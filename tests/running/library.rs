@@ -1,6 +1,6 @@
 //! The product's C interface, called with lent buffers.
 
-use crate::buffers::Buffer;
+use crate::buffers::{Buffer, Numbers};
 
 extern "C" {
     fn wundaleth_check(
@@ -11,10 +11,57 @@ extern "C" {
         work: *mut u8,
         work_len: usize,
     ) -> i32;
+    fn wundaleth_word_to_code(
+        voice: *const u8,
+        voice_len: usize,
+        lexicon: *const u8,
+        lexicon_len: usize,
+        word: *const u8,
+        word_len: usize,
+        work: *mut u8,
+        work_len: usize,
+    ) -> i32;
+    fn wundaleth_code_to_word(
+        voice: *const u8,
+        voice_len: usize,
+        lexicon: *const u8,
+        lexicon_len: usize,
+        code: u32,
+        work: *mut u8,
+        work_len: usize,
+        out: *mut u8,
+        out_len: usize,
+    ) -> i32;
+    fn wundaleth_list(
+        voice: *const u8,
+        voice_len: usize,
+        lexicon: *const u8,
+        lexicon_len: usize,
+        work: *mut u8,
+        work_len: usize,
+        out: *mut u8,
+        out_len: usize,
+    ) -> i32;
+    fn wundaleth_pack(
+        words: u32,
+        codes: *const u32,
+        codes_len: usize,
+        out: *mut u8,
+        out_len: usize,
+    ) -> i32;
+    fn wundaleth_unpack(
+        words: u32,
+        n: u32,
+        packed: *const u8,
+        packed_len: usize,
+        out: *mut u8,
+        out_len: usize,
+    ) -> i32;
 }
 
+// In each call every pointer is valid for its length, and the buffers are memory of their own.
+
 pub fn check(voice: &mut Buffer, lexicon: &mut Buffer, work: &mut Buffer) -> i32 {
-    // Each pointer is valid for its length, and the three buffers are memory of their own.
     unsafe {
         wundaleth_check(
             voice.pointer(),
@@ -23,6 +70,88 @@ pub fn check(voice: &mut Buffer, lexicon: &mut Buffer, work: &mut Buffer) -> i32
             lexicon.length(),
             work.pointer(),
             work.length(),
+        )
+    }
+}
+
+pub fn word_to_code(
+    voice: &mut Buffer,
+    lexicon: &mut Buffer,
+    word: &mut Buffer,
+    work: &mut Buffer,
+) -> i32 {
+    unsafe {
+        wundaleth_word_to_code(
+            voice.pointer(),
+            voice.length(),
+            lexicon.pointer(),
+            lexicon.length(),
+            word.pointer(),
+            word.length(),
+            work.pointer(),
+            work.length(),
+        )
+    }
+}
+
+pub fn code_to_word(
+    voice: &mut Buffer,
+    lexicon: &mut Buffer,
+    code: u32,
+    work: &mut Buffer,
+    out: &mut Buffer,
+) -> i32 {
+    unsafe {
+        wundaleth_code_to_word(
+            voice.pointer(),
+            voice.length(),
+            lexicon.pointer(),
+            lexicon.length(),
+            code,
+            work.pointer(),
+            work.length(),
+            out.pointer(),
+            out.length(),
+        )
+    }
+}
+
+pub fn list(voice: &mut Buffer, lexicon: &mut Buffer, work: &mut Buffer, out: &mut Buffer) -> i32 {
+    unsafe {
+        wundaleth_list(
+            voice.pointer(),
+            voice.length(),
+            lexicon.pointer(),
+            lexicon.length(),
+            work.pointer(),
+            work.length(),
+            out.pointer(),
+            out.length(),
+        )
+    }
+}
+
+pub fn pack(words: u32, codes: &mut Numbers, out: &mut Buffer) -> i32 {
+    unsafe {
+        wundaleth_pack(
+            words,
+            codes.pointer(),
+            codes.length(),
+            out.pointer(),
+            out.length(),
+        )
+    }
+}
+
+pub fn unpack(words: u32, n: u32, packed: &mut Buffer, out: &mut Buffer) -> i32 {
+    unsafe {
+        wundaleth_unpack(
+            words,
+            n,
+            packed.pointer(),
+            packed.length(),
+            out.pointer(),
+            out.length(),
         )
     }
 }

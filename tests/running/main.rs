@@ -2,25 +2,46 @@
 //! written by the scope paper alone. One seed makes the whole run; another may be given as the first argument.
 
 mod buffers;
+#[allow(dead_code)] // each part may be left out of the list below
 mod checking;
+#[allow(dead_code)]
+mod codes;
 mod counts;
 mod damage;
 mod draw;
+mod faults;
 mod image;
 mod library;
+#[allow(dead_code)]
+mod packing;
 mod random;
 mod reference;
 mod sketch;
+mod work;
 
 use std::process::ExitCode;
 
 const SEED: u64 = 20_240_501;
 
+/// Takes the seed, and says how many faults there are.
+type Part = fn(u64) -> usize;
+
+/// What is run. A library that does not export some calls is tested with the line of their part commented out.
+const PARTS: &[(&str, Part)] = &[
+    ("checking", checking::run),
+    ("words and codes", codes::run),
+    ("packed codes", packing::run),
+];
+
 fn main() -> ExitCode {
     let given = std::env::args().nth(1).and_then(|word| word.parse().ok());
     let seed = given.unwrap_or(SEED);
     println!("seed {seed}");
-    let faults = checking::run(seed);
+    let mut faults = 0;
+    for (name, run) in PARTS {
+        println!("\n{name}");
+        faults += run(seed);
+    }
     if faults == 0 {
         ExitCode::SUCCESS
     } else {

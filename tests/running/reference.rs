@@ -18,8 +18,10 @@ const FEW_PATHS: u128 = 3_000;
 /// A refusal's number.
 pub type Number = i32;
 
-/// An accepted voice model, as far as checking needs it: the number of states of each letter.
+/// An accepted voice model, as far as the calls without frames need it: for each letter its print byte and its number of
+/// states.
 pub struct Voice {
+    pub print_bytes: Vec<u8>,
     pub states: Vec<usize>,
 }
 
@@ -120,10 +122,11 @@ pub fn read_voice(bytes: &[u8]) -> Result<Voice, Number> {
         out_of_range: 3,
     };
     let letters = fields.byte(|l| (1..=64).contains(&l))?;
-    let mut states = Vec::new();
+    let (mut print_bytes, mut states) = (Vec::new(), Vec::new());
     let mut last_print_byte = 0;
     for _ in 0..letters {
         last_print_byte = fields.byte(|b| (33..=126).contains(&b) && b > last_print_byte)?;
+        print_bytes.push(last_print_byte as u8);
         states.push(fields.byte(|s| (1..=4).contains(&s))?);
     }
     let sum: usize = states.iter().sum();
@@ -142,7 +145,10 @@ pub fn read_voice(bytes: &[u8]) -> Result<Voice, Number> {
         fields.number(any)?;
     }
     fields.end()?;
-    Ok(Voice { states })
+    Ok(Voice {
+        print_bytes,
+        states,
+    })
 }
 
 pub fn read_lexicon(bytes: &[u8], letters: usize) -> Result<Lexicon, Number> {
