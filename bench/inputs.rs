@@ -20,7 +20,7 @@ fn voice(random: &mut Random) -> Voice {
     draw::voice_of(random, &[2; 64], 64)
 }
 
-fn input(name: &'static str, sketch: &Sketch, random: &mut Random) -> Input {
+pub fn input(name: &'static str, sketch: &Sketch, random: &mut Random) -> Input {
     Input {
         name,
         nodes: sketch.nodes(),

@@ -1,19 +1,21 @@
 /* How much stack a call takes. A thread with a stack of its own paints all of it that lies below the call, calls, and looks
    how far down the paint is gone. */
+#include "../include/wundaleth.h"
+
 #include <pthread.h>
-#include <stddef.h>
-#include <stdint.h>
 
 enum { STACK = 1 << 20, PAINT = 0xa5 };
 
-int32_t wundaleth_check(const uint8_t *voice, size_t voice_len, const uint8_t *lexicon, size_t lexicon_len, uint8_t *work,
-                        size_t work_len);
+enum which { CHECK, WORD_TO_CODE, CODE_TO_WORD, LIST };
 
+/* A call, its answer, and the bytes of stack that it took. stack.rs has the same fields. */
 struct call {
-    const uint8_t *voice, *lexicon;
-    size_t voice_len, lexicon_len;
-    uint8_t *work;
-    size_t work_len;
+    uint32_t which;
+    uint32_t code;
+    const uint8_t *voice, *lexicon, *word;
+    size_t voice_len, lexicon_len, word_len;
+    uint8_t *work, *out;
+    size_t work_len, out_len;
     int32_t answer;
     size_t used;
 };
@@ -26,6 +28,22 @@ static __attribute__((noinline)) uint8_t *begin_of_call(void)
     return (uint8_t *)__builtin_frame_address(0) + 2 * sizeof(void *);
 }
 
+static int32_t made(const struct call *c)
+{
+    switch (c->which) {
+    case WORD_TO_CODE:
+        return wundaleth_word_to_code(c->voice, c->voice_len, c->lexicon, c->lexicon_len, c->word, c->word_len, c->work,
+                                      c->work_len);
+    case CODE_TO_WORD:
+        return wundaleth_code_to_word(c->voice, c->voice_len, c->lexicon, c->lexicon_len, c->code, c->work, c->work_len,
+                                      c->out, c->out_len);
+    case LIST:
+        return wundaleth_list(c->voice, c->voice_len, c->lexicon, c->lexicon_len, c->work, c->work_len, c->out, c->out_len);
+    default:
+        return wundaleth_check(c->voice, c->voice_len, c->lexicon, c->lexicon_len, c->work, c->work_len);
+    }
+}
+
 static void *measure(void *argument)
 {
     struct call *call = argument;
@@ -34,25 +52,23 @@ static void *measure(void *argument)
 
     for (at = begin; at-- > stack;)
         *at = PAINT;
-    call->answer = wundaleth_check(call->voice, call->voice_len, call->lexicon, call->lexicon_len, call->work, call->work_len);
+    call->answer = made(call);
     for (at = stack; at < begin && *at == PAINT; at++)
         ;
     call->used = (size_t)(begin - at);
     return NULL;
 }
 
-/* Bytes of stack, return address included; 0 if there was no thread to be had. */
-size_t stack_of_check(const uint8_t *voice, size_t voice_len, const uint8_t *lexicon, size_t lexicon_len, uint8_t *work,
-                      size_t work_len, int32_t *answer)
+/* Makes the call. The bytes of stack have the return address and this file's own switch in them; they stay 0 if there was no
+   thread to be had. */
+void stack_of(struct call *call)
 {
-    struct call call = {voice, lexicon, voice_len, lexicon_len, work, work_len, 0, 0};
     pthread_attr_t attributes;
     pthread_t thread;
 
+    call->used = 0;
     if (pthread_attr_init(&attributes) != 0 || pthread_attr_setstack(&attributes, stack, STACK) != 0)
-        return 0;
-    if (pthread_create(&thread, &attributes, measure, &call) != 0 || pthread_join(thread, NULL) != 0)
-        return 0;
-    *answer = call.answer;
-    return call.used;
+        return;
+    if (pthread_create(&thread, &attributes, measure, call) == 0)
+        pthread_join(thread, NULL);
 }
