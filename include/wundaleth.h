@@ -59,8 +59,8 @@ int32_t wundaleth_word_to_code(const uint8_t *voice, size_t voice_length, const 
 int32_t wundaleth_code_to_word(const uint8_t *voice, size_t voice_length, const uint8_t *lexicon, size_t lexicon_length, uint32_t code,
                                uint8_t *work, size_t work_length, uint8_t *out, size_t out_length);
 
-/* Writes every word, each followed by byte 10, in the order of the codes 0 to W - 1. Answers the bytes written, or refuses with 1 to 10 or
- * 16. It takes stack for every arc on the way down, some 112 bytes each; every other call takes less than 4 KB. */
+/* Writes every word, each followed by byte 10, in the order of the codes 0 to W - 1. Answers the bytes written, at most 33 x W, or refuses
+ * with 1 to 10 or 16. */
 int32_t wundaleth_list(const uint8_t *voice, size_t voice_length, const uint8_t *lexicon, size_t lexicon_length, uint8_t *work,
                        size_t work_length, uint8_t *out, size_t out_length);
 

@@ -23,6 +23,7 @@ pub record Head (x : List ℕ) (u at : ℕ) : Type 0 where
   pub small : at ≤ 9204
   pub few : arcCount x u ≤ 4601
   pub count : u16 x at ≡ arcCount x u
+  pub number : {i : ℕ} → i < arcCount x u → getD (successors x u) i 0 ≡ u16 x (at + 2 + 2 * i)
   -- the arcs from number i on, of which the first is there to read
   pub next : {i : ℕ} → i < arcCount x u → drop i (successors x u) ≡ u16 x (at + 2 + 2 * i) ∷ drop (i + 1) (successors x u)
   pub arc : {i : ℕ} → i < arcCount x u → List·Memᴰ (u16 x (at + 2 + 2 * i)) (successors x u)
@@ -41,6 +42,7 @@ head-at {x} {lists} t {u} h = rw (entry (t .table) {u = u} (omega arith)) (recor
   small = shape-of (t .well-formed) .small {u = u} (omega arith);
   few = omega (arith, arcs-next x u, shape-of (t .well-formed) .small {u = suc u} (omega arith));
   count = refl;
+  number = λ {i} k. number k;
   next = λ {i} k. drop-cons (successors x u) i 0 (rw (length-successors x u) k) ∙ rw (number k, add-one i);
   arc = λ {i} k. mem k;
   rises = λ {i} k. sound-of (t .well-formed) .rises (omega arith) (mem k);

@@ -2,11 +2,11 @@
 -- the root on they are the listing. And how the lines of one call follow those of another. Assumes nothing.
 use mathlib.Core.Path.{_≡_, refl, sym, ap, _∙_}
 use mathlib.Core.List.{List, [], _∷_, _++_, map, flatMap, append-nil, append-assoc, List·Memᴰ}
-use Prim.Native.Nat.{ℕ, _+_, _<_}
+use Prim.Native.Nat.{ℕ, _+_, _≤_, _<_}
 use native.Mathlib.Numerals.{add-one}
 use native.Mathlib.Omega.{arith}
-use lib.ListN.{length, take, drop, set, length-append, length-set}
-use lib.Seq.{append-snoc, drop-drop, take-take, take-set-le, drop-set-lt, take-suc-set}
+use lib.ListN.{length, take, drop, set, getD, length-append, length-set, take-append-drop}
+use lib.Seq.{append-snoc, drop-drop, take-take, take-suc, take-set-le, drop-set-lt, take-suc-set}
 use Rattle.endian.proofs.Lists.{flatMap-cong, flatMap-map}
 use Rattle.voice.specs.Voice.{printByte}
 use Rattle.graph.specs.Graph.{Graph, sink, ways, fullPaths}
@@ -34,9 +34,18 @@ module _ (v : List ℕ) (g : Graph) (w : List ℕ) where
   unfolding linesOver flatMap
   over-none = refl
 
-  pub over-next : (s : ℕ) (l : List ℕ) → linesOver v g (s ∷ l) w ≡ linesFrom v g s w ++ linesOver v g l w
+  -- one vertex more
+  pub over-more : (l : List ℕ) (i : ℕ) → i < length l → linesOver v g (take (i + 1) l) w ≡ linesOver v g (take i l) w ++ linesFrom v g (getD l i 0) w
   unfolding linesOver flatMap
-  over-next s l = refl
+  over-more l i h =
+      rw (add-one i, take-suc l i 0 h) (flatMap-append (λ s. linesFrom v g s w) (take i l) (getD l i 0 ∷ []) ∙ rw (append-nil (linesFrom v g (getD l i 0) w)))
+
+  over-both : (l : List ℕ) (i : ℕ) → linesOver v g l w ≡ linesOver v g (take i l) w ++ linesOver v g (drop i l) w
+  unfolding linesOver
+  over-both l i = ap (flatMap (λ s. linesFrom v g s w)) (sym (take-append-drop i l)) ∙ flatMap-append (λ s. linesFrom v g s w) (take i l) (drop i l)
+
+  pub over-part : (l : List ℕ) (i : ℕ) → length (linesOver v g (take i l) w) ≤ length (linesOver v g l w)
+  over-part l i = omega (arith, ap length (over-both l i), length-append (linesOver v g (take i l) w) (linesOver v g (drop i l) w))
 
 -- ---- a vertex
 

@@ -1,27 +1,78 @@
--- What the vertex step and the arc step hand to each other: an arc enters the vertex that it leads to, and the arcs after it are left; a node goes
--- through its arcs with its letter added to the word; the sink has its line. Assumes nothing.
-use mathlib.Core.Path.{_≡_, ap, _∙_}
+-- What the vertex step and the arc step hand to each other: a vertex goes through its arcs, each of which adds its lines; an arc enters the vertex
+-- that it leads to: a node, which goes through its arcs with its letter added to the word, or the sink, which has its line. Assumes nothing.
+use mathlib.Core.Path.{_≡_, refl, sym, ap, _∙_}
 use mathlib.Core.List.{List, [], _∷_, _++_}
 use Prim.Native.Nat.{ℕ, _+_, _*_, _≤_, _<_}
 use native.Mathlib.Omega.{arith}
-use lib.ListN.{length, getD, take, drop, set, length-append}
+use lib.ListN.{length, getD, take, set, length-append}
+use lib.Seq.{take-all}
 use Rattle.endian.specs.Bytes.{u16}
 use Rattle.voice.specs.Voice.{printByte}
 use Rattle.lexicon.specs.Lexicon.{nodeCount, sinkOf, nodeLetter, arcCount, successors}
+use Rattle.lexicon.proofs.Readers.{length-successors}
 use Rattle.graph.specs.Graph.{graphOf, sink}
 use Rattle.graph.proofs.Sound.{Sound}
 use Rattle.graph.proofs.Accepted.{accepted}
 use Rattle.checking.proofs.Arcs.{shape-of}
 use Rattle.codes.specs.Steps.{Readable}
-use Rattle.codes.specs.Lines.{linesFrom, linesOver, Enters, Passes}
+use Rattle.codes.specs.Lines.{linesFrom, linesOver, Fits, Walkable, Passes, Room, Wrote}
 use Rattle.codes.proofs.Words.{sound-images, readable}
 use Rattle.codes.proofs.Ways.{some-way}
-use Rattle.codes.proofs.Lines.{over-none, over-next, lines-sink, lines-node, fits-letter, fits-next, one-letter}
-use Rattle.codes.proofs.Heads.{Head, head-at, none-left}
+use Rattle.codes.proofs.Lines.{over-none, over-more, over-part, lines-sink, lines-node, fits-letter, fits-next, wrote-none, wrote-both, one-letter}
+use Rattle.codes.proofs.Heads.{Head, head-at}
 
--- ---- the arc step
+-- ---- the vertex step
 
-module _ {v x lists : List ℕ} {u i depth : ℕ} (p : Passes v x lists u i depth) where
+-- the lines over the first arcs of u are written, and the output has its length
+pub record Walked (v x : List ℕ) (u depth at : ℕ) (word₀ out₀ word out : List ℕ) (end arc : ℕ) : Type 0 where
+  pub inside : arc ≤ arcCount x u
+  pub size : length out ≡ length out₀
+  pub wrote : Wrote (linesOver v (graphOf x) (take arc (successors x u)) (take depth word₀)) depth at word₀ word out₀ out end
+
+module _ {v x : List ℕ} {u depth at : ℕ} {word₀ out₀ : List ℕ} where
+  pub walk-starts : Walked v x u depth at word₀ out₀ word₀ out₀ at 0
+  walk-starts = record { inside = omega arith; size = refl; wrote = wrote-none (over-none v (graphOf x) (take depth word₀)) }
+
+  module _ {word out : List ℕ} {end arc : ℕ} (w : Walked v x u depth at word₀ out₀ word out end arc) where
+    pub walk-ends : arcCount x u ≤ arc → Wrote (linesOver v (graphOf x) (successors x u) (take depth word₀)) depth at word₀ word out₀ out end
+    walk-ends h = let all : take arc (successors x u) ≡ successors x u = take-all arc (successors x u) (rw (length-successors x u) h) in rw all at (w .wrote)
+
+    module _ (h : arc < arcCount x u) where
+      one-more : linesOver v (graphOf x) (take (arc + 1) (successors x u)) (take depth word₀)
+          ≡ linesOver v (graphOf x) (take arc (successors x u)) (take depth word₀) ++ linesFrom v (graphOf x) (getD (successors x u) arc 0) (take depth word)
+      one-more = rw (w .wrote .kept) (over-more v (graphOf x) (take depth word₀) (successors x u) arc (rw (length-successors x u) h))
+
+      -- room for the lines by way of the next arc
+      pub walk-room : Room (linesOver v (graphOf x) (successors x u) (take depth word₀)) word₀ out₀ at
+          → Room (linesFrom v (graphOf x) (getD (successors x u) arc 0) (take depth word)) word out end
+      walk-room r = record {
+        long = w .wrote .long ∙ r .long;
+        enough = omega (
+          arith,
+          r .enough,
+          w .size,
+          w .wrote .ends,
+          ap length one-more,
+          length-append (linesOver v (graphOf x) (take arc (successors x u)) (take depth word₀)) (linesFrom v (graphOf x) (getD (successors x u) arc 0) (take depth word)),
+          over-part v (graphOf x) (take depth word₀) (successors x u) (arc + 1),
+        );
+      }
+
+      pub walk-on : {word′ out′ : List ℕ} {end′ : ℕ} → length out′ ≡ length out
+          → Wrote (linesFrom v (graphOf x) (getD (successors x u) arc 0) (take depth word)) depth end word word′ out out′ end′
+          → Walked v x u depth at word₀ out₀ word′ out′ end′ (arc + 1)
+      walk-on e n = record { inside = omega arith; size = e ∙ w .size; wrote = wrote-both one-more (w .wrote) n }
+
+-- ---- the arcs of a vertex
+
+-- the walk enters u, a node or the sink
+pub record Enters (v x lists : List ℕ) (u depth : ℕ) : Type 0 where
+  pub walkable : Walkable v x lists
+  pub above : 0 < u
+  pub bounded : u ≤ sinkOf x
+  pub fits : Fits v (graphOf x) depth u
+
+module _ {v x lists : List ℕ} {u depth : ℕ} (p : Passes v x lists u depth) where
   -- its list in the image
   pub head-of : Head x u (getD lists u 0)
   head-of = head-at (p .walkable .listed) (p .below)
@@ -29,31 +80,20 @@ module _ {v x lists : List ℕ} {u i depth : ℕ} (p : Passes v x lists u i dept
   pub vertex-few : u ≤ 400
   vertex-few = omega (arith, p .below, shape-of (p .walkable .listed .well-formed) .few)
 
-  pub over-done : arcCount x u ≤ i → (w : List ℕ) → linesOver v (graphOf x) (drop i (successors x u)) w ≡ []
-  over-done h w = rw (none-left x u i (omega (arith, p .gone))) (over-none v (graphOf x) w)
+  -- arc i is read as s
+  module _ {i s : ℕ} (h : i < arcCount x u) (e : s ≡ u16 x (getD lists u 0 + 2 + 2 * i)) where
+    pub leads-to : getD (successors x u) i 0 ≡ s
+    leads-to = head-of .number h ∙ sym e
 
-  pub enters : i < arcCount x u → {s : ℕ} → s ≡ u16 x (getD lists u 0 + 2 + 2 * i) → Enters v x lists s depth
-  enters h e = rw e (record {
-    walkable = p .walkable;
-    above = omega (arith, head-of .rises h);
-    bounded = head-of .rises h .1;
-    fits = p .fits (head-of .arc h);
-  })
+    pub enters : Enters v x lists s depth
+    enters = rw e (record {
+      walkable = p .walkable;
+      above = omega (arith, head-of .rises h);
+      bounded = head-of .rises h .1;
+      fits = p .fits (head-of .arc h);
+    })
 
-  pub passes-on : i < arcCount x u → Passes v x lists u (i + 1) depth
-  passes-on h = record { walkable = p .walkable; below = p .below; gone = omega arith; fits = p .fits }
-
-  pub over-split : i < arcCount x u → {s : ℕ} → s ≡ u16 x (getD lists u 0 + 2 + 2 * i) → {w w′ : List ℕ} → w′ ≡ w
-      → linesOver v (graphOf x) (drop i (successors x u)) w ≡ linesFrom v (graphOf x) s w ++ linesOver v (graphOf x) (drop (i + 1) (successors x u)) w′
-  over-split h {s} e {w} k = rw (head-of .next h, k, e) (over-next v (graphOf x) w _ _)
-
-  pub over-size : i < arcCount x u → {s : ℕ} → s ≡ u16 x (getD lists u 0 + 2 + 2 * i) → {w w′ : List ℕ} → w′ ≡ w
-      → length (linesOver v (graphOf x) (drop i (successors x u)) w)
-      ≡ length (linesFrom v (graphOf x) s w) + length (linesOver v (graphOf x) (drop (i + 1) (successors x u)) w′)
-  over-size h {s} e {w} {w′} k =
-      ap length (over-split h e k) ∙ length-append (linesFrom v (graphOf x) s w) (linesOver v (graphOf x) (drop (i + 1) (successors x u)) w′)
-
--- ---- the vertex step
+-- ---- the vertex that an arc leads to
 
 module _ {v x lists : List ℕ} {u depth : ℕ} (e : Enters v x lists u depth) where
   ok : Sound (graphOf x)
@@ -76,11 +116,11 @@ module _ {v x lists : List ℕ} {u depth : ℕ} (e : Enters v x lists u depth) w
     unfolding sink
     room = fits-letter ok v (e .above) (omega arith) (e .fits)
 
-    pub starts : Passes v x lists u 0 (depth + 1)
+    pub starts : Passes v x lists u (depth + 1)
     unfolding sink
-    starts = record { walkable = e .walkable; below = h; gone = omega arith; fits = λ m. fits-next ok v depth (e .above) (omega arith) (e .fits) m }
+    starts = record { walkable = e .walkable; below = h; fits = λ m. fits-next ok v depth (e .above) (omega arith) (e .fits) m }
 
     pub at-node : {b : ℕ} → b ≡ printByte v (nodeLetter x u) → (word : List ℕ) → depth < length word
-        → linesFrom v (graphOf x) u (take depth word) ≡ linesOver v (graphOf x) (drop 0 (successors x u)) (take (depth + 1) (set word depth b))
+        → linesFrom v (graphOf x) u (take depth word) ≡ linesOver v (graphOf x) (successors x u) (take (depth + 1) (set word depth b))
     unfolding sink
     at-node {b} k word l = lines-node ok v (take depth word) (e .above) (omega arith) ∙ rw (one-letter word depth b l, k)

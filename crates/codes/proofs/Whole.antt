@@ -38,18 +38,17 @@ module _ {v x lists counts : List ℕ} (r : Ready v x lists counts) where
     few = λ h. omega (arith, count-within-words ok (images .all-reached) h, ltb-false _ (wordCount (graphOf x)) (images .few-words));
   }
 
-  -- at the root all arcs are left, and no letter is spelled
+  -- at the root no letter is spelled
   root-fits : {s : ℕ} → List·Memᴰ s (successors x 0) → Fits v (graphOf x) 0 s
   unfolding fullPaths sink
   root-fits {s} m p k =
       let word = path-short images (Memᴰ·map (λ p. 0 ∷ p) (way-on ok {u = 0} (omega arith) m k)) in
       omega (arith, word, ap length (word-root v (graphOf x) (s ∷ p)))
 
-  pub root-passes : Passes v x lists 0 0 0
+  pub root-passes : Passes v x lists 0 0
   root-passes = record {
     walkable = record { accepted = r .accepted; listed = r .tabled .listed };
     below = omega arith;
-    gone = omega arith;
     fits = root-fits;
   }
 

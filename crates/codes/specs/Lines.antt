@@ -1,6 +1,6 @@
 -- The vocabulary of the contracts of listing's private functions: the lines that a walk writes from a vertex on, and how many bytes they are.
 -- No public contract cites it. Assumes nothing.
-use Prim.Native.Nat.{ℕ, _+_, _≤_, _<_}
+use Prim.Native.Nat.{ℕ, _+_, _≤_}
 use mathlib.Core.Path.{_≡_}
 use mathlib.Core.List.{List, [], _∷_, _++_, map, flatMap, List·Memᴰ}
 use lib.ListN.{length, take, drop, getD}
@@ -10,7 +10,7 @@ use Rattle.call.specs.declared.Refusal.the-variants.{Output}
 use Rattle.call.specs.Limits.{mostWords}
 use Rattle.call.specs.Table.{Answer, Row, on, unless}
 use Rattle.call.specs.Buffers.{written}
-use Rattle.lexicon.specs.Lexicon.{nodeCount, sinkOf, arcCount, successors}
+use Rattle.lexicon.specs.Lexicon.{nodeCount, sinkOf, successors}
 use Rattle.graph.specs.Graph.{Graph, graphOf, sink, ways, pathCount}
 use Rattle.graph.specs.Words.{wordOfPath}
 use Rattle.graph.specs.Checking.{Accepted}
@@ -38,18 +38,10 @@ pub record Walkable (v x lists : List ℕ) : Type 0 where
   pub accepted : Accepted v x
   pub listed : Listed x lists
 
--- the walk enters u, a node or the sink
-pub record Enters (v x lists : List ℕ) (u depth : ℕ) : Type 0 where
-  pub walkable : Walkable v x lists
-  pub above : 0 < u
-  pub bounded : u ≤ sinkOf x
-  pub fits : Fits v (graphOf x) depth u
-
--- the walk has gone through i arcs of u, the root or a node
-pub record Passes (v x lists : List ℕ) (u i depth : ℕ) : Type 0 where
+-- the walk goes through the arcs of u, the root or a node
+pub record Passes (v x lists : List ℕ) (u depth : ℕ) : Type 0 where
   pub walkable : Walkable v x lists
   pub below : u ≤ nodeCount x
-  pub gone : i ≤ arcCount x u
   pub fits : {s : ℕ} → List·Memᴰ s (successors x u) → Fits v (graphOf x) depth s
 
 -- the word has its 32 bytes, and the output has room for the lines from an offset on

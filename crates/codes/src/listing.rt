@@ -2,13 +2,13 @@
 ghost use mathlib.Core.Path.{_≡_};
 ghost use mathlib.Core.List.{[], _∷_, _++_};
 ghost use Prim.Native.Nat.{suc, _+_, _≤_, _<_};
-ghost use lib.ListN.{length, take, drop};
+ghost use lib.ListN.{length, take, getD};
 ghost use Rattle.call.specs.Table.{answerOf};
-ghost use Rattle.lexicon.specs.Lexicon.{nodeCount, successors};
+ghost use Rattle.lexicon.specs.Lexicon.{nodeCount, arcCount, successors};
 ghost use Rattle.graph.specs.Graph.{graphOf};
 ghost use Rattle.codes.specs.Lookup.{listing};
 ghost use Rattle.codes.specs.Steps.{Ready};
-ghost use Rattle.codes.specs.Lines.{linesFrom, linesOver, Enters, Passes, Room, Wrote, arcsOnWays, Countable, CountedFrom, Answered};
+ghost use Rattle.codes.specs.Lines.{linesFrom, linesOver, Passes, Room, Wrote, arcsOnWays, Countable, CountedFrom, Answered};
 use crate::image::number_at;
 use crate::image::print_byte;
 use call::Answer;
@@ -28,7 +28,8 @@ fn put_line(word: &[u8; 32], letters: usize, out: &mut [u8], at: usize) -> usize
     at + letters + 1
 }
 
-// Enters a vertex: at the sink the line is written; a node adds its letter, and the walk goes through its arcs.
+// Goes through the arcs of a vertex, the root or a node; the letters up to it are in the word. A loop, so that the walk takes stack only for the
+// vertices of one path.
 fn vertex_step(
     voice: &[u8],
     lexicon: &[u8],
@@ -39,18 +40,21 @@ fn vertex_step(
     out: &mut [u8],
     at: usize,
 ) -> usize
-    requires { ⌜ Enters (now voice) (now lexicon) (now lists) vertex depth ⌝ }
-    requires { ⌜ Room (linesFrom (now voice) (graphOf (now lexicon)) vertex (take depth (now word))) (now word) (now out) at ⌝ }
-    ensures { λ r. ⌜ Wrote (linesFrom (now (voice .entry)) (graphOf (now (lexicon .entry))) vertex (take depth (now (word .entry)))) depth at (now (word .entry)) (now (word .exit)) (now (out .entry)) (now (out .exit)) r ⌝ }
+    requires { ⌜ Passes (now voice) (now lexicon) (now lists) vertex depth ⌝ }
+    requires { ⌜ Room (linesOver (now voice) (graphOf (now lexicon)) (successors (now lexicon) vertex) (take depth (now word))) (now word) (now out) at ⌝ }
+    ensures { λ r. ⌜ Wrote (linesOver (now (voice .entry)) (graphOf (now (lexicon .entry))) (successors (now (lexicon .entry)) vertex) (take depth (now (word .entry)))) depth at (now (word .entry)) (now (word .exit)) (now (out .entry)) (now (out .exit)) r ⌝ }
 {
-    if number_at(lexicon, 0) < vertex {
-        return put_line(word, depth, out, at);
+    let arcs = number_at(lexicon, lists[vertex] as usize);
+    let mut end = at;
+    let mut arc = 0;
+    while arc < arcs {
+        end = arc_step(voice, lexicon, lists, vertex, arc, word, depth, out, end);
+        arc += 1;
     }
-    word[depth] = print_byte(voice, lexicon, vertex);
-    arc_step(voice, lexicon, lists, vertex, 0, word, depth + 1, out, at)
+    end
 }
 
-// Goes through the arcs of a vertex that are left, from number `arc` on.
+// Enters the vertex that an arc leads to: at the sink the line is written; a node adds its letter, and the walk goes through its arcs.
 fn arc_step(
     voice: &[u8],
     lexicon: &[u8],
@@ -62,27 +66,16 @@ fn arc_step(
     out: &mut [u8],
     at: usize,
 ) -> usize
-    requires { ⌜ Passes (now voice) (now lexicon) (now lists) vertex arc depth ⌝ }
-    requires { ⌜ Room (linesOver (now voice) (graphOf (now lexicon)) (drop arc (successors (now lexicon) vertex)) (take depth (now word))) (now word) (now out) at ⌝ }
-    ensures { λ r. ⌜ Wrote (linesOver (now (voice .entry)) (graphOf (now (lexicon .entry))) (drop arc (successors (now (lexicon .entry)) vertex)) (take depth (now (word .entry)))) depth at (now (word .entry)) (now (word .exit)) (now (out .entry)) (now (out .exit)) r ⌝ }
+    requires { ⌜ Passes (now voice) (now lexicon) (now lists) vertex depth × (arc < arcCount (now lexicon) vertex) ⌝ }
+    requires { ⌜ Room (linesFrom (now voice) (graphOf (now lexicon)) (getD (successors (now lexicon) vertex) arc 0) (take depth (now word))) (now word) (now out) at ⌝ }
+    ensures { λ r. ⌜ Wrote (linesFrom (now (voice .entry)) (graphOf (now (lexicon .entry))) (getD (successors (now (lexicon .entry)) vertex) arc 0) (take depth (now (word .entry)))) depth at (now (word .entry)) (now (word .exit)) (now (out .entry)) (now (out .exit)) r ⌝ }
 {
-    let list = lists[vertex] as usize;
-    if number_at(lexicon, list) <= arc {
-        return at;
+    let next = number_at(lexicon, lists[vertex] as usize + 2 + 2 * arc);
+    if number_at(lexicon, 0) < next {
+        return put_line(word, depth, out, at);
     }
-    let next = number_at(lexicon, list + 2 + 2 * arc);
-    let end = vertex_step(voice, lexicon, lists, next, word, depth, out, at);
-    arc_step(
-        voice,
-        lexicon,
-        lists,
-        vertex,
-        arc + 1,
-        word,
-        depth,
-        out,
-        end,
-    )
+    word[depth] = print_byte(voice, lexicon, next);
+    vertex_step(voice, lexicon, lists, next, word, depth + 1, out, at)
 }
 
 // The arcs on all ways from a vertex: each way has its first arc, and the arcs of a way from the vertex that it leads to.
@@ -138,6 +131,6 @@ pub(crate) fn put_listing(
         return Answer::Refused(Refusal::Output);
     }
     let mut word = [0u8; 32];
-    arc_step(voice, lexicon, lists, 0, 0, &mut word, 0, out, 0);
+    vertex_step(voice, lexicon, lists, 0, &mut word, 0, out, 0);
     Answer::Value(size)
 }

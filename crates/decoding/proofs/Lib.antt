@@ -11,3 +11,9 @@ pub mod Numbering
 pub mod Gaining
 pub mod Listing
 pub mod Search
+pub mod Storing
+pub mod Carrying
+pub mod Handing
+pub mod Renewing
+pub mod Stretch
+pub mod Turning

@@ -4,3 +4,5 @@ pub mod Places
 pub mod Gains
 pub mod Listing
 pub mod Calling
+pub mod Stored
+pub mod Carrying

@@ -16,7 +16,7 @@ use Rattle.call.proofs.Table.{none-parts, none-says, value-passed}
 use Rattle.voice.specs.Voice.{letterCount}
 use Rattle.lexicon.proofs.Shape.{shape}
 use Rattle.graph.specs.Graph.{graphOf, sink, wordCount}
-use Rattle.graph.specs.Words.{pathOfWord, codeOf, wordOfCode}
+use Rattle.graph.specs.Words.{LexiconWord, pathOfWord, codeOf, wordOfCode}
 use Rattle.graph.specs.Conditions.{manyWords}
 use Rattle.graph.specs.Checking.{Accepted, imageRows, firstRows, checkAnswer}
 use Rattle.graph.proofs.Accepted.{accepted}
@@ -41,12 +41,15 @@ module _ (v x : List ℕ) (h : Accepted v x) where
   words-limit = ltb-false mostWords (wordCount (graphOf x)) (accepted h .few-words)
 
   -- bytes that spell a word have a code below W
-  code-limit : (word : List ℕ) → isNone (pathOfWord v (graphOf x) word) ≡ false → codeOf (graphOf x) (pathOfWord v (graphOf x) word) < wordCount (graphOf x)
-  code-limit word e = go (decLe (wordCount (graphOf x)) (codeOf (graphOf x) (pathOfWord v (graphOf x) word)))
+  code-limit : (word : List ℕ) → isNone (pathOfWord v (graphOf x) word) ≡ false
+      → codeOf (graphOf x) (pathOfWord v (graphOf x) word) < wordCount (graphOf x)
+  code-limit word e = go (codeOf (graphOf x) (pathOfWord v (graphOf x) word)) (code-theorems v x h .code-below word)
     where
-      go : Dec (wordCount (graphOf x) ≤ codeOf (graphOf x) (pathOfWord v (graphOf x) word)) → codeOf (graphOf x) (pathOfWord v (graphOf x) word) < wordCount (graphOf x)
-      go (no q) = omega arith
-      go (yes p) = let t = code-theorems v x h in absurd (true≢false (sym (t .no-word word .1 (λ w. omega (arith, t .code-below word w))) ∙ e))
+      go : (code : ℕ) → (LexiconWord v (graphOf x) word → code < wordCount (graphOf x)) → code < wordCount (graphOf x)
+      go code below = elim (decLe (wordCount (graphOf x)) code) [
+        | yes p ↦ absurd (true≢false (sym (code-theorems v x h .no-word word .1 (λ w. omega (arith, below w))) ∙ e))
+        | no q ↦ omega arith
+      ]
 
   -- a line has a byte for each arc of its path
   listing-limit : length (listing v (graphOf x)) ≤ 401 * wordCount (graphOf x)
@@ -60,38 +63,38 @@ pub check-small : (v x work : List ℕ) → Small (checkAnswer v x work)
 unfolding checkAnswer
 check-small v x work = record {
   below = λ n e.
-    let p = value-passed (firstRows v x work) (wordCount (graphOf x)) n e in
-    omega (arith, p .1, words-limit v x (images-accepted v x work (p .0)));
+      let p = value-passed (firstRows v x work) (wordCount (graphOf x)) n e in
+      omega (arith, p .1, words-limit v x (images-accepted v x work (p .0)));
 }
 
 pub word-to-code-small : (v x word work : List ℕ) → Small (wordToCodeAnswer v x word work)
 unfolding wordToCodeAnswer wordToCodeRows
 word-to-code-small v x word work = record {
   below = λ n e.
-    let p = value-passed (wordToCodeRows v x word work) (codeOf (graphOf x) (pathOfWord v (graphOf x) word)) n e in
-    let r = none-parts (firstRows v x work) _ (p .0) in
-    let h = images-accepted v x work (r .0) in
-    omega (arith, p .1, words-limit v x h, code-limit v x h word (none-says _ (r .1) .0));
+      let p = value-passed (wordToCodeRows v x word work) (codeOf (graphOf x) (pathOfWord v (graphOf x) word)) n e in
+      let r = none-parts (firstRows v x work) _ (p .0) in
+      let h = images-accepted v x work (r .0) in
+      omega (arith, p .1, words-limit v x h, code-limit v x h word (none-says _ (r .1) .0));
 }
 
 pub code-to-word-small : (v x : List ℕ) (code : ℕ) (work out : List ℕ) → Small (codeToWordAnswer v x code work out)
 unfolding codeToWordAnswer codeToWordRows badCode
 code-to-word-small v x code work out = record {
   below = λ n e.
-    let p = value-passed (codeToWordRows v x code work out) (length (wordOfCode v (graphOf x) code)) n e in
-    let r = none-parts (firstRows v x work) _ (p .0) in
-    let h = images-accepted v x work (r .0) in
-    let k = leb-false (wordCount (graphOf x)) code (none-says _ (r .1) .0) in
-    omega (arith, p .1, word-short (accepted h) k);
+      let p = value-passed (codeToWordRows v x code work out) (length (wordOfCode v (graphOf x) code)) n e in
+      let r = none-parts (firstRows v x work) _ (p .0) in
+      let h = images-accepted v x work (r .0) in
+      let k = leb-false (wordCount (graphOf x)) code (none-says _ (r .1) .0) in
+      omega (arith, p .1, word-short (accepted h) k);
 }
 
 pub list-small : (v x work out : List ℕ) → Small (listAnswer v x work out)
 unfolding listAnswer listRows
 list-small v x work out = record {
   below = λ n e.
-    let p = value-passed (listRows v x work out) (length (listing v (graphOf x))) n e in
-    let h = images-accepted v x work (none-parts (firstRows v x work) _ (p .0) .0) in
-    omega (arith, p .1, words-limit v x h, listing-limit v x h);
+      let p = value-passed (listRows v x work out) (length (listing v (graphOf x))) n e in
+      let h = images-accepted v x work (none-parts (firstRows v x work) _ (p .0) .0) in
+      omega (arith, p .1, words-limit v x h, listing-limit v x h);
 }
 
 -- ---- packed codes: at most 8, of at most 20 bits each
@@ -100,8 +103,8 @@ pub pack-small : (W : ℕ) (codes out : List ℕ) → Small (packAnswer W codes 
 unfolding packedSize
 pack-small W codes out = record {
   below = λ n e.
-    let p = packs W codes out n e in
-    omega (arith, p .size, mul-le-mul (p .count .1) (width-limit W (p .words .1)));
+      let p = packs W codes out n e in
+      omega (arith, p .size, mul-le-mul (p .count .1) (width-limit W (p .words .1)));
 }
 
 pub unpack-small : (W n : ℕ) (bytes out : List ℕ) → Small (unpackAnswer W n bytes out)

@@ -21,14 +21,14 @@ room c = omega (arith, size (c .before), c .if1 .left)
 returns : tie.Need-returns
 returns c = no-room (omega (arith, size (c .before), c .if1 .taken))
 
-arc-step-requires : tie.Need-arc-step-requires
-arc-step-requires c κs =
+vertex-step-requires : tie.Need-vertex-step-requires
+vertex-step-requires c κs =
     let s = c .before .before .before .before .before .before .before in
     (root-passes (s .pre), record { long = refl; enough = omega (arith, room (c .before .before), ap length (root-lines (s .pre))) })
 
 returns-2 : tie.Need-returns-2
 returns-2 c =
-    let wrote = c .before .before .arc-step .ensures in
+    let wrote = c .before .before .vertex-step .ensures in
     all-written (room (c .before .before .before .before .before)) (size (c .before .before .before .before .before .before)) (rw (root-lines (c .before .before .before .before .before .before .before .before .before .before .pre)) at wrote)
 
 pub put-listing-spec : {M : Type 1} → statement M
@@ -38,6 +38,6 @@ put-listing-spec =
     (λ c κs. countable (c .before .before .before .pre))
     (λ c. search needs)
     returns
-    arc-step-requires
+    vertex-step-requires
     (λ c. search needs)
     returns-2)

@@ -1,0 +1,337 @@
+-- Tokens handed on along the arcs of a vertex: one arc, and the loop over all. What is left to pass on from the store so far is what was to be
+-- passed on from the store at the beginning; the increment of the next arc is the sum of the counts before it. Assumes nothing.
+use Prim.Native.Nat.{ℕ, _+_, _*_, _^_, _≤_, _<_}
+use mathlib.Core.Path.{_≡_, refl, sym, ap, _∙_}
+use mathlib.Core.Logic.{⊎-elim}
+use mathlib.Core.List.{List, [], _∷_, _++_, map, map-append, append-assoc, List·Memᴰ, List·Memᴰ·head as here, List·Memᴰ·tail as there, List·Memᴰ·append-cases as append-cases}
+use native.Mathlib.Omega.{arith}
+use native.Mathlib.Nat.{add-zero}
+use lib.ListN.{length, getD}
+use Rattle.endian.specs.Lists.{sum}
+use Rattle.endian.specs.Bytes.{u16}
+use Rattle.endian.proofs.Lists.{sum-append}
+use Rattle.voice.specs.Voice.{letterCount, states, firstState, emission}
+use Rattle.voice.proofs.Letters.{states-range}
+use Rattle.voice.proofs.Scores.{letters-few}
+use Rattle.lexicon.specs.Lexicon.{nodeCount, nodeLetter, sinkOf, arcsAt, successors}
+use Rattle.lexicon.proofs.WellFormed.{letter-known}
+use Rattle.graph.specs.Graph.{Graph, graphOf, sink, pathCount, wordCount, increment}
+use Rattle.graph.proofs.Codes.{increment-at}
+use Rattle.graph.proofs.Accepted.{AcceptedImages, accepted}
+use Rattle.checking.specs.Tables.{WellFormed}
+use Rattle.checking.proofs.Tables.{entry}
+use Rattle.checking.proofs.Arcs.{shape-of, sound-of, nodes-there, ListThere, list-there, ArcsLeft, arcs-start, ArcNext, arc-next, arcs-done}
+use Rattle.ranking.specs.Hits.{Hit}
+use Rattle.decoder.specs.Score.{plus}
+use Rattle.passing.specs.Tokens.{Store, bestTokens, stateOf, heard, overArc}
+use Rattle.passing.specs.InPlace.{passOn}
+use Rattle.passing.proofs.Order.{hits-strict}
+use Rattle.passing.proofs.Best.{best-from, best-best}
+use Rattle.passing.proofs.InPlace.{put-node}
+use Rattle.passing.proofs.Bounds.{arc-count}
+use Rattle.decoding.specs.Slots.{Changed}
+use Rattle.decoding.specs.Held.{held, pad, downOf}
+use Rattle.decoding.specs.Gains.{entryGain}
+use Rattle.decoding.specs.Places.{firstPlace}
+use Rattle.decoding.specs.Stored.{Ready, Bound, Place, Stored, Handing, Handed, handedOn}
+use Rattle.decoding.specs.Carrying.{Worth, Offering, joined, Arc, overOne}
+use Rattle.decoding.proofs.Numbers.{token-some}
+use Rattle.decoding.proofs.Storing.{PutAt, same, other, put-at, stored-put, stored-ext, pass-nothing, places-few, words-few, place-there, place-room, slot-small, carried-bound, bound-storable, movers}
+use Rattle.decoding.proofs.Carrying.{emission-range, worth-by, handed-long, handed-take}
+
+-- ---- what is accepted
+
+module _ {v x lists counts firsts : List ℕ} (r : Ready v x lists counts firsts) where
+  images : AcceptedImages v x
+  images = accepted (r .accepted)
+
+  pub lexicon-formed : WellFormed x
+  lexicon-formed = record { letters = letterCount v; judged = images .lexicon }
+
+  pub known : {u : ℕ} → 1 ≤ u → u ≤ nodeCount x → nodeLetter x u < letterCount v
+  known {u} h k = letter-known (letterCount v) x (images .lexicon) u h k
+
+  pub letter-few : {u : ℕ} → 1 ≤ u → u ≤ nodeCount x → nodeLetter x u < 64
+  letter-few h k = omega (arith, known h k, letters-few v (images .voice))
+
+  pub state-range : {u : ℕ} → 1 ≤ u → u ≤ nodeCount x → (1 ≤ states v (nodeLetter x u)) × (states v (nodeLetter x u) ≤ 4)
+  state-range h k = states-range v (images .voice) (known h k)
+
+  pub place-of : {u s : ℕ} → 1 ≤ u → u ≤ nodeCount x → s < states v (nodeLetter x u) → Place v (graphOf x) u s
+  unfolding sink
+  place-of h k l = record { low = h; high = omega arith; state = l }
+
+  pub first-at : {u : ℕ} → u ≤ nodeCount x → getD firsts u 0 ≡ firstPlace v (graphOf x) u
+  unfolding sinkOf
+  first-at h = entry (r .firsts-of) (omega arith)
+
+-- ---- one arc
+
+-- the bytes and entries that are read for it
+pub record ArcRead (x : List ℕ) (n : ℕ) (firsts entries : List ℕ) (u : ℕ) : Type 0 where
+  pub there : 1 + u < length x
+  pub letter : getD x (1 + u) 0 < 64
+  pub long-entries : length entries ≡ 64
+  pub long-firsts : length firsts ≡ 402
+  pub few : u ≤ 400
+  pub first : getD firsts u 0 ≤ 1000
+  pub slot : n * getD firsts u 0 ≤ 8000
+
+module _ {x : List ℕ} {n nodes : ℕ} {firsts entries from : List ℕ} {u down : ℕ} {b : List ℕ} (t : Arc x n nodes firsts entries from u down b) where
+  abbrev h : Handing x n (t .lists) (t .counts) firsts entries (t .w) from b
+  h = t .handing
+
+  abbrev g : Graph
+  g = graphOf x
+
+  vertex : t .w < sink g
+  unfolding sink
+  vertex = omega (arith, h .vertex)
+
+  rises : (t .w < u) × (u ≤ sink g)
+  rises = sound-of (lexicon-formed (h .ready)) .rises vertex (t .arc)
+
+  gap : increment g (t .w) u + pathCount g u ≤ pathCount g (t .w)
+  gap = arc-count (sound-of (lexicon-formed (h .ready))) vertex (t .arc)
+
+  words : wordCount g < 2 ^ 32
+  words = words-few (h .v) x (h .ready .accepted)
+
+  worth : u ≤ nodeCount x → Worth (getD entries (getD x (1 + u) 0) 0) (plus (h .score) (heard (h .v) g (h .k) u 0))
+  unfolding nodeLetter entryGain heard stateOf
+  worth k =
+      worth-by (h .moved) (emission (h .v) (firstState (h .v) (nodeLetter x u) + 0) (h .k)) (h .score-is) (h .small) (emission-range (h .v) _ (h .k))
+      (h .gains .entry (nodeLetter x u) (known (h .ready) (omega (arith, rises .0)) k))
+
+  module _ (k : u ≤ nodeCount x) where
+    one : 1 ≤ u
+    one = omega (arith, rises .0)
+
+    place : Place (h .v) g u 0
+    place = place-of (h .ready) one k (state-range (h .ready) one k .0)
+
+    slot-is : n * getD firsts u 0 ≡ n * (firstPlace (h .v) g u + 0)
+    slot-is = rw (first-at (h .ready) k, add-zero)
+
+    pub arc-read : ArcRead x n firsts entries u
+    unfolding nodeLetter
+    arc-read = record {
+      there = omega (arith, nodes-there (lexicon-formed (h .ready)));
+      letter = letter-few (h .ready) one k;
+      long-entries = h .gains .long;
+      long-firsts = h .ready .firsts-of .long;
+      few = omega (arith, shape-of (lexicon-formed (h .ready)) .few);
+      first = omega (arith, first-at (h .ready) k, place-there (h .v) x place, places-few (h .v) x (h .ready .accepted));
+      slot = rw slot-is (slot-small (h .v) x (h .ready .accepted) (h .roomy) (omega (arith, place-there (h .v) x place)));
+    }
+
+    pub arc-offering : Offering n (n * getD firsts u 0) (getD entries (getD x (1 + u) 0) 0) down from b
+    arc-offering = record {
+      score = plus (h .score) (heard (h .v) g (h .k) u 0);
+      d = increment g (t .w) u;
+      l = h .l;
+      s = h .Q u 0;
+      worth = worth k;
+      down-is = t .down-is;
+      room = rw slot-is (place-room (h .v) x (h .roomy) place);
+      long = handed-long (h .l) (h .handed) (h .roomy .few);
+      handed = handed-take (h .l) (h .handed) (h .roomy .few);
+      movers = movers n (h .M) (t .w) u _ _ (h .l) words (h .fits) (h .best) (λ a e. worth k .small e) (λ y i. h .bound i) gap;
+      holds = rw slot-is (h .stored .holds place);
+      best = h .stored .kept place;
+      storable = λ z i. bound-storable words (h .fits) (h .above place (rises .0) i);
+    }
+
+    pub arc-done : {b′ : List ℕ} → Changed (n * getD firsts u 0) n (held n (joined arc-offering)) b b′ → Stored (h .v) g n (overOne t) b′
+    unfolding joined overOne arc-offering
+    arc-done c = stored-put place (h .stored) (rw slot-is at c) (best-best hits-strict n _)
+
+  -- the sink has no place
+  pub arc-sink : nodes < u → Stored (h .v) g n (overOne t) b
+  unfolding overOne sink
+  arc-sink k = stored-ext (h .stored) (λ z s p. put-node (h .Q) u 0 _ (λ e. omega (arith, p .high, t .nodes-is)))
+
+  pub arc-above : {z s : ℕ} {y : Hit} → Place (h .v) g z s → t .w < z → List·Memᴰ y (overOne t z s) → Bound g (h .M + 65536) z y
+  unfolding overOne sink
+  arc-above {z} {s} {y} p l i = go (put-at (h .Q) u 0 _ z s)
+    where
+      new : List Hit
+      new = overArc (h .v) g (h .k) (h .score) (t .w) u (h .l)
+
+      go : PutAt (h .Q) u 0 (bestTokens n (h .Q u 0 ++ new)) z s → Bound g (h .M + 65536) z y
+      go (other d q) = h .above p l (rw q at i)
+      go (same e f q) =
+          let k : u ≤ nodeCount x = omega (arith, p .high) in
+          rw e (⊎-elim
+          (λ j. h .above (place k) (rises .0) j)
+          (λ j. carried-bound (h .M) (t .w) u _ _ (h .l) (λ a e. worth k .small e) (λ y i. h .bound i) gap j)
+          (append-cases (h .Q u 0) (best-from hits-strict n (h .Q u 0 ++ new) y (rw q at i))))
+
+-- ---- all arcs
+
+mem-middle : (l : List ℕ) {u : ℕ} (m : List ℕ) → List·Memᴰ u (l ++ u ∷ m)
+mem-middle [] m = here refl
+mem-middle (x ∷ l) m = there (mem-middle l m)
+
+module _ {x : List ℕ} {n : ℕ} {lists counts firsts entries : List ℕ} {w : ℕ} {from b₀ : List ℕ} (t : Handing x n lists counts firsts entries w from b₀) where
+  -- Q is the store when the arcs to the earlier successors are done
+  pub record HandingLeft (at stop down : ℕ) (b : List ℕ) : Type 0 where
+    pub Q : Store
+    pub earlier : List ℕ
+    pub left : List ℕ
+    pub arcs : ArcsLeft x w at stop left
+    pub split : successors x w ≡ earlier ++ left
+    pub counted : down ≡ downOf (sum (map (pathCount (graphOf x)) earlier))
+    pub stored : Stored (t .v) (graphOf x) n Q b
+    pub above : {u s : ℕ} {y : Hit} → Place (t .v) (graphOf x) u s → w < u → List·Memᴰ y (Q u s) → Bound (graphOf x) (t .M + 65536) u y
+    pub long : length b ≡ length b₀
+    pub passed : passOn (t .v) (graphOf x) n (t .k) (λ u. t .score) w (t .l) left Q ≡ handedOn t
+
+  -- some token is handed on, so that the paths from w are among all
+  some-words : ¬ (getD from 0 0 ≡ 0) → pathCount (graphOf x) w ≤ wordCount (graphOf x)
+  unfolding pad
+  some-words z = go (t .l) (t .handed) (λ y i. t .bound i)
+    where
+      go : (l : List Hit) → from ≡ held 8 l → ((y : Hit) → List·Memᴰ y l → Bound (graphOf x) (t .M) w y) → pathCount (graphOf x) w ≤ wordCount (graphOf x)
+      go [] e f = absurd (z (rw e refl))
+      go (y ∷ l) e f = omega (arith, f y (here refl) .code)
+
+  list-at : getD lists w 0 ≡ arcsAt x w
+  unfolding sinkOf
+  list-at = entry (t .ready .lists-of) (omega (arith, t .vertex))
+
+  pub vertex-few : w ≤ 400
+  vertex-few = omega (arith, t .vertex, shape-of (lexicon-formed (t .ready)) .few)
+
+  pub list-of : ListThere x (getD lists w 0)
+  list-of = list-there (lexicon-formed (t .ready)) (t .vertex) list-at
+
+  pub handing-start : HandingLeft (getD lists w 0 + 2) (getD lists w 0 + 2 + 2 * u16 x (getD lists w 0)) 281474976710656 b₀
+  unfolding downOf sum handedOn
+  handing-start = record {
+    Q = t .Q;
+    earlier = [];
+    left = successors x w;
+    arcs = arcs-start (lexicon-formed (t .ready)) (t .vertex) list-at;
+    split = refl;
+    counted = refl;
+    stored = t .stored;
+    above = t .above;
+    long = refl;
+    passed = refl;
+  }
+
+  module _ {at stop down : ℕ} {b : List ℕ} (L : HandingLeft at stop down b) where
+    so-far : Handing x n lists counts firsts entries w from b
+    so-far = record {
+      v = t .v;
+      k = t .k;
+      M = t .M;
+      score = t .score;
+      l = t .l;
+      Q = L .Q;
+      ready = t .ready;
+      roomy = record { some = t .roomy .some; few = t .roomy .few; room = rw (L .long) (t .roomy .room) };
+      vertex = t .vertex;
+      gains = t .gains;
+      moved = t .moved;
+      score-is = t .score-is;
+      small = t .small;
+      handed = t .handed;
+      best = t .best;
+      bound = t .bound;
+      fits = t .fits;
+      stored = L .stored;
+      above = L .above;
+    }
+
+    module _ (h : at < stop) {u : ℕ} (e : u ≡ u16 x at) where
+      pub next : ArcNext x w at stop (L .left)
+      next = arc-next (L .arcs) h
+
+      left-is : L .left ≡ u ∷ next .others
+      left-is = next .split ∙ ap (λ (a : ℕ). a ∷ next .others) (sym e)
+
+      split-is : successors x w ≡ L .earlier ++ u ∷ next .others
+      split-is = L .split ∙ ap (λ l. L .earlier ++ l) left-is
+
+      in-list : List·Memᴰ u (successors x w)
+      in-list = rw split-is (mem-middle (L .earlier) (next .others))
+
+      below : w < sink (graphOf x)
+      unfolding sink
+      below = omega (arith, t .vertex)
+
+      increment-is : increment (graphOf x) w u ≡ sum (map (pathCount (graphOf x)) (L .earlier))
+      increment-is = increment-at (sound-of (lexicon-formed (t .ready))) below (L .earlier) (next .others) u split-is
+
+      pub left-arc : {nodes : ℕ} → nodes ≡ nodeCount x → Arc x n nodes firsts entries from u down b
+      left-arc q = record {
+        w = w;
+        lists = lists;
+        counts = counts;
+        handing = so-far;
+        nodes-is = q;
+        arc = in-list;
+        down-is = rw increment-is (L .counted);
+      }
+
+      pub successor-few : u ≤ 401
+      unfolding sinkOf
+      successor-few = omega (arith, next .bounded, shape-of (lexicon-formed (t .ready)) .few)
+
+      count-is : getD counts u 0 ≡ pathCount (graphOf x) u
+      count-is = entry (t .ready .counts-of) (omega (arith, next .bounded))
+
+      -- the counts don't overflow where there are tokens
+      pub down-few : ¬ (getD from 0 0 ≡ 0) → down + getD counts u 0 < 281474976710656 + 4294967296
+      unfolding downOf
+      down-few z = omega (arith, L .counted, increment-is, count-is, arc-count (sound-of (lexicon-formed (t .ready))) below in-list, some-words z, words-few (t .v) x (t .ready .accepted))
+
+      pub handing-next : {nodes : ℕ} (q : nodes ≡ nodeCount x) {b′ : List ℕ} → Stored (left-arc q .handing .v) (graphOf x) n (overOne (left-arc q)) b′ → length b′ ≡ length b
+          → HandingLeft (at + 2) stop (down + getD counts u 0) b′
+      unfolding passOn overOne downOf sum left-arc so-far
+      handing-next q S l = record {
+        Q = overOne (left-arc q);
+        earlier = L .earlier ++ (u ∷ []);
+        left = next .others;
+        arcs = next .after;
+        split = split-is ∙ sym (append-assoc (L .earlier) (u ∷ []) (next .others));
+        counted = counted-next;
+        stored = S;
+        above = arc-above (left-arc q);
+        long = l ∙ L .long;
+        passed = rw left-is at (L .passed);
+      }
+        where
+          counted-next : down + getD counts u 0 ≡ downOf (sum (map (pathCount (graphOf x)) (L .earlier ++ (u ∷ []))))
+          counted-next = rw (map-append, sum-append, count-is, L .counted) (omega arith)
+
+    pub handing-done : stop ≤ at → Handed t b
+    unfolding passOn
+    handing-done end =
+        let e : L .Q ≡ handedOn t = rw (arcs-done (L .arcs) end) at (L .passed) in
+        record { stored = rw e at (L .stored); above = λ {u} {s} p l i. L .above p l (rw (sym (ap (λ (P : Store). P u s) e)) at i); long = L .long }
+
+  no-tokens : (l : List Hit) → from ≡ held 8 l → ((y : Hit) → List·Memᴰ y l → Bound (graphOf x) (t .M) w y) → getD from 0 0 ≡ 0 → l ≡ []
+  unfolding pad
+  no-tokens [] e f z = refl
+  no-tokens (y ∷ l) e f z =
+      let s = bound-storable (words-few (t .v) x (t .ready .accepted)) (omega (arith, t .fits)) (f y (here refl)) in
+      let z′ = rw e at z in
+      absurd (omega (arith, token-some y s))
+
+  -- nothing is passed on
+  pub handing-nothing : getD from 0 0 ≡ 0 → Handed t b₀
+  unfolding handedOn
+  handing-nothing z = record {
+    stored = stored-ext (t .stored) (λ u s p. nothing p);
+    above = λ p l i. t .above p l (rw (nothing p) at i);
+    long = refl;
+  }
+    where
+      e : t .l ≡ []
+      e = no-tokens (t .l) (t .handed) (λ y i. t .bound i) z
+
+      nothing : {u s : ℕ} → Place (t .v) (graphOf x) u s → passOn (t .v) (graphOf x) n (t .k) (λ u. t .score) w (t .l) (successors x w) (t .Q) u s ≡ t .Q u s
+      nothing p = rw e (pass-nothing n (t .k) (λ u. t .score) w (successors x w) (t .Q) (λ u s q. t .stored .kept q) p)

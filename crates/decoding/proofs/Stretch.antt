@@ -1,0 +1,179 @@
+-- A node's stretch of the store, lent on to the token update and back: its states hold there what they hold in the whole store, and no place of
+-- another node changes. By the numbers of the places. Assumes nothing.
+use Prim.Native.Nat.{ℕ, zero, suc, _+_, _*_, _≤_, _<_}
+use mathlib.Core.Path.{_≡_, refl, sym, ap, ap₂, _∙_}
+use mathlib.Core.Logic.{_⊎_, inl, inr}
+use mathlib.Core.List.{List}
+use native.Mathlib.Omega.{arith}
+use native.Mathlib.Nat.{mul-le-mul, mul-le-mul-right, mul-comm, add-mul}
+use native.Mathlib.Decide.{ℕ-discrete, decLt}
+use lib.ListN.{length, getD, take, drop, length-take, length-drop}
+use borrow.Rule.Slice.PartMut.{putMid}
+use Rattle.voice.specs.Voice.{letterCount}
+use Rattle.voice.proofs.Letters.{states-range}
+use Rattle.lexicon.proofs.WellFormed.{letter-known}
+use Rattle.graph.specs.Graph.{Graph, graphOf, sink}
+use Rattle.graph.specs.Conditions.{placeCount}
+use Rattle.graph.proofs.Accepted.{AcceptedImages, accepted}
+use Rattle.passing.specs.Tokens.{Store, bestTokens}
+use Rattle.passing.specs.InPlace.{renewDown}
+use Rattle.passing.proofs.InPlace.{put-node}
+use Rattle.decoding.specs.Slots.{tokenAt, slots, Changed}
+use Rattle.decoding.specs.Held.{held}
+use Rattle.decoding.specs.Places.{firstPlace}
+use Rattle.decoding.specs.Stored.{Place, Stored}
+use Rattle.decoding.specs.Carrying.{Own, Renewing, renewedAll, Renewal, renewal}
+use Rattle.decoding.proofs.Slots.{slots-ext, slots-get}
+use Rattle.decoding.proofs.Lending.{part-slots, part-back, changed-apart}
+use Rattle.decoding.proofs.Numbering.{places-all, place-end}
+use Rattle.decoding.proofs.Storing.{block, places-few}
+
+-- ---- other nodes keep what they hold
+
+pub renew-apart : (v : List ℕ) (g : Graph) (n k u s : ℕ) (P : Store) {w r : ℕ} → ¬ (w ≡ u) → renewDown v g n k u s P w r ≡ P w r
+unfolding renewDown
+renew-apart v g n k u zero P d = refl
+renew-apart v g n k u (suc s) P d = renew-apart v g n k u s _ d ∙ put-node P u s _ d
+
+-- ---- slots within slots
+
+sub-slots : (N k m : ℕ) (a b : List ℕ) → slots N k a ≡ slots N m b → (n j : ℕ) → j + n ≤ N → slots n (k + j) a ≡ slots n (m + j) b
+sub-slots N k m a b e n j h = slots-ext n (k + j) (m + j) a b one
+  where
+    one : (i : ℕ) → i < n → tokenAt a (k + j + i) ≡ tokenAt b (m + j + i)
+    one i l =
+        let p : k + j + i ≡ k + (j + i) = omega arith in
+        let q : m + (j + i) ≡ m + j + i = omega arith in
+        ap (tokenAt a) p
+        ∙ sym (slots-get N k (j + i) a 0 (omega arith))
+        ∙ ap (λ (s : List ℕ). getD s (j + i) 0) e
+        ∙ slots-get N m (j + i) b 0 (omega arith)
+        ∙ ap (tokenAt b) q
+
+mul-sum : (n a b : ℕ) → n * (a + b) ≡ n * a + n * b
+mul-sum n a b = mul-comm n (a + b) ∙ add-mul a b n ∙ ap₂ _+_ (mul-comm a n) (mul-comm b n)
+
+scale : (n : ℕ) {a b : ℕ} → a ≤ b → n * a ≤ n * b
+scale n {a} {b} h = rw (mul-comm n a, mul-comm n b) (mul-le-mul-right n h)
+
+module _ {n entry first s : ℕ} {loops steps b : List ℕ} (t : Renewal n entry first s loops steps b) where
+  abbrev g : Graph
+  g = graphOf (t .x)
+
+  abbrev F : ℕ
+  F = firstPlace (t .v) g (t .node)
+
+  below : t .node < sink g
+  unfolding sink
+  below = omega (arith, t .high)
+
+  -- the stretch ends before the places end
+  ends : F + s ≤ placeCount (t .v) g
+  ends = omega (arith, t .all, place-end (t .v) g {u = t .node} {w = sink g} (t .low) below, places-all (t .v) g)
+
+  place : {r : ℕ} → r < s → Place (t .v) g (t .node) r
+  place h = record { low = t .low; high = below; state = omega (arith, t .all) }
+
+  images : AcceptedImages (t .v) (t .x)
+  images = accepted (t .accepted)
+
+  pub states-few : s ≤ 4
+  states-few = omega (
+    arith,
+    t .all,
+    states-range (t .v) (images .voice)
+        (letter-known (letterCount (t .v)) (t .x) (images .lexicon) (t .node) (t .low) (t .high)),
+  )
+
+  pub start-few : n * first ≤ 8000
+  start-few = mul-le-mul {n₂ = 8} {m₂ = 1000} (t .roomy .few) (omega (arith, t .first-is, ends, places-few (t .v) (t .x) (t .accepted)))
+
+  pub stretch-few : n * s ≤ 32
+  stretch-few = mul-le-mul {n₂ = 8} {m₂ = 4} (t .roomy .few) states-few
+
+  pub stretch-there : 8 * (n * first) + 8 * (n * s) ≤ length b
+  stretch-there =
+      let e : n * first ≡ n * F = ap (λ (a : ℕ). n * a) (t .first-is) in
+      omega (arith, scale n ends, mul-sum n F s, t .roomy .room)
+
+  slot-is : (r : ℕ) → n * first + n * r ≡ n * (F + r)
+  slot-is r = ap (λ (a : ℕ). n * a + n * r) (t .first-is) ∙ sym (mul-sum n F r)
+
+  module _ (size : ℕ) (e : size ≡ 8 * (n * s)) where
+    own-slots : {r : ℕ} → r < s → slots n (n * r) (take size (drop (8 * (n * first)) b)) ≡ held n (t .P (t .node) r)
+    own-slots {r} h =
+        let z : 0 + n * r ≡ n * r = omega arith in
+        rw z at (sub-slots (n * s) 0 (n * first) _ b (part-slots b (n * first) (n * s) size e) n (n * r) (block n h))
+        ∙ ap (λ (k : ℕ). slots n k b) (slot-is r)
+        ∙ t .stored .holds (place h)
+
+    pub part-renewing : Renewing n entry s loops steps (take size (drop (8 * (n * first)) b))
+    part-renewing = record {
+      v = t .v;
+      x = t .x;
+      k = t .k;
+      M = t .M;
+      P = t .P;
+      node = t .node;
+      S = s;
+      accepted = t .accepted;
+      low = t .low;
+      high = t .high;
+      some = t .roomy .some;
+      eight = t .roomy .few;
+      room = simp (length-take, length-drop) (omega (arith, stretch-there));
+      all = omega (arith, t .all);
+      few = omega arith;
+      entry-is = t .entry-is;
+      moves = t .moves;
+      stored = record { holds = λ h. own-slots h; kept = λ h. t .stored .kept (place h) };
+      bound = λ h i. t .bound h i;
+      fits = t .fits;
+    }
+
+    module _ {ys : List ℕ} (long : length ys ≡ size) (O : Own n (part-renewing .S) (renewedAll part-renewing (part-renewing .node)) ys) where
+      abbrev b′ : List ℕ
+      b′ = putMid (8 * (n * first)) size b ys
+
+      changed : Changed (n * first) (n * s) (slots (n * s) 0 ys) b b′
+      changed = part-back b ys (n * first) (n * s) size _ e stretch-there long refl
+
+      own : Own n s (renewal t (t .node)) ys
+      unfolding part-renewing renewedAll renewal
+      own = O
+
+      -- a place of another node lies outside
+      outside : {u r : ℕ} → Place (t .v) g u r → ¬ (u ≡ t .node)
+          → (n * (firstPlace (t .v) g u + r) + n ≤ n * first) ⊎ (n * first + n * s ≤ n * (firstPlace (t .v) g u + r))
+      outside {u} {r} p d = elim (decLt u (t .node)) [
+        | yes l ↦ inl (block n (omega (arith, place-end (t .v) g {u = u} {w = t .node} (p .low) l, p .state, t .first-is)))
+        | no m ↦ let after : F + s ≤ firstPlace (t .v) g u + r =
+            omega (arith, t .all, place-end (t .v) g {u = t .node} {w = u} (t .low) (omega arith)) in
+            inr (omega (arith, slot-is s, scale n after))
+      ]
+
+      renewal-apart : {u r : ℕ} → ¬ (u ≡ t .node) → renewal t u r ≡ t .P u r
+      unfolding renewal
+      renewal-apart d = renew-apart (t .v) g n (t .k) (t .node) s (t .P) d
+
+      own-back : {r : ℕ} → r < s → slots n (n * (F + r)) b′ ≡ held n (renewal t (t .node) r)
+      own-back {r} h =
+          let z : 0 + n * r ≡ n * r = omega arith in
+          ap (λ (k : ℕ). slots n k b′) (sym (slot-is r))
+          ∙ rw z at (sub-slots (n * s) (n * first) 0 b′ ys (changed .inside) n (n * r) (block n h))
+          ∙ own .holds h
+
+      holds-at : {u r : ℕ} → Place (t .v) g u r → slots n (n * (firstPlace (t .v) g u + r)) b′ ≡ held n (renewal t u r)
+      holds-at {u} {r} p = elim (ℕ-discrete u (t .node)) [
+        | yes q ↦ rw q (own-back {r = r} (omega (arith, t .all, rw q at (p .state))))
+        | no d ↦ rw (renewal-apart {u = u} {r = r} d) (changed-apart changed n (n * (firstPlace (t .v) g u + r)) (outside p d) ∙ t .stored .holds p)
+      ]
+
+      kept-at : {u r : ℕ} → Place (t .v) g u r → bestTokens n (renewal t u r) ≡ renewal t u r
+      kept-at {u} {r} p = elim (ℕ-discrete u (t .node)) [
+        | yes q ↦ rw q (own .kept {r = r} (omega (arith, t .all, rw q at (p .state))))
+        | no d ↦ rw (renewal-apart {u = u} {r = r} d) (t .stored .kept p)
+      ]
+
+      pub stretch-back : Stored (t .v) g n (renewal t) b′
+      stretch-back = record { holds = λ p. holds-at p; kept = λ p. kept-at p }

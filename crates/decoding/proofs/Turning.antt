@@ -1,0 +1,233 @@
+-- A node's turn: its last tokens are copied, its states renewed, and the copy is passed on. What each call asks, and what is left. Bounds are
+-- those of the definitions: renewed tokens moved once, and nodes below hold what they held. Assumes nothing.
+use Prim.Native.Nat.{ℕ, zero, suc, _+_, _-_, _*_, _≤_, _<_}
+use mathlib.Core.Path.{_≡_, refl, sym, ap, _∙_}
+use mathlib.Core.Logic.{⊎-elim}
+use mathlib.Core.List.{List, [], _∷_, _++_, List·Memᴰ, List·Memᴰ·append-cases as append-cases}
+use mathlib.Core.Option.{some}
+use native.Mathlib.Omega.{arith}
+use native.Mathlib.Decide.{ℕ-discrete}
+use lib.IntN.{ℤ, natAbs}
+use lib.ListN.{length, getD, replicate, length-take}
+use Rattle.endian.proofs.Bytes.{i16-range}
+use Rattle.voice.specs.Voice.{states, loopScore, stepScore, linkScore}
+use Rattle.voice.proofs.Letters.{states-there}
+use Rattle.lexicon.specs.Lexicon.{nodeLetter}
+use Rattle.graph.specs.Graph.{Graph, graphOf, sink}
+use Rattle.graph.proofs.Accepted.{accepted}
+use Rattle.checking.proofs.Arcs.{shape-of, sound-of, nodes-there}
+use Rattle.ranking.specs.Hits.{Hit}
+use Rattle.decoder.specs.Score.{possible, plus}
+use Rattle.passing.specs.Best.{rowOf, byCode}
+use Rattle.passing.specs.Tokens.{Store, bestTokens, stateOf, heard, lastState, entryScore, renewed}
+use Rattle.passing.specs.InPlace.{passNode}
+use Rattle.passing.proofs.Order.{hits-strict}
+use Rattle.passing.proofs.Best.{best-from}
+use Rattle.passing.proofs.InPlace.{node-own, node-other}
+use Rattle.decoding.specs.Slots.{slots, Room}
+use Rattle.decoding.specs.Held.{held, pad, tokenOf}
+use Rattle.decoding.specs.Places.{firstPlace}
+use Rattle.decoding.specs.Stored.{Bound, Place, Stored, Handing, Handed, handedOn, Turn, TurnDone, turned}
+use Rattle.decoding.specs.Carrying.{Renewal, renewal}
+use Rattle.decoding.proofs.Held.{held-none}
+use Rattle.decoding.proofs.Storing.{places-few, place-there, place-room, slot-small, carried-bound}
+use Rattle.decoding.proofs.Carrying.{emission-range, move-small}
+use Rattle.decoding.proofs.Stretch.{renew-apart}
+use Rattle.decoding.proofs.Handing.{lexicon-formed, known, letter-few, state-range, place-of, first-at}
+
+-- a copy holds what 8 slots would
+held-more : (n m : ℕ) (l : List Hit) → length l ≤ n → held n l ++ replicate m 0 ≡ held (n + m) l
+unfolding pad
+held-more zero m [] h = let e : 0 + m ≡ m = omega arith in rw e (held-none m)
+held-more zero m (y ∷ l) h = absurd (omega arith)
+held-more (suc n) m [] h = let e : suc n + m ≡ suc (n + m) = omega arith in rw e (ap (λ r. 0 ∷ r) (held-more n m [] (omega arith)))
+held-more (suc n) m (y ∷ l) h = let e : suc n + m ≡ suc (n + m) = omega arith in rw e (ap (λ r. tokenOf y ∷ r) (held-more n m l (omega arith)))
+
+-- ---- bounds of a renewed state
+
+module _ (v : List ℕ) (g : Graph) (P : Store) (k u M : ℕ) where
+  loop-small : (s : ℕ) (a : ℤ) → plus (possible (loopScore v (stateOf v g u s))) (heard v g k u s) ≡ some a → natAbs a ≤ 65536
+  unfolding heard loopScore
+  loop-small s a e = move-small _ _ (i16-range v _) (emission-range v _ k) e
+
+  step-small : (s : ℕ) (a : ℤ) → plus (possible (stepScore v (stateOf v g u s))) (heard v g k u (suc s)) ≡ some a → natAbs a ≤ 65536
+  unfolding heard stepScore
+  step-small s a e = move-small _ _ (i16-range v _) (emission-range v _ k) e
+
+  renewed-bound : (s : ℕ) → ((r : ℕ) (h : Hit) → r ≤ s → List·Memᴰ h (P u r) → Bound g M u h) → {h : Hit} → List·Memᴰ h (renewed v g P k u s)
+      → Bound g (M + 65536) u h
+  unfolding renewed
+  renewed-bound zero f i = carried-bound M u u 0 _ (P u 0) (loop-small 0) (λ h j. f 0 h (omega arith) j) (omega arith) i
+  renewed-bound (suc s) f i = ⊎-elim
+      (λ j. carried-bound M u u 0 _ (P u (suc s)) (loop-small (suc s)) (λ h j. f (suc s) h (omega arith) j) (omega arith) j)
+      (λ j. carried-bound M u u 0 _ (P u s) (step-small s) (λ h j. f s h (omega arith) j) (omega arith) j)
+      (append-cases _ i)
+
+module _ {v x : List ℕ} {n : ℕ} {lists counts firsts loops steps entries : List ℕ} {w : ℕ} {b : List ℕ}
+    (t : Turn v x n lists counts firsts loops steps entries w b) where
+  abbrev g : Graph
+  g = graphOf x
+
+  abbrev letter : ℕ
+  letter = getD x (1 + w) 0
+
+  abbrev count : ℕ
+  count = getD v (2 + 2 * letter) 0
+
+  -- ---- what is read
+
+  pub node-there : 1 + w < length x
+  node-there = omega (arith, nodes-there (lexicon-formed (t .ready)), t .high)
+
+  pub node-few : w ≤ 400
+  node-few = omega (arith, shape-of (lexicon-formed (t .ready)) .few, t .high)
+
+  pub letter-small : letter < 64
+  unfolding nodeLetter
+  letter-small = letter-few (t .ready) (t .low) (t .high)
+
+  pub letter-there : 2 + 2 * letter < length v
+  unfolding nodeLetter
+  letter-there = states-there v (accepted (t .ready .accepted) .voice) (known (t .ready) (t .low) (t .high))
+
+  count-is : count ≡ states v (g .letter w)
+  unfolding nodeLetter states
+  count-is = refl
+
+  pub count-range : (1 ≤ count) × (count ≤ 4)
+  unfolding nodeLetter states
+  count-range = state-range (t .ready) (t .low) (t .high)
+
+  first-is : getD firsts w 0 ≡ firstPlace v g w
+  first-is = first-at (t .ready) (t .high)
+
+  place : {s : ℕ} → s < count → Place v g w s
+  place {s} h = place-of (t .ready) (t .low) (t .high) (omega (arith, count-is))
+
+  last : Place v g w (count - 1)
+  last = place (omega (arith, count-range))
+
+  pub first-few : getD firsts w 0 + count ≤ 1000
+  first-few = omega (arith, first-is, count-range, place-there v x last, places-few v x (t .ready .accepted))
+
+  slot-is : n * (getD firsts w 0 + count - 1) ≡ n * (firstPlace v g w + (count - 1))
+  slot-is = ap (λ (a : ℕ). n * a) (omega (arith, first-is, count-range))
+
+  pub slot-few : n * (getD firsts w 0 + count - 1) ≤ 8000
+  slot-few = rw slot-is (slot-small v x (t .ready .accepted) (t .roomy) (omega (arith, place-there v x last)))
+
+  -- ---- the copy
+
+  pub copy-ready : Room n (n * (getD firsts w 0 + count - 1)) b
+  copy-ready = rw slot-is (place-room v x (t .roomy) last)
+
+  abbrev old : List Hit
+  old = t .P w (lastState v g w)
+
+  last-is : count - 1 ≡ lastState v g w
+  unfolding lastState
+  last-is = ap (λ (c : ℕ). c - 1) count-is
+
+  old-few : length old ≤ n
+  old-few =
+      let q : length (bestTokens n old) ≤ n = omega (arith, length-take n (rowOf byCode old)) in
+      let p : Place v g w (lastState v g w) = rw last-is at last in
+      rw (t .stored .kept p) at q
+
+  copy-is : {from : List ℕ} → from ≡ slots n (n * (getD firsts w 0 + count - 1)) b ++ replicate (8 - n) 0 → from ≡ held 8 old
+  copy-is e =
+      let p : Place v g w (lastState v g w) = rw last-is at last in
+      let q : slots n (n * (getD firsts w 0 + count - 1)) b ≡ held n old =
+      ap (λ (k : ℕ). slots n k b) (slot-is ∙ ap (λ (s : ℕ). n * (firstPlace v g w + s)) last-is) ∙ t .stored .holds p in
+      let m : n + (8 - n) ≡ 8 = omega (arith, t .roomy .few) in
+      e ∙ ap (λ l. l ++ replicate (8 - n) 0) q ∙ held-more n (8 - n) old old-few ∙ ap (λ (k : ℕ). held k old) m
+
+  -- ---- renewal
+
+  pub renewing : Renewal n (4 * letter) (getD firsts w 0) count loops steps b
+  unfolding nodeLetter states
+  renewing = record {
+    v = v;
+    x = x;
+    k = t .k;
+    M = t .M;
+    P = t .P;
+    node = w;
+    accepted = t .ready .accepted;
+    roomy = t .roomy;
+    low = t .low;
+    high = t .high;
+    all = refl;
+    entry-is = refl;
+    first-is = first-is;
+    moves = t .moves;
+    stored = t .stored;
+    bound = λ h i. t .within .old (place h) (omega arith) i;
+    fits = t .fits;
+  }
+
+  -- ---- passing on
+
+  below : w < sink g
+  unfolding sink
+  below = omega (arith, t .high)
+
+  module _ {from b′ : List ℕ} (e : from ≡ slots n (n * (getD firsts w 0 + count - 1)) b ++ replicate (8 - n) 0)
+      (S : Stored (renewing .v) (graphOf (renewing .x)) n (renewal renewing) b′) (long : length b′ ≡ length b) where
+    pub handing : Handing x n lists counts firsts entries w from b′
+    unfolding renewing renewal linkScore
+    handing = record {
+      v = v;
+      k = t .k;
+      M = t .M;
+      score = possible (linkScore v 0);
+      l = old;
+      Q = renewal renewing;
+      ready = t .ready;
+      roomy = record { some = t .roomy .some; few = t .roomy .few; room = rw long (t .roomy .room) };
+      vertex = t .high;
+      gains = t .links;
+      moved = linkScore v 0;
+      score-is = refl;
+      small = i16-range v _;
+      handed = copy-is e;
+      best = t .stored .kept (rw last-is at last);
+      bound = λ i. t .within .old (rw last-is at last) (omega arith) i;
+      fits = t .fits;
+      stored = S;
+      above = λ {u} {s} p l i. t .within .new p l (rw (renew-apart v g n (t .k) w _ (t .P) {w = u} {r = s} (λ q. omega arith)) at i);
+    }
+
+    same-turn : handedOn handing ≡ turned t
+    unfolding handedOn turned handing renewing renewal passNode entryScore linkScore states nodeLetter
+    same-turn = refl
+
+    -- nodes below hold what they held
+    turned-below : {u s : ℕ} → u < w → turned t u s ≡ t .P u s
+    unfolding turned
+    turned-below {u} {s} l =
+        node-other v (sound-of (lexicon-formed (t .ready))) n (t .k) w below (t .P) u s (λ e. omega arith)
+        (λ i. omega (arith, sound-of (lexicon-formed (t .ready)) .rises below i))
+
+    turned-own : {s : ℕ} → s < states v (g .letter w) → turned t w s ≡ bestTokens n (renewed v g (t .P) (t .k) w s)
+    unfolding turned
+    turned-own {s} l = node-own v (sound-of (lexicon-formed (t .ready))) n (t .k) w below (t .P) s l
+
+    own-bound : {s : ℕ} {h : Hit} → s < states v (g .letter w) → List·Memᴰ h (turned t w s) → Bound g (t .M + 65536) w h
+    own-bound {s} {h} l i = renewed-bound v g (t .P) (t .k) w (t .M) s
+        (λ r y m j. t .within .old (place (omega (arith, count-is))) (omega arith) j)
+        (best-from hits-strict n _ h (rw (turned-own l) at i))
+
+    pub turn-done : {b″ : List ℕ} → Handed handing b″ → TurnDone t b″
+    unfolding handing
+    turn-done {b″} H = record {
+      stored = rw same-turn at (H .stored);
+      within = record {
+        old = λ {u} {s} p l i. t .within .old p (omega arith) (rw (turned-below {u = u} {s = s} (omega (arith, t .low))) at i);
+        new = λ {u} {s} {h} p l i. elim (ℕ-discrete u w) [
+          | yes e ↦ rw e (own-bound {s = s} (rw e at (p .state)) (rw e at i))
+          | no d ↦ H .above p (omega arith) (rw (sym (ap (λ (P : Store). P u s) same-turn)) at i)
+        ];
+      };
+      long = H .long ∙ long;
+    }

@@ -1,0 +1,121 @@
+-- `turns::pass_on` meets its contract: what is left to pass on from the store so far is what was to be passed on. The measure is what is left of
+-- the list. Assumes nothing.
+use Prim.Native.Nat.{_+_, _-_, _*_, _≤_, _<_}
+use mathlib.Core.Path.{_≡_}
+use native.Mathlib.Omega.{arith}
+use borrow.Author.Needs.{needs}
+use lib.ListN.{getD}
+use Rattle.lexicon.specs.Lexicon.{nodeCount}
+use Rattle.checking.proofs.Arcs.{nodes-there, arc-next}
+use Rattle.decoding.specs.Stored.{Handing}
+use Rattle.decoding.proofs.Handing.{lexicon-formed, HandingLeft, vertex-few, list-of, handing-start, left-arc, successor-few, down-few, handing-next, handing-done, handing-nothing}
+use Rattle.decoding.proofs.turns.pass_on.Statement.{statement}
+use Rattle.decoding.proofs.turns.pass_on.Tie as tie
+
+abbrev Inv-loop : tie.InvT-loop
+Inv-loop lexicon n lists counts firsts entries vertex from store₀ nodes start stop at₀ down₀ store at down =
+    (t : Handing lexicon n lists counts firsts entries vertex from store₀) → HandingLeft t at stop down store
+
+abbrev μ-loop : tie.MeasureT-loop
+μ-loop lexicon n lists counts firsts entries vertex from store₀ nodes start stop at₀ down₀ store at down = stop - at
+
+returns : tie.Need-returns Inv-loop μ-loop
+returns c = λ t. handing-nothing t (c .if1 .taken)
+
+-- the number that is read first
+counted : (c : tie.After-number-at Inv-loop μ-loop) → c .number-at .result ≡ nodeCount (c .before .before .before .before .before .args .lexicon .now)
+unfolding nodeCount
+counted c = c .number-at .ensures
+
+loop-holds : tie.Need-loop-holds Inv-loop μ-loop
+loop-holds c = λ t. rw (c .number-at2 .ensures) (handing-start t)
+
+-- where the list ends
+small : (c : tie.After-number-at2 Inv-loop μ-loop) →
+    getD (c .before .before .before .before .before .before .before .args .lists .now) (c .before .before .before .before .before .before .before .args .vertex) 0
+    + 2 + 2 * c .number-at2 .result ≤ 9204
+small c = rw (c .number-at2 .ensures) (list-of (c .before .before .before .before .before .before .before .pre) .small)
+
+abbrev start : tie.At-loop Inv-loop μ-loop → tie.Start Inv-loop μ-loop
+start l = l .before .before .before .before .before .before .before .before
+
+number-at-requires-3 : tie.Need-number-at-requires-3 Inv-loop μ-loop
+number-at-requires-3 c κs =
+    let t = start (c .before) .pre in
+    let i = c .before .loop .inv t in
+    omega (arith, arc-next (i .arcs) (c .loop-test .taken) .room, i .arcs .there)
+
+hand-over-requires : tie.Need-hand-over-requires Inv-loop μ-loop
+hand-over-requires c κs =
+    let m = c .before in
+    let l = m .before .before in
+    let t = start l .pre in
+    left-arc t (l .loop .inv t) (m .before .loop-test .taken) (m .number-at3 .ensures) (counted (l .before .before .before))
+
+-- the successor has an entry of the table
+entry : (c : tie.After-number-at3 Inv-loop μ-loop) → c .number-at3 .result ≤ 401
+entry c =
+    let l = c .before .before in
+    let t = start l .pre in
+    successor-few t (l .loop .inv t) (c .before .loop-test .taken) (c .number-at3 .ensures)
+
+sum : (c : tie.After-number-at3 Inv-loop μ-loop) →
+    c .before .before .loop .down + getD (start (c .before .before) .args .counts .now) (c .number-at3 .result) 0 < 281474976710656 + 4294967296
+sum c =
+    let l = c .before .before in
+    let t = start l .pre in
+    down-few t (l .loop .inv t) (c .before .loop-test .taken) (c .number-at3 .ensures) (l .before .before .before .before .if1 .left)
+
+add-at-2 : tie.Need-add-at-2 Inv-loop μ-loop
+add-at-2 c =
+    let i = c .before .before .before .before .before .before in
+    let l = i .before in
+    let h = arc-next (l .loop .inv (start l .pre) .arcs) (i .loop-test .taken) .room in
+    let g = small (l .before) in
+    search needs
+
+loop-again : tie.Need-loop-again Inv-loop μ-loop
+loop-again c =
+    let o = c .before .before .before in
+    let m = o .before .before in
+    let l = m .before .before in
+    let h = m .before .loop-test .taken in
+    let e = m .number-at3 .ensures in
+    let q = counted (l .before .before .before) in
+    λ t. let i = l .loop .inv t in handing-next t i h e q (o .hand-over .ensures (left-arc t i h e q)) (o .hand-over .kept .1 .1 .1 .1 .1 .1 .1 .1 .0)
+
+same-length : tie.Need-same-length Inv-loop μ-loop
+same-length c = c .before .loop .inv (start (c .before) .pre) .long
+
+returns-2 : tie.Need-returns-2 Inv-loop μ-loop
+returns-2 c = λ t. handing-done t (c .before .loop .inv t) (c .loop-test .left)
+
+pub pass-on-spec : {M : Type 1} → statement M
+pass-on-spec =
+    tie.close
+    (tie.spec
+    Inv-loop
+    μ-loop
+    (λ c. search needs)
+    returns
+    (λ c κs. omega (arith, nodes-there (lexicon-formed (c .before .before .before .before .pre .ready))))
+    (λ c. let h = vertex-few (c .before .before .before .before .before .pre) in search needs)
+    (λ c. let h = vertex-few (c .before .before .before .before .before .pre) in search needs)
+    (λ c. let h = list-of (c .before .before .before .before .before .before .pre) .small in search needs)
+    (λ c. let h = list-of (c .before .before .before .before .before .before .pre) .small in search needs)
+    (λ c κs. let h = list-of (c .before .before .before .before .before .before .pre) .there in omega (arith, h))
+    (λ c. let h = small c in search needs)
+    (λ c. let h = small c in search needs)
+    (λ c. let h = small c in search needs)
+    loop-holds
+    number-at-requires-3
+    hand-over-requires
+    (λ c. let h = entry (c .before .before .before .before) in search needs)
+    (λ c. let h = entry (c .before .before .before .before) in search needs)
+    (λ c. let h = sum (c .before .before .before .before .before) in search needs)
+    (λ c. let h = sum (c .before .before .before .before .before) in search needs)
+    add-at-2
+    (search needs)
+    loop-again
+    same-length
+    returns-2)
