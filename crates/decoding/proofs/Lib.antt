@@ -17,3 +17,7 @@ pub mod Handing
 pub mod Renewing
 pub mod Stretch
 pub mod Turning
+pub mod Running
+pub mod Closing
+pub mod Whole
+pub mod Calling

@@ -6,3 +6,4 @@ pub mod Listing
 pub mod Calling
 pub mod Stored
 pub mod Carrying
+pub mod Running

@@ -1,5 +1,18 @@
-// Decoding: the parts of the call decode, which is due in Base 4. The token store in bytes, the gains of a frame's moves, the numbers of the
-// places, a node's turn at a frame, the tests of rows 11, 12 and 16, and the hits as bytes.
+// Decoding: the token store in bytes, the turns of a frame, and the call that lists the hits. The call stays inside the crate until its tests are
+// there (Base 4).
+ghost use mathlib.Core.Path.{_≡_};
+ghost use Rattle.call.specs.Table.{answerOf};
+ghost use Rattle.decoder.specs.Decoding.{decodeAnswer, decodeOut, decodeWork};
+use crate::ends::best_words;
+use crate::hits::put_hits;
+use crate::judge::judge_call;
+use call::Answer;
+use call::WORK_SPACE;
+use call::clear;
+use checking::open;
+
+mod ends;
+mod frames;
 mod gains;
 mod hits;
 mod judge;
@@ -8,3 +21,39 @@ mod places;
 mod store;
 mod tokens;
 mod turns;
+
+// Writes the hits, at most n, and answers how many.
+pub(crate) fn decode(
+    voice: &[u8],
+    lexicon: &[u8],
+    frames: &[u8],
+    n: u32,
+    work: &mut [u8],
+    out: &mut [u8],
+) -> Answer
+    ensures { λ r. ⌜ answerOf r ≡ decodeAnswer (now (voice .entry)) (now (lexicon .entry)) (now (frames .entry)) n (now (work .entry)) (now (out .entry)) ⌝ }
+    ensures { λ _. ⌜ now (work .exit) ≡ decodeWork (now (voice .entry)) (now (lexicon .entry)) (now (frames .entry)) n (now (work .entry)) ⌝ }
+    ensures { λ _. ⌜ now (out .exit) ≡ decodeOut (now (voice .entry)) (now (lexicon .entry)) (now (frames .entry)) n (now (work .entry)) (now (out .entry)) ⌝ }
+{
+    let mut lists = [0u16; 402];
+    let mut counts = [0u32; 402];
+    let opened = open(voice, lexicon, work, &mut lists, &mut counts);
+    let Answer::Value(_) = opened else {
+        return opened;
+    };
+    let judged = judge_call(voice, frames, n, &out[..]);
+    let Answer::Value(_) = judged else {
+        return judged;
+    };
+    let tokens = best_words(
+        voice,
+        lexicon,
+        frames,
+        n as usize,
+        &lists,
+        &counts,
+        &mut work[0..WORK_SPACE],
+    );
+    clear(work);
+    Answer::Value(put_hits(&tokens, out))
+}

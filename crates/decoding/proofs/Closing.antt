@@ -1,0 +1,325 @@
+-- The end of a run. The search for the arc to the sink: its increment is what the successors before it add up to. And the list of hits while the
+-- tokens of each node's last state are offered to it. Assumes nothing.
+use Prim.Native.Nat.{ℕ, suc, _+_, _-_, _*_, _≤_, _<_}
+use mathlib.Core.Path.{_≡_, refl, sym, ap, ap₂, _∙_}
+use mathlib.Core.Bool.{Bool, true, false, _||_, true≢false}
+use mathlib.Core.List.{List, [], _∷_, _++_, map, map-append, append-nil, append-assoc, List·Memᴰ, List·Memᴰ·head as here, Memᴰ·append-right as in-right, Memᴰ·of-map, List·Memᴰ·not-nil as not-nil}
+use native.Mathlib.Omega.{arith}
+use native.Mathlib.Nat.{add-zero, mul-le-mul, mul-suc}
+use borrow.Author.Tests.{ne-eqb, ltb-false}
+use lib.Dec.{eqb}
+use lib.IntN.{pos}
+use lib.ListN.{length, getD, take, replicate}
+use Rattle.endian.specs.Bytes.{u16}
+use Rattle.endian.specs.Lists.{sum, has}
+use Rattle.endian.proofs.Integers.{size-sum}
+use Rattle.endian.proofs.Lists.{mem-has, sum-append}
+use Rattle.voice.specs.Voice.{letterCount, states}
+use Rattle.voice.proofs.Letters.{states-range, states-there}
+use Rattle.voice.proofs.Scores.{letters-few}
+use Rattle.lexicon.specs.Lexicon.{nodeCount, nodeLetter, sinkOf, arcsAt, successors}
+use Rattle.lexicon.proofs.WellFormed.{letter-known}
+use Rattle.graph.specs.Graph.{graphOf, sink, pathCount, wordCount, increment}
+use Rattle.graph.specs.Conditions.{placeCount, manyPlaces, manyWords}
+use Rattle.graph.proofs.Sound.{Sound, sound}
+use Rattle.graph.proofs.Accepted.{AcceptedImages, accepted}
+use Rattle.graph.proofs.Codes.{pathCount-sink, pathCount-below, increment-at}
+use Rattle.checking.proofs.Tables.{entry}
+use Rattle.checking.proofs.Arcs.{shape-of, sound-of, nodes-there, ListThere, list-there, ArcsLeft, arcs-start, ArcNext, arc-next, arcs-done}
+use Rattle.checking.proofs.Reached.{count-within-words}
+use Rattle.ranking.specs.Hits.{Hit}
+use Rattle.passing.specs.Best.{shift}
+use Rattle.passing.specs.Tokens.{bestTokens, lastState, finalScore, carried, ending}
+use Rattle.passing.proofs.Bounds.{arc-count}
+use Rattle.passing.proofs.Members.{has-mem}
+use Rattle.decoding.specs.Slots.{slots, offered, Room, Offer}
+use Rattle.decoding.specs.Held.{raised, held, Storable, upOf, downOf}
+use Rattle.decoding.specs.Places.{firstPlace}
+use Rattle.decoding.specs.Stored.{Ready, Roomy, Place}
+use Rattle.decoding.specs.Running.{Arcs, LastArc, Ending, Ended}
+use Rattle.decoding.proofs.Lending.{copied, length-copied}
+use Rattle.decoding.proofs.Held.{Moves}
+use Rattle.decoding.proofs.Kept.{offered-best, offer-ready}
+use Rattle.decoding.proofs.Numbering.{place-below}
+
+-- ---- the arc to the sink
+
+-- no arc before the offset leads there
+pub record EndAhead (x : List ℕ) (w at stop total : ℕ) : Type 0 where
+  pub earlier : List ℕ
+  pub later : List ℕ
+  pub arcs : ArcsLeft x w at stop later
+  pub split : successors x w ≡ earlier ++ later
+  pub total-is : total ≡ sum (map (pathCount (graphOf x)) earlier)
+  pub none-yet : has (sinkOf x) earlier ≡ false
+
+has-more : (a : ℕ) (l : List ℕ) (y : ℕ) → has a l ≡ false → ¬ (a ≡ y) → has a (l ++ (y ∷ [])) ≡ false
+unfolding has
+has-more a [] y h n = rw (ne-eqb a y n)
+has-more a (z ∷ l) y h n = go (eqb a z) h (has-more a l y)
+  where
+    go : (t : Bool) → t || has a l ≡ false → (has a l ≡ false → ¬ (a ≡ y) → has a (l ++ (y ∷ [])) ≡ false) → t || has a (l ++ (y ∷ [])) ≡ false
+    go true e ih = e
+    go false e ih = ih e n
+
+module _ {x lists counts : List ℕ} (a : Arcs x lists counts) {w : ℕ} (h : w ≤ nodeCount x) where
+  ok : Sound (graphOf x)
+  ok = sound-of (a .listed .well-formed)
+
+  below : w < sink (graphOf x)
+  unfolding sink
+  below = omega arith
+
+  pub vertex-entry : w < 402
+  vertex-entry = omega (arith, shape-of (a .listed .well-formed) .few)
+
+  pub next-entry : {s : ℕ} → s ≤ sinkOf x → s < 402
+  unfolding sinkOf
+  next-entry l = omega (arith, shape-of (a .listed .well-formed) .few)
+
+  list-entry : getD lists w 0 ≡ arcsAt x w
+  unfolding sinkOf
+  list-entry = entry (a .listed .table) {u = w} (omega arith)
+
+  pub list-at : ListThere x (getD lists w 0)
+  list-at = list-there (a .listed .well-formed) h list-entry
+
+  pub count-entry : {s : ℕ} → s ≤ sinkOf x → getD counts s 0 ≡ pathCount (graphOf x) s
+  count-entry {s} l = entry (a .counted) {u = s} (omega arith)
+
+  pub count-own : getD counts w 0 ≡ pathCount (graphOf x) w
+  unfolding sinkOf
+  count-own = count-entry (omega arith)
+
+  pub ahead-start : EndAhead x w (getD lists w 0 + 2) (getD lists w 0 + 2 + 2 * u16 x (getD lists w 0)) 0
+  unfolding sum has
+  ahead-start = record {
+    earlier = [];
+    later = successors x w;
+    arcs = arcs-start (a .listed .well-formed) h list-entry;
+    split = refl;
+    total-is = refl;
+    none-yet = refl;
+  }
+
+  module _ {at stop total : ℕ} (p : EndAhead x w at stop total) where
+    module _ (l : at < stop) where
+      pub ahead-arc : ArcNext x w at stop (p .later)
+      ahead-arc = arc-next (p .arcs) l
+
+      split-here : successors x w ≡ p .earlier ++ u16 x at ∷ ahead-arc .others
+      split-here = p .split ∙ ap (λ m. p .earlier ++ m) (ahead-arc .split)
+
+      increment-here : total ≡ increment (graphOf x) w (u16 x at)
+      increment-here = p .total-is ∙ sym (increment-at ok below (p .earlier) (ahead-arc .others) (u16 x at) split-here)
+
+      member : List·Memᴰ (u16 x at) (successors x w)
+      member = rw split-here (in-right (p .earlier) (here refl))
+
+      pub ahead-here : u16 x at ≡ sinkOf x → LastArc (graphOf x) w total
+      unfolding sink sinkOf
+      ahead-here e =
+          let m : List·Memᴰ (suc (nodeCount x)) (successors x w) = rw e at member in
+          record { there = λ t. rw e at increment-here; none = λ f. absurd (true≢false (sym (mem-has m) ∙ f)) }
+
+      pub ahead-below : total + pathCount (graphOf x) (u16 x at) ≤ pathCount (graphOf x) w
+      ahead-below = omega (arith, increment-here, arc-count ok below member)
+
+      pub ahead-next : ¬ (u16 x at ≡ sinkOf x) → EndAhead x w (at + 2) stop (total + pathCount (graphOf x) (u16 x at))
+      unfolding sum
+      ahead-next n = record {
+        earlier = p .earlier ++ (u16 x at ∷ []);
+        later = ahead-arc .others;
+        arcs = ahead-arc .after;
+        split = split-here ∙ sym (append-assoc (p .earlier) (u16 x at ∷ []) (ahead-arc .others));
+        total-is = ap₂ _+_ (p .total-is) (sym (add-zero (pathCount (graphOf x) (u16 x at))))
+            ∙ sym (ap sum (map-append (pathCount (graphOf x)) (p .earlier) (u16 x at ∷ [])) ∙ sum-append (map (pathCount (graphOf x)) (p .earlier)) _);
+        none-yet = has-more (sinkOf x) (p .earlier) (u16 x at) (p .none-yet) (λ e. n (sym e));
+      }
+
+    pub ahead-done : stop ≤ at → LastArc (graphOf x) w total
+    unfolding sink sinkOf
+    ahead-done l =
+        let e : successors x w ≡ p .earlier = p .split ∙ rw (arcs-done (p .arcs) l) (append-nil (p .earlier)) in
+        let f : has (suc (nodeCount x)) (successors x w) ≡ false = rw e (p .none-yet) in
+        record {
+          there = λ t. absurd (true≢false (sym t ∙ f));
+          none = λ f. p .total-is ∙ ap (λ l. sum (map (pathCount (graphOf x)) l)) (sym e) ∙ sym (pathCount-below ok below);
+        }
+
+-- ---- a node's last state
+
+module _ {v x : List ℕ} {lists counts firsts : List ℕ} (r : Ready v x lists counts firsts) where
+  pub images : AcceptedImages v x
+  images = accepted (r .accepted)
+
+  pub sound-images : Sound (graphOf x)
+  sound-images = sound (letterCount v) x (images .lexicon)
+
+  pub few-words : wordCount (graphOf x) ≤ 1048576
+  unfolding manyWords
+  few-words = ltb-false _ (wordCount (graphOf x)) (images .few-words)
+
+  pub few-places : placeCount v (graphOf x) ≤ 1000
+  unfolding manyPlaces
+  few-places = ltb-false _ (placeCount v (graphOf x)) (images .few-places)
+
+  pub arcs-of : Arcs x lists counts
+  unfolding sink
+  arcs-of = record {
+    listed = record { well-formed = record { letters = letterCount v; judged = images .lexicon }; table = r .lists-of };
+    counted = r .counts-of;
+    few = λ {u} h. omega (arith, count-within-words sound-images (images .all-reached) {u = u} (omega arith), few-words);
+  }
+
+-- the last state of a node, as it is read
+abbrev pub lastAt : List ℕ → List ℕ → ℕ → ℕ
+lastAt v x w = getD v (2 + 2 * getD x (1 + w) 0) 0 - 1
+
+pub record EndPlace (v x : List ℕ) (n : ℕ) (firsts : List ℕ) (w : ℕ) (b : List ℕ) : Type 0 where
+  pub vertex : w < 401
+  pub node-there : 1 + w < length x
+  pub letter-there : 2 + 2 * getD x (1 + w) 0 < length v
+  pub letter-small : getD x (1 + w) 0 < 64
+  pub some : 1 ≤ getD v (2 + 2 * getD x (1 + w) 0) 0
+  pub few : getD v (2 + 2 * getD x (1 + w) 0) 0 ≤ 4
+  pub place-small : getD firsts w 0 + lastAt v x w < 1000
+  pub slot-small : n * (getD firsts w 0 + lastAt v x w) ≤ 8000
+  pub room : Room n (n * (getD firsts w 0 + lastAt v x w)) b
+  pub place : Place v (graphOf x) w (lastState v (graphOf x) w)
+  pub slot : slots n (n * (getD firsts w 0 + lastAt v x w)) b ≡ slots n (n * (firstPlace v (graphOf x) w + lastState v (graphOf x) w)) b
+
+module _ {v x : List ℕ} {n : ℕ} {lists counts firsts : List ℕ} {w : ℕ} {b : List ℕ} (r : Ready v x lists counts firsts) (m : Roomy v x n b) (low : 1 ≤ w) (high : w ≤ nodeCount x) where
+  known : nodeLetter x w < letterCount v
+  known = letter-known (letterCount v) x (images r .lexicon) w low high
+
+  first : getD firsts w 0 ≡ firstPlace v (graphOf x) w
+  unfolding sinkOf
+  first = entry (r .firsts-of) {u = w} (omega arith)
+
+  number : getD firsts w 0 + lastAt v x w < placeCount v (graphOf x)
+  unfolding nodeLetter states
+  number =
+      let s = states-range v (images r .voice) known in
+      rw first (place-below v (graphOf x) {u = w} {s = lastAt v x w} low high (omega (arith, s)))
+
+  pub end-place : EndPlace v x n firsts w b
+  unfolding nodeLetter states lastState sink
+  end-place =
+      let s = states-range v (images r .voice) known in
+      let p = getD firsts w 0 + lastAt v x w in
+      let q = placeCount v (graphOf x) in
+      let small : n * p ≤ 8 * 1000 = mul-le-mul {n₂ = 8} {m₂ = 1000} (m .few) (omega (arith, number, few-places r)) in
+      let within : n * suc p ≤ n * q = mul-le-mul {n₂ = n} {m₂ = q} (omega arith) number in
+      let step : n * suc p ≡ n * p + n = omega (arith, mul-suc n p) in
+      record {
+        vertex = omega (arith, shape-of (arcs-of r .listed .well-formed) .few);
+        node-there = omega (arith, nodes-there (arcs-of r .listed .well-formed));
+        letter-there = states-there v (images r .voice) known;
+        letter-small = omega (arith, known, letters-few v (images r .voice));
+        some = s .0;
+        few = s .1;
+        place-small = omega (arith, number, few-places r);
+        slot-small = small;
+        room = record { some = m .some; few = m .few; room = omega (arith, within, step, m .room) };
+        place = record { low = low; high = omega arith; state = omega (arith, s) };
+        slot = rw first refl;
+      }
+
+-- ---- its tokens are candidates for the list
+
+pub level-up : upOf (pos 0) ≡ 281474976710656
+unfolding upOf raised
+level-up = refl
+
+pub level-down : (d : ℕ) → downOf d ≡ 281474976710656 + d
+unfolding downOf
+level-down d = omega arith
+
+module _ {v x : List ℕ} {n : ℕ} {lists counts firsts : List ℕ} {w : ℕ} {b list : List ℕ} (e : Ending v x n lists counts firsts w b list) where
+  end-at : EndPlace v x n firsts w b
+  end-at = end-place (e .ready) (e .roomy) (e .low) (e .high)
+
+  graph-ok : Sound (graphOf x)
+  graph-ok = sound-images (e .ready)
+
+  under : w < sink (graphOf x)
+  unfolding sink
+  under = omega (arith, e .high)
+
+  -- what the last state holds
+  abbrev last-tokens : List Hit
+  last-tokens = e .P w (lastState v (graphOf x) w)
+
+  own : getD counts w 0 ≡ pathCount (graphOf x) w
+  own = count-own (arcs-of (e .ready)) (e .high)
+
+  pub end-none : {d : ℕ} → LastArc (graphOf x) w d → d ≡ getD counts w 0 → has (sink (graphOf x)) (successors x w) ≡ false
+  end-none {d} a q = go (has (sink (graphOf x)) (successors x w)) refl
+    where
+      go : (t : Bool) → has (sink (graphOf x)) (successors x w) ≡ t → has (sink (graphOf x)) (successors x w) ≡ false
+      go false p = p
+      go true p = absurd (omega (arith, a .there p, own, arc-count graph-ok under (has-mem (successors x w) p), pathCount-sink graph-ok))
+
+  pub end-there : {d : ℕ} → LastArc (graphOf x) w d → ¬ (d ≡ getD counts w 0) → has (sink (graphOf x)) (successors x w) ≡ true
+  end-there {d} a q = go (has (sink (graphOf x)) (successors x w)) refl
+    where
+      go : (t : Bool) → has (sink (graphOf x)) (successors x w) ≡ t → has (sink (graphOf x)) (successors x w) ≡ true
+      go true p = p
+      go false p = absurd (q (a .none p ∙ sym own))
+
+  pub end-nothing : has (sink (graphOf x)) (successors x w) ≡ false → Ended e list
+  unfolding ending
+  end-nothing p = record { holds = rw (p, append-nil (e .s)) (e .holds) }
+
+  module _ (t : has (sink (graphOf x)) (successors x w) ≡ true) {d : ℕ} (q : d ≡ increment (graphOf x) w (sink (graphOf x))) where
+    end-from : (h : Hit) → List·Memᴰ h last-tokens → Storable h
+    end-from h i =
+        let B = e .bound (end-at .place) i in
+        record { score = B .score; code = omega (arith, B .code, few-words (e .ready)) }
+
+    end-to : (h : Hit) → List·Memᴰ h last-tokens → Storable (shift (pos 0) d h)
+    unfolding shift
+    end-to h i =
+        let B = e .bound (end-at .place) i in
+        record {
+          score = omega (arith, B .score, size-sum (h .score) (pos 0));
+          code = omega (arith, B .code, few-words (e .ready), arc-count graph-ok under (has-mem (successors x w) t), q);
+        }
+
+    keeps : bestTokens n last-tokens ≡ last-tokens
+    keeps = e .stored .kept (end-at .place)
+
+    end-moves : Moves (pos 0) d (bestTokens n last-tokens)
+    end-moves = rw keeps (record { small = omega arith; from = end-from; to = end-to })
+
+    -- the arrivals of this node at the sink
+    ends-so : ending v (graphOf x) (e .P) w ≡ map (shift (pos 0) d) last-tokens
+    unfolding ending carried finalScore
+    ends-so = rw (t, q) refl
+
+    module _ {tokens : List ℕ} (c : tokens ≡ slots n (n * (getD firsts w 0 + lastAt v x w)) b ++ replicate (8 - n) 0) where
+      copied-tokens : take n tokens ≡ held n (bestTokens n last-tokens)
+      copied-tokens = rw (c, keeps) (copied n _ b ∙ end-at .slot ∙ e .stored .holds (end-at .place))
+
+      pub end-offer : Offer n 0 281474976710656 (281474976710656 + d) tokens list
+      end-offer =
+          rw (level-up, level-down d) at
+          (offer-ready n (pos 0) d last-tokens end-moves {k = 0} {from = tokens} {b = list} {s = e .s}
+          (record { some = e .roomy .some; few = e .roomy .few; room = omega (arith, e .long, e .roomy .few) })
+          (rw (c, length-copied n (n * (getD firsts w 0 + lastAt v x w)) b (e .roomy .few)) (e .roomy .few))
+          copied-tokens (e .holds) (e .storable))
+
+      pub end-offered : {list′ : List ℕ} → slots n 0 list′ ≡ offered 281474976710656 (281474976710656 + d) (take n tokens) (slots n 0 list) → Ended e list′
+      end-offered o =
+          let f : offered (upOf (pos 0)) (downOf d) (held n (bestTokens n last-tokens)) (held n (bestTokens n (e .s))) ≡ held n (bestTokens n (e .s ++ map (shift (pos 0) d) last-tokens)) = offered-best n (pos 0) d last-tokens end-moves (e .s) (e .storable) in
+          record { holds = o ∙ rw (copied-tokens, e .holds, ends-so) (rw (level-up, level-down d) at f) }
+
+  -- what arrives from this node can be stored
+  pub end-storable : (h : Hit) → List·Memᴰ h (ending v (graphOf x) (e .P) w) → Storable h
+  unfolding ending
+  end-storable h i = go (has (sink (graphOf x)) (successors x w)) refl
+    where
+      go : (t : Bool) → has (sink (graphOf x)) (successors x w) ≡ t → Storable h
+      go true t = let u = Memᴰ·of-map (shift (pos 0) (increment (graphOf x) w (sink (graphOf x)))) last-tokens (rw (ends-so t refl) at i) in rw (← u .2) (end-to t refl (u .0) (u .1))
+      go false t = absurd (not-nil (rw t at i))
