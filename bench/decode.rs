@@ -1,0 +1,263 @@
+//! Times the product's decoding, with all its checking, beside a plain token-passing decoder that checks nothing, and
+//! beside decoding word by word, on the same inputs, in turn; prints the medians and the ratios, then three
+//! series, which are also written to a file, from which bench/plot draws.
+
+mod decode_inputs;
+#[allow(dead_code)]
+#[path = "../tests/running/draw.rs"]
+mod draw;
+#[allow(dead_code)]
+#[path = "../tests/running/image.rs"]
+mod image;
+#[allow(dead_code)]
+#[path = "../tests/running/random.rs"]
+mod random;
+#[allow(dead_code)]
+#[path = "../tests/running/sketch.rs"]
+mod sketch;
+
+use decode_inputs::Input;
+use random::Random;
+
+type Decode = unsafe extern "C" fn(
+    *const u8,
+    usize,
+    *const u8,
+    usize,
+    *const u8,
+    usize,
+    u32,
+    *mut u8,
+    usize,
+    *mut u8,
+    usize,
+) -> i32;
+
+macro_rules! decoders {
+    ($($name:ident)*) => {
+        extern "C" {
+            $(fn $name(
+                voice: *const u8,
+                voice_len: usize,
+                lexicon: *const u8,
+                lexicon_len: usize,
+                frames: *const u8,
+                frames_len: usize,
+                n: u32,
+                work: *mut u8,
+                work_len: usize,
+                out: *mut u8,
+                out_len: usize,
+            ) -> i32;)*
+        }
+    };
+}
+
+decoders!(wundaleth_decode plain_decode word_by_word);
+
+extern "C" {
+    fn clock_gettime(clock: i32, time: *mut [i64; 2]) -> i32;
+}
+
+/// Linux's number for the processor time of this process.
+const PROCESSOR_TIME: i32 = 2;
+
+/// Microseconds of processor time so far, so that what else runs on the machine counts as little as can be.
+fn now() -> f64 {
+    let mut time = [0; 2];
+    // seconds and nanoseconds, 64 bits each
+    unsafe { clock_gettime(PROCESSOR_TIME, &mut time) };
+    time[0] as f64 * 1e6 + time[1] as f64 / 1e3
+}
+
+/// For a figure a decoder is called in rounds, at least and at most so many, until it has taken about so many microseconds.
+const ROUNDS: (usize, usize) = (3, 200);
+const SPENT: f64 = 50_000.0;
+/// Word by word is left out where a call would take about a second or more: so many frames times states of words.
+const MOST_STEPS: u64 = 160_000_000;
+
+struct Case<'a> {
+    input: &'a Input,
+    frames: Vec<u8>,
+    n: u32,
+}
+
+/// Microseconds a call.
+struct Times {
+    product: f64,
+    plain: f64,
+    /// Of product to plain, of calls that follow each other: what else the machine does then counts for both.
+    ratio: f64,
+    by_words: Option<f64>,
+}
+
+impl Case<'_> {
+    fn of<'a>(input: &'a Input, length: usize, n: u32, random: &mut Random) -> Case<'a> {
+        let frames = (0..length).map(|_| random.below(input.symbols) as u8);
+        Case {
+            input,
+            frames: frames.collect(),
+            n,
+        }
+    }
+
+    fn call(&self, decode: Decode, work: &mut [u8], out: &mut [u8]) -> i32 {
+        let (voice, lexicon) = (&self.input.voice, &self.input.lexicon);
+        // Each pointer is valid for its length.
+        unsafe {
+            decode(
+                voice.as_ptr(),
+                voice.len(),
+                lexicon.as_ptr(),
+                lexicon.len(),
+                self.frames.as_ptr(),
+                self.frames.len(),
+                self.n,
+                work.as_mut_ptr(),
+                work.len(),
+                out.as_mut_ptr(),
+                out.len(),
+            )
+        }
+    }
+
+    /// Calls so often in a row; microseconds a call.
+    fn time(&self, decode: Decode, calls: usize, work: &mut [u8]) -> f64 {
+        let mut out = [0; 64];
+        let begin = now();
+        for _ in 0..calls {
+            std::hint::black_box(self.call(decode, work, &mut out));
+        }
+        (now() - begin) / calls as f64
+    }
+
+    /// All decoders give the same hits; then they are timed in turn.
+    fn times(&self, work: &mut [u8]) -> Times {
+        let mut decoders: Vec<Decode> = vec![wundaleth_decode, plain_decode];
+        if self.input.states_of_words * (self.frames.len() as u64) < MOST_STEPS {
+            decoders.push(word_by_word);
+        }
+        let mut lists = Vec::new();
+        for decode in &decoders {
+            let mut out = [0; 64];
+            lists.push((self.call(*decode, work, &mut out), out));
+        }
+        assert!(lists.iter().all(|list| *list == lists[0]), "{lists:?}");
+        let once = self.time(plain_decode, 1, work);
+        // short calls in rows of about 100 microseconds
+        let calls = (100.0 / once) as usize + 1;
+        let mut samples = vec![Vec::new(); decoders.len()];
+        for round in 0..ROUNDS.1 {
+            for (k, decode) in decoders.iter().enumerate() {
+                let least = if k < 2 { ROUNDS.0 } else { 1 };
+                if round < least || samples[k].iter().sum::<f64>() * (calls as f64) < SPENT {
+                    samples[k].push(self.time(*decode, calls, work));
+                }
+            }
+        }
+        let in_turn = samples[0].iter().zip(&samples[1]);
+        let ratio = median(in_turn.map(|(product, plain)| product / plain).collect());
+        let medians: Vec<f64> = samples.into_iter().map(median).collect();
+        Times {
+            ratio,
+            product: medians[0],
+            plain: medians[1],
+            by_words: medians.get(2).copied(),
+        }
+    }
+}
+
+fn median(mut samples: Vec<f64>) -> f64 {
+    samples.sort_by(f64::total_cmp);
+    samples[samples.len() / 2]
+}
+
+fn shown(time: Option<f64>) -> String {
+    time.map_or("-".to_string(), |time| format!("{time:.1}"))
+}
+
+/// All inputs, T and n; returns the worst ratio to the plain decoder for T = 50 and for more frames.
+fn table(random: &mut Random, work: &mut [u8]) -> (f64, f64) {
+    let head = ["product µs", "plain µs", "ratio", "words µs", "ratio"];
+    let head: String = head.iter().map(|name| format!("{name:>12}")).collect();
+    println!(
+        "{:<24}{:>7}{:>6}{:>8}{:>6}{:>3}{head}",
+        "decoding", "places", "arcs", "words", "T", "n"
+    );
+    let mut worst = (0f64, 0f64);
+    for input in decode_inputs::inputs(random) {
+        for (length, n) in [50, 300, 1_000]
+            .iter()
+            .flat_map(|t| [1, 3, 8].map(|n| (*t, n)))
+        {
+            let times = Case::of(&input, length, n, random).times(work);
+            let ratio = times.ratio;
+            let of_words = times.by_words.map(|time| times.product / time);
+            println!(
+                "{:<24}{:>7}{:>6}{:>8}{length:>6}{n:>3}{:>12.1}{:>12.1}{ratio:>12.2}{:>12}{:>12}",
+                input.name,
+                input.places,
+                input.arcs,
+                input.words,
+                times.product,
+                times.plain,
+                shown(times.by_words),
+                of_words.map_or("-".to_string(), |ratio| format!("{ratio:.4}")),
+            );
+            let worst = if length == 50 {
+                &mut worst.0
+            } else {
+                &mut worst.1
+            };
+            *worst = worst.max(ratio);
+        }
+    }
+    worst
+}
+
+/// One series: what grows, and the times. They are printed and added to the file's rows.
+fn series(name: &str, cases: Vec<(usize, Case)>, work: &mut [u8], rows: &mut String) {
+    println!();
+    println!(
+        "{:>12}{:>14}{:>14}{:>14}{:>14}",
+        name, "product µs", "µs each", "plain µs", "words µs"
+    );
+    for (size, case) in cases {
+        let times = case.times(work);
+        let (product, plain) = (times.product, times.plain);
+        let each = product / size as f64;
+        let by_words = shown(times.by_words);
+        println!("{size:>12}{product:>14.1}{each:>14.4}{plain:>14.1}{by_words:>14}");
+        *rows += &format!("{name},{size},{product:.1},{plain:.1},{by_words}\n");
+    }
+}
+
+fn main() {
+    let file = std::env::args().nth(1).unwrap_or("series.csv".to_string());
+    let random = &mut Random::from_seed(1);
+    let work = &mut vec![0; 64_000];
+    let worst = table(random, work);
+    println!(
+        "worst ratio to plain: {:.2} for T = 50, {:.2} for T of 300 and 1,000",
+        worst.0, worst.1
+    );
+    let arcs = decode_inputs::over_arcs(random);
+    let words = decode_inputs::over_words(random);
+    let mut case = |input, length| Case::of(input, length, 3, random);
+    let lengths = [50, 100, 200, 300, 400, 500, 600, 700, 800, 900, 1_000];
+    let over_frames = lengths.map(|length| (length, case(&arcs[2], length)));
+    let over_arcs = arcs.iter().map(|input| (input.arcs, case(input, 300)));
+    let over_arcs = over_arcs.collect();
+    let over_words = words
+        .iter()
+        .map(|input| (input.words as usize, case(input, 50)));
+    let over_words = over_words.collect();
+    let mut rows = "series,size,product,plain,word by word\n".to_string();
+    series("frames", over_frames.into(), work, &mut rows);
+    series("arcs", over_arcs, work, &mut rows);
+    series("words", over_words, work, &mut rows);
+    match std::fs::write(&file, rows) {
+        Ok(()) => println!("written: {file}"),
+        Err(error) => println!("not written: {file}: {error}"),
+    }
+}

@@ -1,0 +1,324 @@
+//! The tests that run the program hits: what it prints for an input, to the byte, against what is made here from the scope
+//! paper alone. The program is the first argument; a seed may be the second.
+
+#[allow(dead_code)]
+mod damage;
+#[allow(dead_code)]
+mod draw;
+#[allow(dead_code)]
+mod image;
+#[allow(dead_code)]
+mod random;
+#[allow(dead_code)]
+mod reference;
+#[allow(dead_code)]
+#[path = "decoding/scores.rs"]
+mod scores;
+#[allow(dead_code)]
+mod sketch;
+#[allow(dead_code)]
+#[path = "decoding/word_by_word.rs"]
+mod word_by_word;
+
+use random::Random;
+use std::collections::BTreeMap;
+use std::io::Write;
+use std::process::{Command, ExitCode, Stdio};
+use word_by_word::{Images, List};
+
+const SEED: u64 = 20_240_501;
+const SHOWN_DIFFERENCES: usize = 10;
+
+struct Program {
+    path: String,
+    random: Random,
+    /// How often each first line was due: a refusal's, or any number of hits.
+    seen: BTreeMap<String, usize>,
+    runs: usize,
+    differences: usize,
+}
+
+fn main() -> ExitCode {
+    let mut words = std::env::args().skip(1);
+    let path = words.next().unwrap_or("target/bin/hits".to_string());
+    let seed = words.next().and_then(|word| word.parse().ok());
+    let mut program = Program {
+        path,
+        random: Random::from_seed(seed.unwrap_or(SEED)),
+        seen: BTreeMap::new(),
+        runs: 0,
+        differences: 0,
+    };
+    program.examples();
+    program.every_length();
+    program.numbers_of_frames();
+    program.lengths_given();
+    program.any_images(150);
+    let missing = program.missing();
+    println!("{:?}", program.seen);
+    println!(
+        "hits: {} runs, {} differences",
+        program.runs, program.differences
+    );
+    match program.differences + missing {
+        0 => ExitCode::SUCCESS,
+        faults => {
+            println!("FAILED: {faults} faults");
+            ExitCode::FAILURE
+        }
+    }
+}
+
+/// An input whose lengths are those of the images.
+fn input(voice: &[u8], lexicon: &[u8], n: u8, frames: &[u8]) -> Vec<u8> {
+    let mut input = (voice.len() as u16).to_le_bytes().to_vec();
+    input.extend_from_slice(voice);
+    input.extend((lexicon.len() as u16).to_le_bytes());
+    input.extend_from_slice(lexicon);
+    input.push(n);
+    input.extend_from_slice(frames);
+    input
+}
+
+/// Takes an image with its length from the input's start: what is there of it, and nothing if a byte of the length is
+/// missing.
+fn take_image<'a>(input: &mut &'a [u8]) -> &'a [u8] {
+    let Some((length, rest)) = input.split_at_checked(2) else {
+        *input = &[];
+        return &[];
+    };
+    let length = usize::from(length[0]) + 256 * usize::from(length[1]);
+    let (image, rest) = rest.split_at(length.min(rest.len()));
+    *input = rest;
+    image
+}
+
+/// What has to be printed.
+fn report(mut input: &[u8]) -> String {
+    let voice = take_image(&mut input);
+    let lexicon = take_image(&mut input);
+    let n = input.first().copied().unwrap_or(0);
+    let frames = input.get(1..).unwrap_or(&[]);
+    let images = Images::of(voice, lexicon);
+    let list = word_by_word::decode(&images, frames, n.into(), 64_000, 64);
+    match (images, list) {
+        (Ok(images), Ok(list)) => lines(voice, &images, &list, frames.len() as i64),
+        (_, list) => format!("refused {}\n", list.err().unwrap_or(0)),
+    }
+}
+
+fn lines(voice: &[u8], images: &Images, list: &List, frames: i64) -> String {
+    let words = images.words.len();
+    // the length of W - 1 in binary
+    let bits = match words {
+        1 => 0,
+        _ => format!("{:b}", words - 1).len(),
+    };
+    let mut lines = format!("hits {} words {words} bits {bits}\n", list.hits.len());
+    for hit in &list.hits {
+        let letters = images.words[hit.code as usize].iter();
+        // after L each letter has its print byte and its number of states
+        let print_byte = |letter: &u8| char::from(voice[1 + 2 * usize::from(*letter)]);
+        let word: String = letters.map(print_byte).collect();
+        let mean = hit.score.div_euclid(frames);
+        lines += &format!("{} {} {mean} {word}\n", hit.code, hit.score);
+    }
+    lines
+}
+
+impl Program {
+    /// One run, held to the report.
+    fn run(&mut self, input: &[u8]) {
+        let expected = report(input);
+        self.run_for(&expected, input);
+    }
+
+    fn run_for(&mut self, expected: &str, input: &[u8]) {
+        self.runs += 1;
+        let first = expected.split(" words").next().unwrap_or_default();
+        *self.seen.entry(first.trim_end().to_string()).or_default() += 1;
+        match self.printed(input) {
+            Ok((printed, true)) if printed == expected.as_bytes() => {}
+            Ok((printed, success)) => {
+                let printed = String::from_utf8_lossy(&printed).into_owned();
+                self.difference(input, expected, &format!("{printed:?}, status 0 {success}"));
+            }
+            Err(error) => self.difference(input, expected, &error.to_string()),
+        }
+    }
+
+    /// What the program prints, and whether its status is 0.
+    fn printed(&self, input: &[u8]) -> std::io::Result<(Vec<u8>, bool)> {
+        let mut child = Command::new(&self.path)
+            .stdin(Stdio::piped())
+            .stdout(Stdio::piped())
+            .spawn()?;
+        if let Some(mut stdin) = child.stdin.take() {
+            // a program that has seen enough need not read to the end
+            stdin.write_all(input).ok();
+        }
+        let output = child.wait_with_output()?;
+        Ok((output.stdout, output.status.success()))
+    }
+
+    fn difference(&mut self, input: &[u8], expected: &str, found: &str) {
+        self.differences += 1;
+        if self.differences <= SHOWN_DIFFERENCES {
+            println!("difference: expected {expected:?}, found {found}");
+            println!(
+                "  input of {} bytes: {:?}",
+                input.len(),
+                &input[..input.len().min(200)]
+            );
+        }
+    }
+
+    /// The document's example and the other rows of the small lexicon, as they are printed.
+    fn examples(&mut self) {
+        let voice = image::small_voice().bytes();
+        let lexicon = image::small_lexicon();
+        let mut turned = lexicon.clone();
+        turned.successors[0] = vec![2, 1];
+        let (lexicon, turned) = (lexicon.bytes(), turned.bytes());
+        let three = "hits 3 words 5 bits 3\n0 -2 -1 an\n1 -12 -6 at\n3 -12 -6 in\n";
+        let five = "hits 5 words 5 bits 3\n0 -2 -1 an\n1 -12 -6 at\n3 -12 -6 in\n2 -21 -11 i\n4 -22 -11 it\n";
+        let other = "hits 3 words 5 bits 3\n3 -2 -1 an\n1 -12 -6 in\n4 -12 -6 at\n";
+        for (lexicon, n, frames, printed) in [
+            (&lexicon, 3, &[0, 2][..], three),
+            (&lexicon, 8, &[0, 2], five),
+            (&turned, 3, &[0, 2], other),
+            (&lexicon, 8, &[1], "hits 1 words 5 bits 3\n2 0 0 i\n"),
+            (
+                &lexicon,
+                1,
+                &[0, 0, 2],
+                "hits 1 words 5 bits 3\n0 -3 -1 an\n",
+            ),
+            (
+                &lexicon,
+                1,
+                &[1; 1_000],
+                "hits 1 words 5 bits 3\n2 -999 -1 i\n",
+            ),
+            (&lexicon, 1, &[1; 1_001], "refused 11\n"),
+            (&lexicon, 3, &[0, 4], "refused 11\n"),
+            (&lexicon, 0, &[0, 2], "refused 12\n"),
+            (&lexicon, 9, &[0, 2], "refused 12\n"),
+            (&lexicon, 255, &[0, 2], "refused 12\n"),
+        ] {
+            let input = input(&voice, lexicon, n, frames);
+            self.run_for(printed, &input);
+            self.run(&input);
+        }
+    }
+
+    /// Cut at every length: a length of which a byte is missing leaves an empty image, a missing n is 0 and no frames.
+    fn every_length(&mut self) {
+        let (voice, lexicon) = (image::small_voice().bytes(), image::small_lexicon().bytes());
+        let whole = input(&voice, &lexicon, 3, &[0, 2]);
+        for length in 0..=whole.len() {
+            self.run(&whole[..length]);
+        }
+        let before_n = whole.len() - 3;
+        let before_lexicon = 2 + voice.len();
+        for (length, printed) in [
+            (0, "refused 2\n"),
+            (1, "refused 2\n"),
+            (2, "refused 2\n"),
+            (before_lexicon - 1, "refused 2\n"),
+            (before_lexicon, "refused 4\n"),
+            (before_lexicon + 1, "refused 4\n"),
+            (before_n - 1, "refused 4\n"),
+            (before_n, "refused 11\n"),
+            (before_n + 1, "refused 11\n"),
+        ] {
+            self.run_for(printed, &whole[..length]);
+        }
+        // half a length, which as a voice model of one byte would be 3
+        for byte in [0, 1, 65, 200, 255] {
+            self.run_for("refused 2\n", &[byte]);
+        }
+    }
+
+    /// Up to far more frames than can be taken, some of them out of range only there.
+    fn numbers_of_frames(&mut self) {
+        let (voice, lexicon) = (image::small_voice().bytes(), image::small_lexicon().bytes());
+        let lengths = [998, 999, 1_000, 1_001, 1_002, 2_000, 65_535, 65_536, 65_537];
+        for length in lengths
+            .into_iter()
+            .chain([66_036, 131_072, 200_000, 1_000_000])
+        {
+            let mut frames = self.random.bytes(length);
+            frames.iter_mut().for_each(|frame| *frame %= 4);
+            self.run(&input(&voice, &lexicon, 8, &frames));
+            self.run(&input(&voice, &lexicon, 0, &frames));
+            frames[length - 1] = 255;
+            self.run(&input(&voice, &lexicon, 8, &frames));
+        }
+    }
+
+    /// Lengths that are not the images': what follows is cut elsewhere. The longest leave all to the first image.
+    fn lengths_given(&mut self) {
+        let (voice, lexicon) = (image::small_voice().bytes(), image::small_lexicon().bytes());
+        let whole = input(&voice, &lexicon, 3, &[0, 2]);
+        for at in [0, 2 + voice.len()] {
+            let right = u16::from_le_bytes([whole[at], whole[at + 1]]);
+            for length in [0, 1, right - 1, right + 1, right + 5, 256, 32_768, 65_535] {
+                let mut input = whole.clone();
+                input[at..at + 2].copy_from_slice(&length.to_le_bytes());
+                self.run(&input);
+                // with as many bytes as that, and more
+                input.resize(input.len() + 70_000, 0);
+                self.run(&input);
+            }
+        }
+        self.run(&[0; 131_075]);
+        self.run(&[255; 140_000]);
+    }
+
+    fn any_images(&mut self, runs: usize) {
+        for k in 0..runs {
+            let random = &mut self.random;
+            let letters = random.between(1, 6);
+            let sketch = match k % 4 {
+                0 => draw::tangle(random, letters),
+                _ => draw::few_words(random, letters),
+            };
+            let mut voice = draw::voice(random, letters, 4);
+            scores::draw(random, &mut voice);
+            let lexicon = sketch.lexicon(random);
+            let length = random.between(1, 30);
+            let mut frames = random.bytes(length);
+            frames.iter_mut().for_each(|frame| *frame %= voice.symbols);
+            let n = random.between(1, 8) as u8;
+            let mut lexicon_bytes = lexicon.bytes();
+            if k % 5 == 0 {
+                lexicon_bytes = damage::damaged(random, &lexicon.fields());
+            }
+            self.run(&input(&voice.bytes(), &lexicon_bytes, n, &frames));
+        }
+        // many words, and an accepted input that is nearly as long as can be
+        let sketch = draw::so_many_words(&[16; 4], 3);
+        let mut voice = draw::voice_of(&mut self.random, &[1; 64], 64);
+        scores::set_all(&mut voice, -32_767, -32_767);
+        let lexicon = sketch.lexicon(&mut self.random).bytes();
+        self.run(&input(&voice.bytes(), &lexicon, 8, &[63; 60]));
+        let voice = draw::voice_of(&mut self.random, &[4; 64], 64).bytes();
+        let lexicon = draw::dense(&mut self.random, 250, 3_900);
+        let lexicon = lexicon.lexicon(&mut self.random).bytes();
+        self.run(&input(&voice, &lexicon, 8, &[63; 1_000]));
+        self.run(&input(&voice, &lexicon, 8, &[63; 1_001]));
+    }
+
+    /// Prints each kind of report that was never due; says how many there are.
+    fn missing(&self) -> usize {
+        let refusals = [2, 3, 4, 5, 10, 11, 12].map(|number| format!("refused {number}"));
+        let lists = [0, 1, 2, 3, 8].map(|hits| format!("hits {hits}"));
+        let never = |due: &&String| !self.seen.contains_key(*due);
+        let never: Vec<&String> = refusals.iter().chain(&lists).filter(never).collect();
+        for due in &never {
+            println!("never seen: {due}");
+        }
+        never.len()
+    }
+}
