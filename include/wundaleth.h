@@ -64,6 +64,13 @@ int32_t wundaleth_code_to_word(const uint8_t *voice, size_t voice_length, const 
 int32_t wundaleth_list(const uint8_t *voice, size_t voice_length, const uint8_t *lexicon, size_t lexicon_length, uint8_t *work,
                        size_t work_length, uint8_t *out, size_t out_length);
 
+/* Decodes frames, one symbol a byte, against the lexicon, and writes the hits, the best first: at most n, 1 to 8, each in 8 bytes, int32_t score
+ * and uint32_t code, both little-endian; the output needs no alignment, but room for n hits. Answers how many, 0 to n, or refuses with 1 to 12
+ * or 16. The list is complete and exact: of all words that have a permitted state path the n with the highest scores, equal scores by rising
+ * code; fewer than n are all that have one. */
+int32_t wundaleth_decode(const uint8_t *voice, size_t voice_length, const uint8_t *lexicon, size_t lexicon_length, const uint8_t *frames,
+                         size_t frames_length, uint32_t n, uint8_t *work, size_t work_length, uint8_t *out, size_t out_length);
+
 /* Packing and unpacking are given no image but W, as `words`: the W that wundaleth_check answered for the image that the codes belong to. A
  * code takes b bits: 0 if W is 1, else the length of W - 1 in binary, at most 20. n codes take n x b / 8 bytes, rounded up, at most 20. */
 

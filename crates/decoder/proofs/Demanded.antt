@@ -15,14 +15,15 @@ use Rattle.endian.proofs.Integers.{ints}
 use Rattle.endian.proofs.Lists.{mem-getD, place, take-out, some-or-none}
 use Rattle.endian.proofs.Pairs.{pairs-of-places, first-of}
 use Rattle.endian.proofs.Pigeonhole.{pigeonhole}
+use Rattle.call.specs.Table.{Answer}
 use Rattle.graph.specs.Graph.{graphOf, pathCode}
 use Rattle.graph.specs.Words.{LexiconWord}
 use Rattle.graph.specs.Checking.{Accepted}
 use Rattle.ranking.specs.Hits.{Hit, hit, _≻_}
 use Rattle.ranking.proofs.Hits.{hit-path}
 use Rattle.ranking.proofs.Ranked.{≻-trans, ≻-asym}
-use Rattle.decoder.specs.Decoding.{pathScore}
-use Rattle.decoder.specs.Demand.{hitAt, Different, HasPath, HasNoPath, IsTrueScore, Names, Off, BehindLast, Demand3, IsRow, DecodingMeetsDemand3}
+use Rattle.decoder.specs.Decoding.{pathScore, decodeAnswer, decodeOut}
+use Rattle.decoder.specs.Demand.{hitAt, Different, HasPath, HasNoPath, IsTrueScore, Names, Off, BehindLast, Demand3, IsRow, decodedList, MeetsDemand3, DecodingMeetsDemand3}
 use Rattle.decoder.proofs.Listed.{TrueHit, is-path-score, no-path-score, path-names, one-code, is-row, answered, decoded-first}
 
 -- what `hitAt` reads past the end
@@ -176,6 +177,11 @@ pub meets-demand-3 : DecodingMeetsDemand3
 meets-demand-3 v x frames work out n k e =
     let a = answered v x frames work out n k e in
     rw (decoded-first v x frames work out n k e) (first-meets v x frames (a .images) (is-row v x frames (a .images)) n (a .some-wanted))
+
+pub left-meets : (v x frames work out : List ℕ) (n : ℕ) (answer : Answer ℕ) (left : List ℕ) → answer ≡ decodeAnswer v x frames n work out
+    → left ≡ decodeOut v x frames n work out → MeetsDemand3 v x frames n answer left
+unfolding decodedList
+left-meets v x frames work out n answer left e l k a = rw l (meets-demand-3 v x frames work out n k (sym e ∙ a))
 
 -- two lists that meet demand 3, for the same accepted images, frames and n, are equal
 abbrev pub Demand3Determines : Type 0

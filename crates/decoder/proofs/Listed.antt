@@ -133,6 +133,7 @@ pub record Answered (v x frames : List ℕ) (n k : ℕ) : Type 0 where
   pub images : Accepted v x
   pub short : length frames ≤ 1000
   pub some-wanted : 1 ≤ n
+  pub few-wanted : n ≤ 8
   pub counted : length (hits v (graphOf x) frames n) ≡ k
 
 pub answered : (v x frames work out : List ℕ) (n k : ℕ) → decodeAnswer v x frames n work out ≡ value k → Answered v x frames n k
@@ -143,10 +144,12 @@ answered v x frames work out n k e =
     let p = none-parts (firstRows v x work ++ frameRows v frames) own (u .0) in
     let q = none-parts (firstRows v x work) (frameRows v frames) (p .0) in
     let long = or-none (badFrameCount (length frames)) (any (λ s. leb (symbolCount v) s) frames) (none-says (frameRows v frames) (q .1) .0) .0 in
+    let wanted = bounds 1 8 n (not-false _ (none-says own (p .1) .0)) in
     record {
       images = none-parts (spaceRows work) (imageRows v x) (q .0) .1;
       short = bounds 1 1000 (length frames) (not-false _ long) .1;
-      some-wanted = bounds 1 8 n (not-false _ (none-says own (p .1) .0)) .0;
+      some-wanted = wanted .0;
+      few-wanted = wanted .1;
       counted = u .1;
     }
 

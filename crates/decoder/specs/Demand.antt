@@ -7,7 +7,7 @@ use mathlib.Core.List.{List, [], List·Memᴰ}
 use lib.IntN.{ℤ, pos}
 use lib.Signed.{_≤ℤ_}
 use lib.ListN.{length, getD, take}
-use Rattle.call.specs.Table.{value}
+use Rattle.call.specs.Table.{Answer, value}
 use Rattle.voice.specs.Voice.{letterCount}
 use Rattle.graph.specs.Graph.{Graph, graphOf, wordCount}
 use Rattle.graph.specs.Words.{spelled, LexiconWord, wordOfCode}
@@ -95,6 +95,10 @@ module _ (v : List ℕ) (g : Graph) (frames : List ℕ) where
 -- the list is what decoding leaves: from the output's start, as many hits as it returns
 unfoldable pub decodedList : List ℕ → List ℕ → List ℕ → ℕ → List ℕ → List ℕ → ℕ → List Hit
 decodedList v x frames n work out k = hitsRead (decodeOut v x frames n work out) k
+
+-- the same of any answer and output bytes: the contract of the call itself says it so
+abbrev pub MeetsDemand3 : List ℕ → List ℕ → List ℕ → ℕ → Answer ℕ → List ℕ → Type 0
+MeetsDemand3 v x frames n answer out = (k : ℕ) → answer ≡ value k → Demand3 v (graphOf x) frames n (hitsRead out k)
 
 -- What is to be shown of the call, wherever no number of the table applies to it: demand 3, and that the list is the beginning of the row
 abbrev pub DecodingMeetsDemand3 : Type 0

@@ -1,8 +1,8 @@
-// Decoding: the token store in bytes, the turns of a frame, and the call that lists the hits. The call stays inside the crate until its tests are
-// there (Base 4).
+// Decoding: the token store in bytes, the turns of a frame, and the call that lists the hits.
 ghost use mathlib.Core.Path.{_≡_};
 ghost use Rattle.call.specs.Table.{answerOf};
 ghost use Rattle.decoder.specs.Decoding.{decodeAnswer, decodeOut, decodeWork};
+ghost use Rattle.decoder.specs.Demand.{MeetsDemand3};
 use crate::ends::best_words;
 use crate::hits::put_hits;
 use crate::judge::judge_call;
@@ -23,7 +23,7 @@ mod tokens;
 mod turns;
 
 // Writes the hits, at most n, and answers how many.
-pub(crate) fn decode(
+pub fn decode(
     voice: &[u8],
     lexicon: &[u8],
     frames: &[u8],
@@ -34,6 +34,7 @@ pub(crate) fn decode(
     ensures { λ r. ⌜ answerOf r ≡ decodeAnswer (now (voice .entry)) (now (lexicon .entry)) (now (frames .entry)) n (now (work .entry)) (now (out .entry)) ⌝ }
     ensures { λ _. ⌜ now (work .exit) ≡ decodeWork (now (voice .entry)) (now (lexicon .entry)) (now (frames .entry)) n (now (work .entry)) ⌝ }
     ensures { λ _. ⌜ now (out .exit) ≡ decodeOut (now (voice .entry)) (now (lexicon .entry)) (now (frames .entry)) n (now (work .entry)) (now (out .entry)) ⌝ }
+    ensures { λ r. ⌜ MeetsDemand3 (now (voice .entry)) (now (lexicon .entry)) (now (frames .entry)) n (answerOf r) (now (out .exit)) ⌝ }
 {
     let mut lists = [0u16; 402];
     let mut counts = [0u32; 402];

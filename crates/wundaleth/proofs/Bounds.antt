@@ -6,7 +6,7 @@ use mathlib.Core.List.{List}
 use native.Mathlib.Nat.{mul-le-mul}
 use native.Mathlib.Decide.{decLe}
 use native.Mathlib.Omega.{arith}
-use lib.ListN.{length}
+use lib.ListN.{length, length-take}
 use borrow.Author.Tests.{ltb-false, leb-false}
 use Rattle.endian.specs.Lists.{isNone}
 use Rattle.call.specs.Limits.{mostWords, badCode}
@@ -24,6 +24,8 @@ use Rattle.codes.specs.Lookup.{wordToCodeRows, wordToCodeAnswer, codeToWordRows
 use Rattle.codes.proofs.Theorems.{code-theorems}
 use Rattle.codes.proofs.Words.{sound-images, word-short}
 use Rattle.codes.proofs.Sizes.{listing-size, arcs-most}
+use Rattle.decoder.specs.Decoding.{hits, row, decodeAnswer}
+use Rattle.decoder.proofs.Listed.{answered}
 use Rattle.packing.specs.Packing.{packedSize, packAnswer, unpackAnswer}
 use Rattle.packing.proofs.Laws.Width.{width-limit}
 use Rattle.packing.proofs.Laws.Calls.{packs, unpacks}
@@ -95,6 +97,15 @@ list-small v x work out = record {
       let p = value-passed (listRows v x work out) (length (listing v (graphOf x))) n e in
       let h = images-accepted v x work (none-parts (firstRows v x work) _ (p .0) .0) in
       omega (arith, p .1, words-limit v x h, listing-limit v x h);
+}
+
+-- at most n hits, and n is at most 8
+pub decode-small : (v x frames : List ℕ) (n : ℕ) (work out : List ℕ) → Small (decodeAnswer v x frames n work out)
+unfolding hits
+decode-small v x frames n work out = record {
+  below = λ k e.
+      let a = answered v x frames work out n k e in
+      omega (arith, a .counted, a .few-wanted, length-take n (row v (graphOf x) frames));
 }
 
 -- ---- packed codes: at most 8, of at most 20 bits each

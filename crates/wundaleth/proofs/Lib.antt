@@ -1,2 +1,3 @@
 pub mod Negative
 pub mod Bounds
+pub mod Signed

@@ -1,8 +1,14 @@
 // The C interface (include/wundaleth.h): a slice is a pointer and a length, and a call answers its value, or a refusal's number made negative.
+ghost use Prim.Native.Nat.{ℕ};
 ghost use mathlib.Core.Path.{_≡_};
+ghost use lib.IntN.{pos};
 ghost use Rattle.call.specs.Table.{answerOf, signedAnswer};
+ghost use Rattle.graph.specs.Graph.{graphOf};
 ghost use Rattle.graph.specs.Checking.{checkAnswer, checkWork};
 ghost use Rattle.codes.specs.Lookup.{wordToCodeAnswer, wordToCodeWork, codeToWordAnswer, codeToWordWork, codeToWordOut, listAnswer, listOut, listWork};
+ghost use Rattle.ranking.specs.Hits.{hitsRead};
+ghost use Rattle.decoder.specs.Decoding.{decodeAnswer, decodeOut, decodeWork};
+ghost use Rattle.decoder.specs.Demand.{Demand3};
 ghost use Rattle.packing.specs.Packing.{packAnswer, packOut, unpackAnswer, unpackOut};
 ghost use Rattle.wundaleth.specs.Answers.{Small};
 use call::Answer;
@@ -10,6 +16,7 @@ use checking::check;
 use codes::code_to_word;
 use codes::list;
 use codes::word_to_code;
+use decoding::decode;
 use packing::pack;
 use packing::unpack;
 
@@ -79,6 +86,24 @@ pub extern "C" fn wundaleth_list(
     ensures { λ _. ⌜ now (out .exit) ≡ listOut (now (voice .entry)) (now (lexicon .entry)) (now (work .entry)) (now (out .entry)) ⌝ }
 {
     signed_of(list(voice, lexicon, work, out))
+}
+
+// Writes the hits of the frames, at most n, best first, and answers how many.
+#[no_mangle]
+pub extern "C" fn wundaleth_decode(
+    voice: &[u8],
+    lexicon: &[u8],
+    frames: &[u8],
+    n: u32,
+    work: &mut [u8],
+    out: &mut [u8],
+) -> i32
+    ensures { λ r. ⌜ r ≡ signedAnswer (decodeAnswer (now (voice .entry)) (now (lexicon .entry)) (now (frames .entry)) n (now (work .entry)) (now (out .entry))) ⌝ }
+    ensures { λ _. ⌜ now (work .exit) ≡ decodeWork (now (voice .entry)) (now (lexicon .entry)) (now (frames .entry)) n (now (work .entry)) ⌝ }
+    ensures { λ _. ⌜ now (out .exit) ≡ decodeOut (now (voice .entry)) (now (lexicon .entry)) (now (frames .entry)) n (now (work .entry)) (now (out .entry)) ⌝ }
+    ensures { λ r. ⌜ ((k : ℕ) → r ≡ pos k → Demand3 (now (voice .entry)) (graphOf (now (lexicon .entry))) (now (frames .entry)) n (hitsRead (now (out .exit)) k)) ⌝ }
+{
+    signed_of(decode(voice, lexicon, frames, n, work, out))
 }
 
 // Packs codes and answers the bytes written.

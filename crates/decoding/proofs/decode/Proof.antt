@@ -11,6 +11,7 @@ use Rattle.call.specs.Buffers.{cleared}
 use Rattle.call.proofs.Buffers.{cleared-length}
 use Rattle.graph.proofs.Accepted.{accepted}
 use Rattle.ranking.specs.Hits.{Hit, hitBytes}
+use Rattle.decoder.proofs.Demanded.{left-meets}
 use Rattle.decoding.proofs.Calling.{Passed, passed, decode-refused, out-refused, call-refused, Clear, call-clear, call-answer, call-out, call-called, says-hits, listable, part-empty, part-cleared}
 use Rattle.decoding.proofs.decode.Statement.{statement}
 use Rattle.decoding.proofs.decode.Tie as tie
@@ -20,7 +21,8 @@ returns c =
     let o = c .before .before .before .before in
     let e = ap answerOf (c .enum-told2 .given .1) in
     let q = decode-refused _ _ _ _ _ _ (sym (o .«open» .ensures .0) ∙ e) in
-    (e ∙ sym q, (o .«open» .ensures .1 .0, sym (out-refused _ _ _ _ _ _ q)))
+    let u = sym (out-refused _ _ _ _ _ _ q) in
+    (e ∙ sym q, (o .«open» .ensures .1 .0, (u, left-meets _ _ _ _ _ _ _ _ (e ∙ sym q) u)))
 
 -- checking has answered W
 passes : (c : tie.After-enum-told) →
@@ -37,7 +39,8 @@ returns-2 c =
     let o = k .before .before .before .before in
     let e = ap answerOf (c .enum-told4 .given .1) in
     let q = call-refused _ _ _ _ _ _ (passes k) (sym (j .judge-call .ensures) ∙ e) in
-    (e ∙ sym q, (o .«open» .ensures .1 .0, sym (out-refused _ _ _ _ _ _ q)))
+    let u = sym (out-refused _ _ _ _ _ _ q) in
+    (e ∙ sym q, (o .«open» .ensures .1 .0, (u, left-meets _ _ _ _ _ _ _ _ (e ∙ sym q) u)))
 
 -- no row applies
 clear-call : (c : tie.After-enum-told3) →
@@ -91,13 +94,10 @@ returns-3 c =
     let t = b .before .before .before .before in
     let k = t .before .before .before .before in
     let a = k .before .before .before .before .before .before .before .before .before .before .before .before .before .args in
-    let e = says-hits (a .voice .now) (a .lexicon .now) (a .work .now) (a .frames .now) (a .n) (a .out .now) (clear-call t) (b .best-words .ensures .0) (b .best-words .ensures .1) in (
-      ap value (p .put-hits .ensures .1 ∙ ap length e) ∙ sym (call-answer _ _ _ _ _ _ (passes k) (clear-call t)),
-      (
-        wiped (p .before .before .before .before .before),
-        p .put-hits .ensures .0 ∙ ap (λ (l : List Hit). hitBytes l ++ drop (length (hitBytes l)) (a .out .now)) e ∙ call-out _ _ _ _ _ _ (passes k) (clear-call t),
-      ),
-    )
+    let e = says-hits (a .voice .now) (a .lexicon .now) (a .work .now) (a .frames .now) (a .n) (a .out .now) (clear-call t) (b .best-words .ensures .0) (b .best-words .ensures .1) in
+    let answer = ap value (p .put-hits .ensures .1 ∙ ap length e) ∙ sym (call-answer _ _ _ _ _ _ (passes k) (clear-call t)) in
+    let out = p .put-hits .ensures .0 ∙ ap (λ (l : List Hit). hitBytes l ++ drop (length (hitBytes l)) (a .out .now)) e ∙ call-out _ _ _ _ _ _ (passes k) (clear-call t) in
+    (answer, (wiped (p .before .before .before .before .before), (out, left-meets _ _ _ _ _ _ _ _ answer out)))
 
 same-length-4 : tie.Need-same-length-4
 same-length-4 c = ap length (wiped (c .before .before .before .before .before .before .before)) ∙ cleared-length _
