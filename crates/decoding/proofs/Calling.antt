@@ -1,12 +1,13 @@
 -- The call: it answers as checking does where that refuses, and else by its own rows; then the list is written. Assumes nothing.
-use Prim.Native.Nat.{ℕ, _+_, _-_, _*_, _≤_}
-use mathlib.Core.Path.{_≡_, sym, ap, _∙_}
+use Prim.Native.Nat.{ℕ, zero, suc, _*_, _≤_}
+use mathlib.Core.Path.{_≡_, refl, sym, ap, _∙_}
 use mathlib.Core.Bool.{true}
 use mathlib.Core.List.{List, [], _∷_, _++_, append-assoc, List·Memᴰ}
 use native.Mathlib.Omega.{arith}
+use native.Mathlib.Nat.{mul-le-mul}
 use lib.Dec.{ltb}
-use lib.ListN.{length, take, drop, replicate, length-append, length-drop, length-replicate, length-take}
-use lib.Seq.{drop-at, drop-drop, drop-append-add, take-at}
+use lib.ListN.{length, take, drop, replicate, length-take, take-append-drop}
+use lib.Seq.{drop-at, take-at}
 use borrow.Author.Tests.{ltb-false, not-false}
 use Rattle.endian.proofs.Ranges.{bounds}
 use Rattle.call.specs.declared.Refusal.{Refusal}
@@ -15,18 +16,22 @@ use Rattle.call.specs.Table.{value, refused, Row, on, noneApplies, unless}
 use Rattle.call.specs.Limits.{workSpace, badCount}
 use Rattle.call.specs.Buffers.{spaceRows, zeroed, cleared, written}
 use Rattle.call.proofs.Table.{none-parts, none-says, unless-past, unless-value, unless-first, value-passed, refused-first}
-use Rattle.call.proofs.Buffers.{cleared-long, cleared-length, zeroed-same, written-refused}
+use Rattle.call.proofs.Buffers.{cleared-long, written-refused}
+use Rattle.lexicon.specs.Lexicon.{sinkOf}
 use Rattle.graph.specs.Graph.{graphOf, wordCount}
+use Rattle.graph.specs.Conditions.{placeCount}
 use Rattle.graph.specs.Checking.{Accepted, imageRows, firstRows, checkAnswer}
-use Rattle.checking.specs.Tables.{Opened, filled}
+use Rattle.checking.specs.Tables.{TableOf, Opened, filled}
 use Rattle.ranking.specs.Hits.{Hit, hitBytes}
 use Rattle.decoder.specs.Decoding.{AcceptedFrames, frameRows, row, hits, decodeRows, decodeAnswer, decodeOut}
 use Rattle.decoding.specs.Held.{held, Storable}
 use Rattle.decoding.specs.Listing.{hitsOf, Listable}
 use Rattle.decoding.specs.Calling.{callRows}
-use Rattle.decoding.specs.Running.{Empty, Called}
+use Rattle.decoding.specs.Places.{firstPlace}
+use Rattle.decoding.specs.Running.{Empty, Run}
 use Rattle.decoding.proofs.Held.{length-held}
 use Rattle.decoding.proofs.Listing.{hits-held, held-small}
+use Rattle.decoding.proofs.Storing.{places-few}
 use Rattle.decoding.proofs.Whole.{zeros-empty}
 
 -- rows after the one that decides change nothing
@@ -41,30 +46,27 @@ refused-with rows a b r h = let f = refused-first rows a r h in rw (f .split) (u
 
 -- ---- the work space
 
-after-part : (m n : ℕ) (w ys : List ℕ) → m ≤ n → n ≤ length w → length ys ≡ m → drop n (ys ++ drop m (zeroed n w)) ≡ drop n w
-unfolding zeroed
-after-part m n w ys h k e =
-    let a : length ys + (n - m) ≡ n = omega arith in
-    let b : m + (n - m) ≡ n = omega arith in
-    ap (λ (j : ℕ). drop j (ys ++ drop m (replicate n 0 ++ drop n w))) (sym a)
-    ∙ drop-append-add ys (drop m (replicate n 0 ++ drop n w)) (n - m)
-    ∙ drop-drop (n - m) m (replicate n 0 ++ drop n w)
-    ∙ ap (λ (j : ℕ). drop j (replicate n 0 ++ drop n w)) b
-    ∙ drop-at (replicate n 0) (drop n w) n (length-replicate n 0)
+-- the first m of a cleared work space are zero
+take-zeros : (m n : ℕ) (l : List ℕ) → m ≤ n → take m (replicate n 0 ++ l) ≡ replicate m 0
+take-zeros zero n l h = refl
+take-zeros (suc m) zero l h = absurd (omega arith)
+take-zeros (suc m) (suc n) l h = ap (λ (z : List ℕ). 0 ∷ z) (take-zeros m n l (omega arith))
 
-pub part-cleared : (m : ℕ) (w ys : List ℕ) → m ≤ 64000 → 64000 ≤ length w → length ys ≡ m → cleared (ys ++ drop m (cleared w)) ≡ cleared w
-part-cleared m w ys h k e =
-    let long : length (ys ++ drop m (cleared w)) ≡ length w = length-append ys (drop m (cleared w)) ∙ rw (length-drop, cleared-length w) (omega arith) in
-    let rest : drop 64000 (ys ++ drop m (cleared w)) ≡ drop 64000 w = rw (cleared-long w k) (after-part m 64000 w ys h k e) in
-    cleared-long (ys ++ drop m (cleared w)) (omega arith) ∙ zeroed-same 64000 _ w rest ∙ sym (cleared-long w k)
-
-front-zeros : (m : ℕ) (w : List ℕ) → take m (zeroed m w) ≡ replicate m 0
+front-zeros : (m n : ℕ) (w : List ℕ) → m ≤ n → take m (zeroed n w) ≡ replicate m 0
 unfolding zeroed
-front-zeros m w = take-at (replicate m 0) (drop m w) m (length-replicate m 0)
+front-zeros m n w h = take-zeros m n (drop n w) h
 
 -- the part that is lent is empty
-pub part-empty : (b w : List ℕ) → b ≡ cleared w → 64000 ≤ length w → Empty (take 64000 b)
-part-empty b w e h j = rw (e, cleared-long w h, front-zeros 64000 w) (zeros-empty 64000 j)
+pub part-empty : (m : ℕ) (b w : List ℕ) → b ≡ cleared w → m ≤ 64000 → 64000 ≤ length w → Empty (take m b)
+part-empty m b w e k h j = rw (e, cleared-long w h, front-zeros m 64000 w k) (zeros-empty m j)
+
+-- zero again, it leaves the work space cleared
+pub part-zeroed : (m : ℕ) (b w ys zs : List ℕ) → b ≡ cleared w → m ≤ 64000 → 64000 ≤ length w → length ys ≡ m
+    → zs ≡ replicate (length (take m (ys ++ drop m b))) 0 → zs ++ drop m (ys ++ drop m b) ≡ cleared w
+part-zeroed m b w ys zs e k h long z =
+    let front : take m b ≡ replicate m 0 = rw (e, cleared-long w h) (front-zeros m 64000 w k) in
+    let zeros : zs ≡ take m b = z ∙ ap (λ l. replicate {A = ℕ} (length l) 0) (take-at ys (drop m b) m long) ∙ ap (λ (i : ℕ). replicate {A = ℕ} i 0) long ∙ sym front in
+    ap (λ l. zs ++ l) (drop-at ys (drop m b) m long) ∙ ap (λ l. l ++ drop m b) zeros ∙ take-append-drop m b ∙ e
 
 -- ---- after checking
 
@@ -124,19 +126,18 @@ module _ (v x work : List ℕ) where
     unfolding decodeOut written
     call-out p c = rw (call-answer p c)
 
-    pub call-called : {W : ℕ} {lists counts b : List ℕ} → Passed v x work → Clear → Opened (value W) x lists counts → Empty b → length b ≡ 64000
-        → Called v x frames n lists counts b
+    -- a store of n tokens a place
+    pub call-run : {W : ℕ} {lists counts firsts b : List ℕ} → Passed v x work → Clear → Opened (value W) x lists counts
+        → TableOf (sinkOf x) (firstPlace v (graphOf x)) firsts → length b ≡ 8 * (n * placeCount v (graphOf x)) → Run v x frames n lists counts firsts b
     unfolding filled
-    call-called p c o e l = record {
-      accepted = p .images;
+    call-run p c o t l = record {
+      ready = record { accepted = p .images; lists-of = o .listed; counts-of = o .counted; firsts-of = t };
+      roomy = record { some = c .some; few = c .few; room = omega (arith, l) };
       heard = c .heard;
-      some = c .some;
-      few = c .few;
-      lists-of = o .listed;
-      counts-of = o .counted;
-      empty = e;
-      long = l;
     }
+
+    pub store-few : Passed v x work → Clear → 8 * (n * placeCount v (graphOf x)) ≤ 64000
+    store-few p c = let room : n * placeCount v (graphOf x) ≤ 8 * 1000 = mul-le-mul {n₂ = 8} {m₂ = 1000} (c .few) (places-few v x (p .images)) in omega (arith, room)
 
     few-hits : length (hits v (graphOf x) frames n) ≤ n
     unfolding hits

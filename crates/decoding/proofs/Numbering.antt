@@ -127,6 +127,8 @@ place-read {v} {x} {node} {place} {firsts} i p h = record {
     next (suc m) l e = rw e (sym (place-next v (graphOf x) m))
 
 pub places-done : {v x : List ℕ} {node place : ℕ} {firsts : List ℕ} → PlacesFound v x node place firsts → nodeCount x < node
-    → TableOf (sinkOf x) (firstPlace v (graphOf x)) firsts
-unfolding sinkOf
-places-done {x} {node} p h = let e : node ≡ suc (nodeCount x) = omega (arith, p .last) in rw e at (p .table)
+    → TableOf (sinkOf x) (firstPlace v (graphOf x)) firsts × (place ≡ placeCount v (graphOf x))
+unfolding sinkOf sink
+places-done {v} {x} {node} p h =
+    let e : node ≡ suc (nodeCount x) = omega (arith, p .last) in
+    (rw e at (p .table), p .here ∙ ap (firstPlace v (graphOf x)) e ∙ places-all v (graphOf x))

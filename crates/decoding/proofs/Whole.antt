@@ -1,17 +1,14 @@
 -- The whole run: from the store that is empty to the list of hits. The ends that are left give what all give, and that is the list of hits by the
 -- theorem of token passing. Assumes nothing.
-use Prim.Native.Nat.{ℕ, zero, suc, _+_, _-_, _*_, _≤_}
+use Prim.Native.Nat.{ℕ, zero, suc, _+_, _-_, _≤_}
 use mathlib.Core.Path.{_≡_, refl, sym, ap, _∙_}
 use mathlib.Core.Logic.{⊎-elim}
 use mathlib.Core.List.{List, [], _∷_, _++_, flatMap, append-nil, append-assoc, List·Memᴰ, List·Memᴰ·not-nil as not-nil, List·Memᴰ·append-cases as append-cases}
 use native.Mathlib.Omega.{arith}
-use native.Mathlib.Nat.{mul-le-mul}
 use lib.ListN.{length, getD, replicate, length-take}
 use Rattle.endian.specs.Bytes.{u16, u32}
-use Rattle.lexicon.specs.Lexicon.{nodeCount, sinkOf}
+use Rattle.lexicon.specs.Lexicon.{nodeCount}
 use Rattle.graph.specs.Graph.{graphOf}
-use Rattle.graph.specs.Conditions.{placeCount}
-use Rattle.checking.specs.Tables.{TableOf}
 use Rattle.ranking.specs.Hits.{Hit}
 use Rattle.decoder.specs.Decoding.{row, hits}
 use Rattle.passing.specs.Tokens.{bestTokens, downFrom, tokens, ending, arrived, decoded}
@@ -21,13 +18,12 @@ use Rattle.passing.proofs.Bounds.{token-bounded}
 use Rattle.passing.proofs.Decoded.{decoded-hits}
 use Rattle.decoding.specs.Slots.{tokenAt, slots, Room}
 use Rattle.decoding.specs.Held.{held, Storable}
-use Rattle.decoding.specs.Places.{firstPlace}
-use Rattle.decoding.specs.Stored.{Ready, Bound, Place}
-use Rattle.decoding.specs.Running.{Empty, Run, StoredAt, Ending, Ended, Called}
+use Rattle.decoding.specs.Stored.{Bound, Place}
+use Rattle.decoding.specs.Running.{Empty, Run, StoredAt, Ending, Ended}
 use Rattle.decoding.proofs.Held.{held-none}
 use Rattle.decoding.proofs.Listing.{held-longer}
 use Rattle.decoding.proofs.Running.{empty-slots, none-best, frame-count, sound-run}
-use Rattle.decoding.proofs.Closing.{few-places, end-storable}
+use Rattle.decoding.proofs.Closing.{end-storable}
 
 -- ---- the start
 
@@ -39,16 +35,6 @@ getD-zeros (suc m) (suc i) = getD-zeros m i
 pub zeros-empty : (m : ℕ) → Empty (replicate m 0)
 unfolding tokenAt u32 u16
 zeros-empty m j = simp (getD-zeros m)
-
-module _ {v x frames : List ℕ} {n : ℕ} {lists counts b : List ℕ} (c : Called v x frames n lists counts b) {firsts : List ℕ}
-    (t : TableOf (sinkOf x) (firstPlace v (graphOf x)) firsts) where
-  pub ready-of : Ready v x lists counts firsts
-  ready-of = record { accepted = c .accepted; lists-of = c .lists-of; counts-of = c .counts-of; firsts-of = t }
-
-  pub run-of : Run v x frames n lists counts firsts b
-  run-of =
-      let room : n * placeCount v (graphOf x) ≤ 8 * 1000 = mul-le-mul {n₂ = 8} {m₂ = 1000} (c .few) (few-places ready-of) in
-      record { ready = ready-of; roomy = record { some = c .some; few = c .few; room = omega (arith, c .long, room) }; heard = c .heard }
 
 -- ---- the ends
 

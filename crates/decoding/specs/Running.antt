@@ -6,9 +6,8 @@ use mathlib.Core.Bool.{true, false}
 use mathlib.Core.List.{List, _++_, List·Memᴰ}
 use lib.ListN.{length}
 use Rattle.endian.specs.Lists.{has}
-use Rattle.lexicon.specs.Lexicon.{nodeCount, sinkOf, arcsAt}
+use Rattle.lexicon.specs.Lexicon.{nodeCount, sinkOf}
 use Rattle.graph.specs.Graph.{Graph, graphOf, sink, pathCount, increment}
-use Rattle.graph.specs.Checking.{Accepted}
 use Rattle.checking.specs.Tables.{TableOf, Listed}
 use Rattle.ranking.specs.Hits.{Hit}
 use Rattle.decoder.specs.Decoding.{AcceptedFrames}
@@ -61,16 +60,3 @@ pub record Ending (v x : List ℕ) (n : ℕ) (lists counts firsts : List ℕ) (w
 -- the list after it
 pub record Ended {v x : List ℕ} {n : ℕ} {lists counts firsts : List ℕ} {w : ℕ} {b list : List ℕ} (e : Ending v x n lists counts firsts w b list) (list′ : List ℕ) : Type 0 where
   pub holds : slots n 0 list′ ≡ held n (bestTokens n (e .s ++ ending v (graphOf x) (e .P) w))
-
--- ---- the whole
-
--- what decoding has where no row applies: an empty store of 64,000 bytes
-pub record Called (v x frames : List ℕ) (n : ℕ) (lists counts b : List ℕ) : Type 0 where
-  pub accepted : Accepted v x
-  pub heard : AcceptedFrames v frames
-  pub some : 1 ≤ n
-  pub few : n ≤ 8
-  pub lists-of : TableOf (sinkOf x) (arcsAt x) lists
-  pub counts-of : TableOf (suc (sinkOf x)) (pathCount (graphOf x)) counts
-  pub empty : Empty b
-  pub long : length b ≡ 64000

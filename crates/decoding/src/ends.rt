@@ -7,10 +7,9 @@ ghost use Rattle.graph.specs.Graph.{graphOf};
 ghost use Rattle.ranking.specs.Hits.{Hit};
 ghost use Rattle.decoder.specs.Decoding.{hits};
 ghost use Rattle.decoding.specs.Held.{held, Storable};
-ghost use Rattle.decoding.specs.Running.{Arcs, LastArc, Ending, Ended, Called};
+ghost use Rattle.decoding.specs.Running.{Arcs, LastArc, Ending, Ended, Run, Empty};
 use crate::frames::all_frames;
 use crate::parts::copy_at;
-use crate::places::find_places;
 use crate::store::copy_place;
 use crate::store::offer;
 use endian::u16_at;
@@ -73,15 +72,15 @@ pub(crate) fn best_words(
     n: usize,
     lists: &[u16; 402],
     counts: &[u32; 402],
+    firsts: &[u16; 402],
     store: &mut [u8],
 ) -> [u64; 8]
-    requires { ⌜ Called (now voice) (now lexicon) (now frames) n (now lists) (now counts) (now store) ⌝ }
+    requires { ⌜ Run (now voice) (now lexicon) (now frames) n (now lists) (now counts) (now firsts) (now store) ⌝ }
+    requires { ⌜ Empty (now store) ⌝ }
     ensures { λ r. ⌜ r ≡ held 8 (hits (now (voice .entry)) (graphOf (now (lexicon .entry))) (now (frames .entry)) n) ⌝ }
     ensures { λ _. ⌜ ((h : Hit) → List·Memᴰ h (hits (now (voice .entry)) (graphOf (now (lexicon .entry))) (now (frames .entry)) n) → Storable h) ⌝ }
 {
-    let mut firsts = [0u16; 402];
-    find_places(voice, lexicon, &mut firsts);
-    all_frames(voice, lexicon, n, lists, counts, &firsts, frames, store);
+    all_frames(voice, lexicon, n, lists, counts, firsts, frames, store);
     let mut list = [0u8; 64];
     let mut node = u16_at(lexicon, 0) as usize;
     while 0 < node {
@@ -91,7 +90,7 @@ pub(crate) fn best_words(
             n,
             lists,
             counts,
-            &firsts,
+            firsts,
             node,
             &store[..],
             &mut list[..],

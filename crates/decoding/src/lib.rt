@@ -6,9 +6,9 @@ ghost use Rattle.decoder.specs.Demand.{MeetsDemand3};
 use crate::ends::best_words;
 use crate::hits::put_hits;
 use crate::judge::judge_call;
+use crate::places::find_places;
 use call::Answer;
-use call::WORK_SPACE;
-use call::clear;
+use call::zero;
 use checking::open;
 
 mod ends;
@@ -46,6 +46,10 @@ pub fn decode(
     let Answer::Value(_) = judged else {
         return judged;
     };
+    let mut firsts = [0u16; 402];
+    let places = find_places(voice, lexicon, &mut firsts);
+    // a store of n tokens a place; checking left the work space clear, so nothing else has to be cleared again
+    let store = 8 * (n as usize * places);
     let tokens = best_words(
         voice,
         lexicon,
@@ -53,8 +57,9 @@ pub fn decode(
         n as usize,
         &lists,
         &counts,
-        &mut work[0..WORK_SPACE],
+        &firsts,
+        &mut work[0..store],
     );
-    clear(work);
+    zero(&mut work[0..store]);
     Answer::Value(put_hits(&tokens, out))
 }

@@ -5,15 +5,17 @@ ghost use Rattle.voice.specs.Fields.{wellFormed};
 ghost use Rattle.voice.specs.Voice.{letterCount, voiceVerdict};
 ghost use Rattle.lexicon.specs.Lexicon.{sinkOf, lexiconVerdict};
 ghost use Rattle.graph.specs.Graph.{graphOf};
+ghost use Rattle.graph.specs.Conditions.{placeCount};
 ghost use Rattle.checking.specs.Tables.{TableOf};
 ghost use Rattle.decoding.specs.Places.{firstPlace};
 use endian::u16_at;
 
-// The first place of each node: the number of states of all nodes below it.
-pub(crate) fn find_places(voice: &[u8], lexicon: &[u8], firsts: &mut [u16; 402])
+// The first place of each node: the number of states of all nodes below it. Answers the number of all places.
+pub(crate) fn find_places(voice: &[u8], lexicon: &[u8], firsts: &mut [u16; 402]) -> usize
     requires { ⌜ (voiceVerdict (now voice) ≡ wellFormed) × (lexiconVerdict (letterCount (now voice)) (now lexicon) ≡ wellFormed) ⌝ }
     requires { ⌜ now firsts ≡ replicate 402 0 ⌝ }
     ensures { λ _. ⌜ TableOf (sinkOf (now (lexicon .entry))) (firstPlace (now (voice .entry)) (graphOf (now (lexicon .entry)))) (now (firsts .exit)) ⌝ }
+    ensures { λ r. ⌜ r ≡ placeCount (now (voice .entry)) (graphOf (now (lexicon .entry))) ⌝ }
 {
     let nodes = u16_at(lexicon, 0) as usize;
     let mut place: u16 = 0;
@@ -24,4 +26,5 @@ pub(crate) fn find_places(voice: &[u8], lexicon: &[u8], firsts: &mut [u16; 402])
         place += voice[2 + 2 * letter] as u16;
         node += 1;
     }
+    place as usize
 }

@@ -1,6 +1,6 @@
 -- `decode` meets its contract: it answers as checking does where that refuses, then by its own rows, and else writes the list. Assumes nothing.
-use Prim.Native.Nat.{ℕ, _≤_}
-use mathlib.Core.Path.{_≡_, sym, ap, _∙_}
+use Prim.Native.Nat.{ℕ, _-_, _*_, _≤_}
+use mathlib.Core.Path.{_≡_, refl, sym, ap, _∙_}
 use mathlib.Core.List.{List, _++_}
 use native.Mathlib.Omega.{arith}
 use borrow.Author.Needs.{needs}
@@ -9,10 +9,12 @@ use lib.Seq.{length-take-le}
 use Rattle.call.specs.Table.{answerOf, value}
 use Rattle.call.specs.Buffers.{cleared}
 use Rattle.call.proofs.Buffers.{cleared-length}
+use Rattle.graph.specs.Graph.{graphOf}
+use Rattle.graph.specs.Conditions.{placeCount}
 use Rattle.graph.proofs.Accepted.{accepted}
 use Rattle.ranking.specs.Hits.{Hit, hitBytes}
 use Rattle.decoder.proofs.Demanded.{left-meets}
-use Rattle.decoding.proofs.Calling.{Passed, passed, decode-refused, out-refused, call-refused, Clear, call-clear, call-answer, call-out, call-called, says-hits, listable, part-empty, part-cleared}
+use Rattle.decoding.proofs.Calling.{Passed, passed, decode-refused, out-refused, call-refused, Clear, call-clear, call-answer, call-out, call-run, store-few, says-hits, listable, part-empty, part-zeroed}
 use Rattle.decoding.proofs.decode.Statement.{statement}
 use Rattle.decoding.proofs.decode.Tie as tie
 
@@ -57,50 +59,118 @@ room c =
     let w = o .before .before .before .before .before .before .before .before .before .args .work .now in
     omega (arith, ap length (o .«open» .ensures .1 .0), cleared-length w, passes c .room)
 
+find-places-requires : tie.Need-find-places-requires
+find-places-requires c κs =
+    let i = accepted (passes (c .before .before .before .before .before) .images) in
+    ((i .voice, i .lexicon), refl)
+
+-- ---- the store
+
+abbrev told : tie.After-find-places → tie.After-enum-told3
+told c = c .before .before
+
+abbrev checked : tie.After-find-places → tie.After-enum-told
+checked c = told c .before .before .before .before
+
+abbrev start : tie.After-find-places → tie.Start
+start c = checked c .before .before .before .before .before .before .before .before .before .before .before .before .before
+
+counted : (c : tie.After-find-places) → c .find-places .result ≡ placeCount (start c .args .voice .now) (graphOf (start c .args .lexicon .now))
+counted c = c .find-places .ensures .1
+
+-- it lies in the work space
+inside : (c : tie.After-find-places) → 8 * (start c .args .n * c .find-places .result) ≤ 64000
+inside c =
+    let e = ap (λ (p : ℕ). start c .args .n * p) (counted c) in
+    omega (arith, e, store-few _ _ _ _ _ _ (passes (checked c)) (clear-call (told c)))
+
+-- its length, as the part is lent
+abbrev size : tie.After-find-places → ℕ
+size c = 8 * (start c .args .n * c .find-places .result) - 0
+
+small : (c : tie.After-find-places) → size c ≤ 64000
+small c = omega (arith, inside c)
+
+fits : (c : tie.After-find-places) → size c ≤ length (checked c .before .before .before .before .«open» .last .1 .1 .0)
+fits c = omega (arith, inside c, room (checked c))
+
+abbrev found : tie.After-firsts2 → tie.After-find-places
+found c = c .before .before .before
+
 best-words-requires : tie.Need-best-words-requires
 best-words-requires c κs =
-    let t = c .before .before .before in
+    let f = c .before .before .before .before in
+    let t = f .before .before in
     let k = t .before .before .before .before in
     let o = k .before .before .before .before in
     let a = o .before .before .before .before .before .before .before .before .before .args in
-    call-called _ _ _ _ _ _ (passes k) (clear-call t) (rw (k .enum-told .given .1) at (o .«open» .ensures .1 .1))
-    (part-empty (o .«open» .last .1 .1 .0) (a .work .now) (o .«open» .ensures .1 .0) (passes k .room)) (length-take-le 64000 (o .«open» .last .1 .1 .0) (room k))
+    let part = o .«open» .last .1 .1 .0 in
+    let long = length-take-le (size f) part (fits f) in (
+      call-run _ _ _ _ _ _ (passes k) (clear-call t) (rw (k .enum-told .given .1) at (o .«open» .ensures .1 .1)) (f .find-places .ensures .0)
+          (long ∙ ap (λ (p : ℕ). 8 * (a .n * p) - 0) (counted f) ∙ omega arith),
+      part-empty (size f) part (a .work .now) (o .«open» .ensures .1 .0) (small f) (passes k .room),
+    )
+
+-- ---- after it
+
+abbrev listed : tie.After-zero → tie.After-best-words
+listed c = c .before .before .before .before
 
 put-hits-requires : tie.Need-put-hits-requires
 put-hits-requires c κs =
-    let b = c .before .before .before .before .before .before .before .before in
-    let t = b .before .before .before .before in
-    listable _ _ _ _ _ _ (clear-call t) (b .best-words .ensures .0) (b .best-words .ensures .1)
+    let b = listed (c .before .before .before .before) in
+    listable _ _ _ _ _ _ (clear-call (told (found (b .before .before)))) (b .best-words .ensures .0) (b .best-words .ensures .1)
 
 -- the work space is left cleared
-wiped : (c : tie.After-clear) →
-    let k = c .before .before .before .before .before .before .before .before .before .before .before .before in
-    let a = k .before .before .before .before .before .before .before .before .before .before .before .before .before .args in
-    c .clear .last .0 ≡ cleared (a .work .now)
+wiped : (c : tie.After-zero) →
+    let b = listed c in
+    let f = found (b .before .before) in
+    let o = checked f .before .before .before .before in
+    c .zero .last .0 ++ drop (size f) (b .best-words .last .1 .1 .1 .1 .1 .1 .1 .0 ++ drop (size f) (o .«open» .last .1 .1 .0)) ≡ cleared (start f .args .work .now)
 wiped c =
-    let b = c .before .before .before .before in
-    let k = b .before .before .before .before .before .before .before .before in
-    let o = k .before .before .before .before in
-    let a = o .before .before .before .before .before .before .before .before .before .args in
-    let part = b .best-words .last .1 .1 .1 .1 .1 .1 .0 in
-    c .clear .ensures
-    ∙ ap (λ (w : List ℕ). cleared (part ++ drop 64000 w)) (o .«open» .ensures .1 .0)
-    ∙ part-cleared 64000 (a .work .now) part (omega arith) (passes k .room) (b .best-words .kept .1 .1 .1 .1 .1 .1 .0 ∙ length-take-le 64000 (o .«open» .last .1 .1 .0) (room k))
+    let b = listed c in
+    let f = found (b .before .before) in
+    let o = checked f .before .before .before .before in
+    part-zeroed (size f) (o .«open» .last .1 .1 .0) (start f .args .work .now) (b .best-words .last .1 .1 .1 .1 .1 .1 .1 .0) (c .zero .last .0) (o .«open» .ensures .1 .0) (small f)
+    (passes (checked f) .room) (b .best-words .kept .1 .1 .1 .1 .1 .1 .1 .0 ∙ length-take-le (size f) (o .«open» .last .1 .1 .0) (fits f)) (c .zero .ensures)
 
 returns-3 : tie.Need-returns-3
 returns-3 c =
     let p = c .before .before in
-    let b = p .before .before .before .before .before .before .before .before .before in
-    let t = b .before .before .before .before in
-    let k = t .before .before .before .before in
-    let a = k .before .before .before .before .before .before .before .before .before .before .before .before .before .args in
+    let z = p .before .before .before .before .before in
+    let b = listed z in
+    let f = found (b .before .before) in
+    let t = told f in
+    let k = checked f in
+    let a = start f .args in
     let e = says-hits (a .voice .now) (a .lexicon .now) (a .work .now) (a .frames .now) (a .n) (a .out .now) (clear-call t) (b .best-words .ensures .0) (b .best-words .ensures .1) in
     let answer = ap value (p .put-hits .ensures .1 ∙ ap length e) ∙ sym (call-answer _ _ _ _ _ _ (passes k) (clear-call t)) in
     let out = p .put-hits .ensures .0 ∙ ap (λ (l : List Hit). hitBytes l ++ drop (length (hitBytes l)) (a .out .now)) e ∙ call-out _ _ _ _ _ _ (passes k) (clear-call t) in
-    (answer, (wiped (p .before .before .before .before .before), (out, left-meets _ _ _ _ _ _ _ _ answer out)))
+    (answer, (wiped z, (out, left-meets _ _ _ _ _ _ _ _ answer out)))
+
+mul-store : tie.Need-mul-store
+mul-store c = let h = inside c in search needs
+
+mul-store-2 : tie.Need-mul-store-2
+mul-store-2 c = let h = inside c in search needs
+
+part-best-words-end : tie.Need-part-best-words-end
+part-best-words-end c = let h = fits (found c) in search needs
+
+part-zero-end : tie.Need-part-zero-end
+part-zero-end c = let h = fits (found (c .before .before .before .before)) in search needs
 
 same-length-4 : tie.Need-same-length-4
 same-length-4 c = ap length (wiped (c .before .before .before .before .before .before .before)) ∙ cleared-length _
+
+sub-zero : tie.Need-sub-zero
+sub-zero c = search needs
+
+part-zero-start : tie.Need-part-zero-start
+part-zero-start c = search needs
+
+zero-requires : tie.Need-zero-requires
+zero-requires c κs = search needs
 
 open-requires : tie.Need-open-requires
 open-requires c κs = search needs
@@ -135,12 +205,6 @@ sub-best-words c = search needs
 part-best-words-start : tie.Need-part-best-words-start
 part-best-words-start c = search needs
 
-part-best-words-end : tie.Need-part-best-words-end
-part-best-words-end c = let h = room (c .before .before .before .before .before .before) in search needs
-
-clear-requires : tie.Need-clear-requires
-clear-requires c κs = search needs
-
 same-length-5 : tie.Need-same-length-5
 same-length-5 c = search needs
 
@@ -159,11 +223,17 @@ decode-spec =
     same-length-2
     same-length-3
     returns-2
+    find-places-requires
+    mul-store
+    mul-store-2
     sub-best-words
     part-best-words-start
     part-best-words-end
     best-words-requires
-    clear-requires
+    sub-zero
+    part-zero-start
+    part-zero-end
+    zero-requires
     put-hits-requires
     same-length-4
     same-length-5

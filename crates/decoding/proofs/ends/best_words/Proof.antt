@@ -1,42 +1,29 @@
 -- `ends::best_words` meets its contract: after all frames, the ends that are left give what all give. The measure is the nodes left.
 -- Assumes nothing.
-use mathlib.Core.Path.{refl}
 use Prim.Native.Nat.{_-_}
 use native.Mathlib.Omega.{arith}
 use borrow.Author.Needs.{needs}
 use Rattle.lexicon.specs.Lexicon.{nodeCount}
-use Rattle.graph.proofs.Accepted.{accepted}
 use Rattle.decoding.specs.Running.{Run}
 use Rattle.decoding.proofs.Running.{run-same}
-use Rattle.decoding.proofs.Whole.{run-of, EndsLeft, ends-start, next-end, ends-next, list-room, ends-done, ends-storable}
+use Rattle.decoding.proofs.Whole.{EndsLeft, ends-start, next-end, ends-next, list-room, ends-done, ends-storable}
 use Rattle.decoding.proofs.ends.best_words.Statement.{statement}
 use Rattle.decoding.proofs.ends.best_words.Tie as tie
 
 abbrev Inv-loop : tie.InvT-loop
-Inv-loop voice lexicon frames n lists counts store firsts list₀ node₀ list node = EndsLeft voice lexicon frames n node list
+Inv-loop voice lexicon frames n lists counts firsts store list₀ node₀ list node = EndsLeft voice lexicon frames n node list
 
 abbrev μ-loop : tie.MeasureT-loop
-μ-loop voice lexicon frames n lists counts store firsts list₀ node₀ list node = node
-
-find-places-requires : tie.Need-find-places-requires Inv-loop μ-loop
-find-places-requires c κs =
-    let i = accepted (c .before .before .before .before .before .pre .accepted) in
-    ((i .voice, i .lexicon), refl)
+μ-loop voice lexicon frames n lists counts firsts store list₀ node₀ list node = node
 
 all-frames-requires : tie.Need-all-frames-requires Inv-loop μ-loop
-all-frames-requires c κs =
-    let p = c .before .before in
-    let s = p .before .before .before .before .before .before in
-    (run-of (s .pre) (p .find-places .ensures), s .pre .empty)
+all-frames-requires c κs = c .before .before .before .before .before .pre
 
 -- after all frames
 run : (c : tie.After-all-frames Inv-loop μ-loop) →
-    let a = c .before .before .before .before .before .before .before .before .before .args in
-    Run (a .voice .now) (a .lexicon .now) (a .frames .now) (a .n) (a .lists .now) (a .counts .now) (c .before .before .before .find-places .last .1 .1 .0) (c .all-frames .last .1 .1 .1 .1 .1 .1 .1 .0)
-run c =
-    let p = c .before .before .before in
-    let s = p .before .before .before .before .before .before in
-    run-same (c .all-frames .kept .1 .1 .1 .1 .1 .1 .1 .0) (run-of (s .pre) (p .find-places .ensures))
+    let a = c .before .before .before .before .before .before .args in
+    Run (a .voice .now) (a .lexicon .now) (a .frames .now) (a .n) (a .lists .now) (a .counts .now) (a .firsts .now) (c .all-frames .last .1 .1 .1 .1 .1 .1 .1 .0)
+run c = run-same (c .all-frames .kept .1 .1 .1 .1 .1 .1 .1 .0) (c .before .before .before .before .before .before .pre .0)
 
 loop-holds : tie.Need-loop-holds Inv-loop μ-loop
 unfolding nodeCount
@@ -44,14 +31,14 @@ loop-holds c = ends-start _ _ _ _ _ (c .u16-at .ensures)
 
 offer-end-requires : tie.Need-offer-end-requires Inv-loop μ-loop
 offer-end-requires c κs =
-    let l = c .before .before .before in
+    let l = c .before .before in
     let f = l .before .before .before .before .before in
     next-end (run f) (f .all-frames .ensures) (l .loop-test .taken) (l .before .loop .inv)
 
 loop-again : tie.Need-loop-again Inv-loop μ-loop
 loop-again c =
     let o = c .before in
-    let l = o .before .before .before .before in
+    let l = o .before .before .before in
     let f = l .before .before .before .before .before in
     ends-next (run f) (f .all-frames .ensures) (l .loop-test .taken) (l .before .loop .inv) (o .offer-end .kept .1 .1 .1 .1 .1 .1 .1 .1 .0)
     (o .offer-end .ensures (next-end (run f) (f .all-frames .ensures) (l .loop-test .taken) (l .before .loop .inv)))
@@ -79,10 +66,10 @@ slice-aggregate-offer-end : tie.Need-slice-aggregate-offer-end Inv-loop μ-loop
 slice-aggregate-offer-end c = search needs
 
 sub-node : tie.Need-sub-node Inv-loop μ-loop
-sub-node c = c .before .before .before .before .before .loop-test .taken
+sub-node c = c .before .before .before .before .loop-test .taken
 
 loop-less : tie.Need-loop-less Inv-loop μ-loop
-loop-less c = let h = c .before .before .before .before .before .loop-test .taken in omega arith
+loop-less c = let h = c .before .before .before .before .loop-test .taken in omega arith
 
 slice-aggregate-copy-place : tie.Need-slice-aggregate-copy-place Inv-loop μ-loop
 slice-aggregate-copy-place c = search needs
@@ -96,7 +83,6 @@ best-words-spec =
     (tie.spec
     Inv-loop
     μ-loop
-    find-places-requires
     all-frames-requires
     u16-at-requires
     cast-node

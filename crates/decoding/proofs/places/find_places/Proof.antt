@@ -5,7 +5,7 @@ use mathlib.Core.Path.{_≡_}
 use native.Mathlib.Omega.{arith}
 use lib.ListN.{getD}
 use borrow.Author.Needs.{needs}
-use Rattle.lexicon.specs.Lexicon.{nodeCount}
+use Rattle.lexicon.specs.Lexicon.{nodeCount, sinkOf}
 use Rattle.checking.proofs.Arcs.{shape-of}
 use Rattle.checking.proofs.Counting.{Images, well-formed}
 use Rattle.decoding.proofs.Numbering.{PlacesFound, PlaceRead, places-start, place-read, places-done}
@@ -52,6 +52,10 @@ add-place-2 c =
     let h = l .loop-test .taken in
     omega (arith, l .before .loop .inv .few, node l .few, few (l .before .before))
 
+small : (c : tie.At-loop Inv-loop μ-loop) → c .loop .place ≤ 1604
+unfolding sinkOf
+small c = omega (arith, c .loop .inv .few, c .loop .inv .last, counted (c .before), few (c .before))
+
 loop-again : tie.Need-loop-again Inv-loop μ-loop
 loop-again c = node (c .before .before) .after
 
@@ -80,4 +84,5 @@ find-places-spec =
     (λ c. let h = few (c .before .before .before .before) in search needs)
     (λ c. search needs)
     loop-again
+    (λ c. let h = small (c .before) in search needs)
     returns)
