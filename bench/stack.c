@@ -6,7 +6,7 @@
 
 enum { STACK = 1 << 20, PAINT = 0xa5 };
 
-enum which { CHECK, WORD_TO_CODE, CODE_TO_WORD, LIST };
+enum which { CHECK, WORD_TO_CODE, CODE_TO_WORD, LIST, DECODE };
 
 /* A call, its answer, and the bytes of stack that it took. stack.rs has the same fields. */
 struct call {
@@ -19,6 +19,9 @@ struct call {
     int32_t answer;
     size_t used;
 };
+
+/* symbol 0, fifty times */
+static const uint8_t frames[50];
 
 static uint8_t stack[STACK] __attribute__((aligned(4096)));
 
@@ -39,6 +42,9 @@ static int32_t made(const struct call *c)
                                       c->out, c->out_len);
     case LIST:
         return wundaleth_list(c->voice, c->voice_len, c->lexicon, c->lexicon_len, c->work, c->work_len, c->out, c->out_len);
+    case DECODE:
+        return wundaleth_decode(c->voice, c->voice_len, c->lexicon, c->lexicon_len, frames, sizeof frames, 8, c->work,
+                                c->work_len, c->out, c->out_len);
     default:
         return wundaleth_check(c->voice, c->voice_len, c->lexicon, c->lexicon_len, c->work, c->work_len);
     }

@@ -38,7 +38,7 @@ extern "C" {
 }
 
 /// The calls in the order of stack.c.
-const CALLS: [&str; 4] = ["check", "word_to_code", "code_to_word", "list"];
+const CALLS: [&str; 5] = ["check", "word_to_code", "code_to_word", "list", "decode"];
 
 /// Room for the listing of any accepted lexicon: 2^20 words of 32 letters and byte 10.
 const LISTING: usize = 33 << 20;
@@ -83,7 +83,7 @@ fn main() {
         let mut word = vec![0; 32];
         let (letters, _) = measured(2, &input, &mut work, &mut word, &[], last);
         word.truncate(letters.max(0) as usize);
-        for which in [0, 1, 2, 3] {
+        for which in 0..CALLS.len() as u32 {
             let (answer, used) = measured(which, &input, &mut work, &mut out, &word, last);
             println!(
                 "{:<30} {:<13} answer {answer:>9}: {used:>6} bytes",

@@ -23,7 +23,7 @@ use Rattle.ranking.specs.Hits.{Hit, hit, _≻_}
 use Rattle.ranking.proofs.Hits.{hit-path}
 use Rattle.ranking.proofs.Ranked.{≻-trans, ≻-asym}
 use Rattle.decoder.specs.Decoding.{pathScore, decodeAnswer, decodeOut}
-use Rattle.decoder.specs.Demand.{hitAt, Different, HasPath, HasNoPath, IsTrueScore, Names, Off, BehindLast, Demand3, IsRow, decodedList, MeetsDemand3, DecodingMeetsDemand3}
+use Rattle.decoder.specs.Demand.{hitAt, Different, HasPath, HasNoPath, IsTrueScore, Names, Off, BehindLast, Demand3, IsRow, decodedList, MeetsDemand3, DecodingMeetsDemand3, Demand3Determines}
 use Rattle.decoder.proofs.Listed.{TrueHit, is-path-score, no-path-score, path-names, one-code, is-row, answered, decoded-first}
 
 -- what `hitAt` reads past the end
@@ -182,12 +182,6 @@ pub left-meets : (v x frames work out : List ℕ) (n : ℕ) (answer : Answer ℕ
     → left ≡ decodeOut v x frames n work out → MeetsDemand3 v x frames n answer left
 unfolding decodedList
 left-meets v x frames work out n answer left e l k a = rw l (meets-demand-3 v x frames work out n k (sym e ∙ a))
-
--- two lists that meet demand 3, for the same accepted images, frames and n, are equal
-abbrev pub Demand3Determines : Type 0
-Demand3Determines =
-    (v x frames : List ℕ) (n : ℕ) (hs ks : List Hit) → Accepted v x → Demand3 v (graphOf x) frames n hs → Demand3 v (graphOf x) frames n ks
-    → hs ≡ ks
 
 pub demand-3-determines : Demand3Determines
 demand-3-determines v x frames n hs ks ok D E =

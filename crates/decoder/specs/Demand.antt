@@ -11,6 +11,7 @@ use Rattle.call.specs.Table.{Answer, value}
 use Rattle.voice.specs.Voice.{letterCount}
 use Rattle.graph.specs.Graph.{Graph, graphOf, wordCount}
 use Rattle.graph.specs.Words.{spelled, LexiconWord, wordOfCode}
+use Rattle.graph.specs.Checking.{Accepted}
 use Rattle.ranking.specs.Hits.{Hit, hit, _≻_, hitsRead}
 use Rattle.decoder.specs.StatePaths.{Attains}
 use Rattle.decoder.specs.Decoding.{decodeAnswer, decodeOut}
@@ -110,3 +111,9 @@ abbrev pub DecodingListsTheRow : Type 0
 DecodingListsTheRow =
     (v x frames work out : List ℕ) (n k : ℕ) → decodeAnswer v x frames n work out ≡ value k
     → FirstOfRow v (graphOf x) frames n (decodedList v x frames n work out k)
+
+-- two lists that meet demand 3, for the same accepted images, frames and n, are equal
+abbrev pub Demand3Determines : Type 0
+Demand3Determines =
+    (v x frames : List ℕ) (n : ℕ) (hs ks : List Hit) → Accepted v x → Demand3 v (graphOf x) frames n hs → Demand3 v (graphOf x) frames n ks
+    → hs ≡ ks
