@@ -2,32 +2,25 @@
 //! byte of the output and of the work space, and every byte of what is only read and around the buffers.
 
 mod large;
-mod library;
 mod lists;
 mod refusals;
 mod scores;
 mod small;
 mod word_by_word;
 
-use crate::buffers::Buffer;
+use crate::buffers::{whole, Buffer, Lent};
 use crate::counts::Counts;
 use crate::image::{small_lexicon, small_voice, Lexicon};
+use crate::library;
 use crate::random::Random;
 use crate::reference::{Number, WORK_SPACE};
+use crate::work::Work;
 use lists::Lists;
 use word_by_word::{Hit, Images};
 
 const ALL: [usize; 14] = [0, 1, 2, 3, 4, 5, 6, 7, 8, 9, 10, 11, 12, 16];
-static ZEROS: [u8; WORK_SPACE] = [0; WORK_SPACE];
 const SHOWN_DIFFERENCES: usize = 10;
 const SHOWN_BYTES: usize = 400;
-
-/// What is lent of some bytes, and what follows it in memory: the two parts of a split.
-type Lent<'a> = (&'a [u8], &'a [u8]);
-
-fn whole(bytes: &[u8]) -> Lent<'_> {
-    (bytes, &[])
-}
 
 /// The arguments of one call.
 #[derive(Clone, Copy)]
@@ -75,10 +68,8 @@ struct Decoding {
     voice: Buffer,
     lexicon: Buffer,
     frames: Buffer,
-    work: Buffer,
+    work: Work,
     out: Buffer,
-    /// Random bytes, of which any stretch is an old content of a buffer.
-    old: Vec<u8>,
     counts: Counts,
     lists: Lists,
     differences: usize,
@@ -88,12 +79,11 @@ struct Decoding {
 pub fn run(seed: u64) -> usize {
     let mut random = Random::from_seed(seed);
     let mut decoding = Decoding {
-        old: random.bytes(1 << 18),
+        work: Work::new(&mut random),
         random,
         voice: Buffer::new(),
         lexicon: Buffer::new(),
         frames: Buffer::new(),
-        work: Buffer::new(),
         out: Buffer::new(),
         counts: Counts::of(&ALL[1..]),
         lists: Lists::new(),
@@ -102,12 +92,15 @@ pub fn run(seed: u64) -> usize {
     decoding.examples();
     decoding.small(26_000);
     decoding.damaged_images(20_000);
+    decoding.any_bytes(2_000);
     decoding.every_length(25);
-    decoding.work_spaces(60);
+    decoding.work_spaces(280);
     decoding.limits(25);
+    decoding.limits_of_images();
     decoding.several_at_once(20_000);
     decoding.extremes(25);
-    decoding.large(25);
+    decoding.every_number_of_frames(10);
+    decoding.large(15);
     decoding.very_many_words();
     let missing = decoding.counts.missing() + decoding.lists.missing();
     decoding.counts.print("listed");
@@ -135,21 +128,19 @@ impl Decoding {
         self.lists.begin(group);
     }
 
-    fn old(&mut self, length: usize) -> std::ops::Range<usize> {
-        let at = self.random.below(self.old.len() - length);
-        at..at + length
-    }
-
     fn hold(&mut self, call: &Call) {
         let random = &mut self.random;
-        self.voice.hold(call.voice.0, call.voice.1, random);
-        self.lexicon.hold(call.lexicon.0, call.lexicon.1, random);
+        self.voice.hold(call.voice, random);
+        self.lexicon.hold(call.lexicon, random);
         // frames that would be heard if more were read than are lent
-        let behind = [call.frames.1, &[0; 8]].concat();
-        self.frames.hold(call.frames.0, &behind, random);
-        let (work, out) = (self.old(call.work_length), self.old(call.out_length));
-        self.work.hold(&self.old[work], &[], &mut self.random);
-        self.out.hold(&self.old[out], &[], &mut self.random);
+        let frames = Lent {
+            bytes: call.frames.bytes,
+            behind: &[call.frames.behind, &[0; 8]].concat(),
+        };
+        self.frames.hold(frames, random);
+        self.work.hold(call.work_length, random);
+        let old = random.bytes(call.out_length);
+        self.out.hold(whole(&old), random);
     }
 
     /// One call, held to the reference, whose hits or refusal are returned.
@@ -160,10 +151,10 @@ impl Decoding {
             &mut self.lexicon,
             &mut self.frames,
             call.n,
-            &mut self.work,
+            &mut self.work.buffer,
             &mut self.out,
         );
-        let (frames, work, out) = (call.frames.0, call.work_length, call.out_length);
+        let (frames, work, out) = (call.frames.bytes, call.work_length, call.out_length);
         let list = word_by_word::decode(images, frames, call.n, work, out);
         if let Ok(list) = &list {
             self.lists.add(list, call.n);
@@ -174,17 +165,16 @@ impl Decoding {
     }
 
     fn compare(&mut self, n: u32, answer: i32, hits: &Result<Vec<Hit>, Number>) {
-        let (expected, written, cleared) = match hits {
-            Ok(hits) => (hits.len() as i32, bytes_of(hits), WORK_SPACE),
-            Err(1) => (-1, Vec::new(), 0),
-            Err(number) => (-number, Vec::new(), WORK_SPACE),
+        let (expected, written) = match hits {
+            Ok(hits) => (hits.len() as i32, bytes_of(hits)),
+            Err(number) => (-number, Vec::new()),
         };
         let read_only = [&self.voice, &self.lexicon, &self.frames];
         let what = if answer != expected {
             format!("answered {answer}, expected {expected}")
         } else if !read_only.iter().all(|buffer| buffer.unchanged()) {
             format!("answered {answer}, an image, frames or bytes around them changed")
-        } else if !self.work.begins_with(&ZEROS[..cleared]) {
+        } else if !self.work.is_left_by(expected) {
             format!("answered {answer}, work bytes or bytes around them differ")
         } else if !self.out.begins_with(&written) {
             format!("answered {answer}, output bytes or bytes around them differ")
@@ -212,7 +202,7 @@ impl Decoding {
             let shown = &buffer.contents()[..buffer.length().min(SHOWN_BYTES)];
             println!("  {name} of {} bytes: {shown:?}", buffer.length());
         }
-        println!("  work space of {} bytes", self.work.length());
+        println!("  work space of {} bytes", self.work.buffer.length());
     }
 
     /// A call whose hits, score and code of each, or whose refusal is known from how it was made.

@@ -5,6 +5,7 @@
 mod damage;
 #[allow(dead_code)]
 mod draw;
+mod faults;
 #[allow(dead_code)]
 mod image;
 #[allow(dead_code)]
@@ -20,14 +21,22 @@ mod sketch;
 #[path = "decoding/word_by_word.rs"]
 mod word_by_word;
 
+use image::{small_lexicon, small_voice, Lexicon};
 use random::Random;
+use sketch::{Sketch, ROOT, SINK};
 use std::collections::BTreeMap;
 use std::io::Write;
 use std::process::{Command, ExitCode, Stdio};
+use std::time::{Duration, Instant};
 use word_by_word::{Images, List};
 
 const SEED: u64 = 20_240_501;
 const SHOWN_DIFFERENCES: usize = 10;
+/// The longest input of which every byte may count: two images of 65,535 bytes with their lengths, n, and 1,001 frames.
+const LONGEST: usize = 132_076;
+
+/// Long enough for the program to have read what was there.
+const PAUSE: Duration = Duration::from_millis(4);
 
 struct Program {
     path: String,
@@ -42,6 +51,7 @@ fn main() -> ExitCode {
     let mut words = std::env::args().skip(1);
     let path = words.next().unwrap_or("target/bin/hits".to_string());
     let seed = words.next().and_then(|word| word.parse().ok());
+    let begun = Instant::now();
     let mut program = Program {
         path,
         random: Random::from_seed(seed.unwrap_or(SEED)),
@@ -50,15 +60,24 @@ fn main() -> ExitCode {
         differences: 0,
     };
     program.examples();
+    program.numbers_printed();
     program.every_length();
+    program.in_pieces();
     program.numbers_of_frames();
     program.lengths_given();
-    program.any_images(150);
+    program.long_inputs();
+    program.refusals(400);
+    program.any_images(1_000);
+    program.large();
     let missing = program.missing();
-    println!("{:?}", program.seen);
+    for (first, times) in &program.seen {
+        println!("{first:<12}{times:>6}");
+    }
     println!(
-        "hits: {} runs, {} differences",
-        program.runs, program.differences
+        "hits: {} runs, {} differences, {:.1} s",
+        program.runs,
+        program.differences,
+        begun.elapsed().as_secs_f64()
     );
     match program.differences + missing {
         0 => ExitCode::SUCCESS,
@@ -137,7 +156,18 @@ impl Program {
         self.runs += 1;
         let first = expected.split(" words").next().unwrap_or_default();
         *self.seen.entry(first.trim_end().to_string()).or_default() += 1;
-        match self.printed(input) {
+        self.hold(expected, input, &[input]);
+    }
+
+    /// The input given in pieces, with a pause between them.
+    fn run_in_pieces(&mut self, pieces: &[&[u8]]) {
+        let input = pieces.concat();
+        self.runs += 1;
+        self.hold(&report(&input), &input, pieces);
+    }
+
+    fn hold(&mut self, expected: &str, input: &[u8], pieces: &[&[u8]]) {
+        match self.printed(pieces) {
             Ok((printed, true)) if printed == expected.as_bytes() => {}
             Ok((printed, success)) => {
                 let printed = String::from_utf8_lossy(&printed).into_owned();
@@ -148,14 +178,19 @@ impl Program {
     }
 
     /// What the program prints, and whether its status is 0.
-    fn printed(&self, input: &[u8]) -> std::io::Result<(Vec<u8>, bool)> {
+    fn printed(&self, pieces: &[&[u8]]) -> std::io::Result<(Vec<u8>, bool)> {
         let mut child = Command::new(&self.path)
             .stdin(Stdio::piped())
             .stdout(Stdio::piped())
             .spawn()?;
         if let Some(mut stdin) = child.stdin.take() {
-            // a program that has seen enough need not read to the end
-            stdin.write_all(input).ok();
+            for (k, piece) in pieces.iter().enumerate() {
+                if k > 0 {
+                    std::thread::sleep(PAUSE);
+                }
+                // a program that has seen enough need not read to the end
+                stdin.write_all(piece).ok();
+            }
         }
         let output = child.wait_with_output()?;
         Ok((output.stdout, output.status.success()))
@@ -175,8 +210,8 @@ impl Program {
 
     /// The document's example and the other rows of the small lexicon, as they are printed.
     fn examples(&mut self) {
-        let voice = image::small_voice().bytes();
-        let lexicon = image::small_lexicon();
+        let voice = small_voice().bytes();
+        let lexicon = small_lexicon();
         let mut turned = lexicon.clone();
         turned.successors[0] = vec![2, 1];
         let (lexicon, turned) = (lexicon.bytes(), turned.bytes());
@@ -212,9 +247,57 @@ impl Program {
         }
     }
 
+    /// The highest and the lowest score, no hits, one word, 32 letters.
+    fn numbers_printed(&mut self) {
+        let mut voice = small_voice();
+        let small = small_lexicon().bytes();
+        for (score, line) in [
+            (32_767, "0 65501233 65501 an"),
+            (-32_767, "0 -65501233 -65502 an"),
+        ] {
+            scores::set_all(&mut voice, score, score);
+            let input = input(&voice.bytes(), &small, 1, &[3; 1_000]);
+            self.run_for(&format!("hits 1 words 5 bits 3\n{line}\n"), &input);
+        }
+        let voice = small_voice().bytes();
+        let one = Lexicon {
+            letters: vec![0],
+            successors: vec![vec![1], vec![2]],
+        };
+        let printed = "hits 1 words 1 bits 0\n0 0 0 a\n";
+        self.run_for(printed, &input(&voice, &one.bytes(), 8, &[0]));
+        let mut long = Sketch::new();
+        long.chain(ROOT, &[3; 32], SINK);
+        let long = long.lexicon(&mut self.random).bytes();
+        let word = "t".repeat(32);
+        let printed = format!("hits 1 words 1 bits 0\n0 -62 -2 {word}\n");
+        self.run_for(&printed, &input(&voice, &long, 1, &[3; 32]));
+        let printed = "hits 0 words 1 bits 0\n";
+        self.run_for(printed, &input(&voice, &long, 8, &[3; 31]));
+    }
+
+    /// What is read at once ends anywhere.
+    fn in_pieces(&mut self) {
+        let (voice, lexicon) = (small_voice().bytes(), small_lexicon().bytes());
+        let whole = input(&voice, &lexicon, 3, &[0, 2]);
+        for length in 1..whole.len() {
+            let (first, rest) = whole.split_at(length);
+            self.run_in_pieces(&[first, rest]);
+        }
+        let pieces: Vec<&[u8]> = whole.chunks(1).collect();
+        self.run_in_pieces(&pieces);
+        let mut frames = vec![0; 1_000];
+        frames[999] = 2;
+        for last in [&[][..], &[2]] {
+            let whole = [&input(&voice, &lexicon, 8, &frames), last].concat();
+            let pieces: Vec<&[u8]> = whole.chunks(97).collect();
+            self.run_in_pieces(&pieces);
+        }
+    }
+
     /// Cut at every length: a length of which a byte is missing leaves an empty image, a missing n is 0 and no frames.
     fn every_length(&mut self) {
-        let (voice, lexicon) = (image::small_voice().bytes(), image::small_lexicon().bytes());
+        let (voice, lexicon) = (small_voice().bytes(), small_lexicon().bytes());
         let whole = input(&voice, &lexicon, 3, &[0, 2]);
         for length in 0..=whole.len() {
             self.run(&whole[..length]);
@@ -242,7 +325,7 @@ impl Program {
 
     /// Up to far more frames than can be taken, some of them out of range only there.
     fn numbers_of_frames(&mut self) {
-        let (voice, lexicon) = (image::small_voice().bytes(), image::small_lexicon().bytes());
+        let (voice, lexicon) = (small_voice().bytes(), small_lexicon().bytes());
         let lengths = [998, 999, 1_000, 1_001, 1_002, 2_000, 65_535, 65_536, 65_537];
         for length in lengths
             .into_iter()
@@ -259,7 +342,7 @@ impl Program {
 
     /// Lengths that are not the images': what follows is cut elsewhere. The longest leave all to the first image.
     fn lengths_given(&mut self) {
-        let (voice, lexicon) = (image::small_voice().bytes(), image::small_lexicon().bytes());
+        let (voice, lexicon) = (small_voice().bytes(), small_lexicon().bytes());
         let whole = input(&voice, &lexicon, 3, &[0, 2]);
         for at in [0, 2 + voice.len()] {
             let right = u16::from_le_bytes([whole[at], whole[at + 1]]);
@@ -274,6 +357,46 @@ impl Program {
         }
         self.run(&[0; 131_075]);
         self.run(&[255; 140_000]);
+    }
+
+    /// About and beyond the longest input of which every byte may count.
+    fn long_inputs(&mut self) {
+        let (voice, lexicon) = (small_voice().bytes(), small_lexicon().bytes());
+        let longer = |image: &[u8]| {
+            let mut image = image.to_vec();
+            image.resize(65_535, 0);
+            image
+        };
+        for length in [131_074, 131_075, 131_076, LONGEST - 1, LONGEST, LONGEST + 1] {
+            for more in [0, 1, 70_000, 1_000_000] {
+                for (voice, lexicon) in [
+                    (&voice, &lexicon),
+                    (&voice, &longer(&lexicon)),
+                    (&longer(&voice), &lexicon),
+                    (&longer(&voice), &longer(&lexicon)),
+                ] {
+                    let mut input = input(voice, lexicon, 3, &[]);
+                    input.resize(length + more, 1);
+                    self.run(&input);
+                }
+            }
+        }
+    }
+
+    /// Each of the conditions 2 to 10 alone, and any set of them, with and without 11 and 12.
+    fn refusals(&mut self, runs: usize) {
+        for k in 0..runs {
+            let random = &mut self.random;
+            let several = match k {
+                0..36 => 1 << (k % 9),
+                _ => random.below(1 << 9) & random.below(1 << 9),
+            };
+            let (voice, lexicon) = faults::faulty_images(random, several);
+            let n = *random.pick(&[0, 1, 3, 8, 8, 9, 255]);
+            let symbol = *random.pick(&[0, 0, 0, 64]);
+            let length = random.between(1, 12);
+            self.run(&input(&voice, &lexicon, n, &vec![symbol; length]));
+        }
     }
 
     fn any_images(&mut self, runs: usize) {
@@ -297,7 +420,18 @@ impl Program {
             }
             self.run(&input(&voice.bytes(), &lexicon_bytes, n, &frames));
         }
-        // many words, and an accepted input that is nearly as long as can be
+    }
+
+    /// Many words, and an accepted input that is nearly as long as can be.
+    fn large(&mut self) {
+        let sketch = draw::so_many_words(&[32; 4], 0);
+        let mut voice = draw::voice_of(&mut self.random, &[1; 32], 2);
+        scores::set_all(&mut voice, -1, -1);
+        for emission in &mut voice.emissions {
+            *emission = -(self.random.below(3_000) as i16);
+        }
+        let lexicon = sketch.lexicon(&mut self.random).bytes();
+        self.run(&input(&voice.bytes(), &lexicon, 8, &[0, 1, 1, 0, 1]));
         let sketch = draw::so_many_words(&[16; 4], 3);
         let mut voice = draw::voice_of(&mut self.random, &[1; 64], 64);
         scores::set_all(&mut voice, -32_767, -32_767);
@@ -312,7 +446,8 @@ impl Program {
 
     /// Prints each kind of report that was never due; says how many there are.
     fn missing(&self) -> usize {
-        let refusals = [2, 3, 4, 5, 10, 11, 12].map(|number| format!("refused {number}"));
+        let refusals =
+            [2, 3, 4, 5, 6, 7, 8, 9, 10, 11, 12].map(|number| format!("refused {number}"));
         let lists = [0, 1, 2, 3, 8].map(|hits| format!("hits {hits}"));
         let never = |due: &&String| !self.seen.contains_key(*due);
         let never: Vec<&String> = refusals.iter().chain(&lists).filter(never).collect();

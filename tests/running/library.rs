@@ -42,6 +42,19 @@ extern "C" {
         out: *mut u8,
         out_len: usize,
     ) -> i32;
+    fn wundaleth_decode(
+        voice: *const u8,
+        voice_len: usize,
+        lexicon: *const u8,
+        lexicon_len: usize,
+        frames: *const u8,
+        frames_len: usize,
+        n: u32,
+        work: *mut u8,
+        work_len: usize,
+        out: *mut u8,
+        out_len: usize,
+    ) -> i32;
     fn wundaleth_pack(
         words: u32,
         codes: *const u32,
@@ -123,6 +136,31 @@ pub fn list(voice: &mut Buffer, lexicon: &mut Buffer, work: &mut Buffer, out: &m
             voice.length(),
             lexicon.pointer(),
             lexicon.length(),
+            work.pointer(),
+            work.length(),
+            out.pointer(),
+            out.length(),
+        )
+    }
+}
+
+pub fn decode(
+    voice: &mut Buffer,
+    lexicon: &mut Buffer,
+    frames: &mut Buffer,
+    n: u32,
+    work: &mut Buffer,
+    out: &mut Buffer,
+) -> i32 {
+    unsafe {
+        wundaleth_decode(
+            voice.pointer(),
+            voice.length(),
+            lexicon.pointer(),
+            lexicon.length(),
+            frames.pointer(),
+            frames.length(),
+            n,
             work.pointer(),
             work.length(),
             out.pointer(),

@@ -8,6 +8,8 @@ mod checking;
 mod codes;
 mod counts;
 mod damage;
+#[allow(dead_code)]
+mod decoding;
 mod draw;
 mod faults;
 mod image;
@@ -20,6 +22,7 @@ mod sketch;
 mod work;
 
 use std::process::ExitCode;
+use std::time::Instant;
 
 const SEED: u64 = 20_240_501;
 
@@ -31,6 +34,7 @@ const PARTS: &[(&str, Part)] = &[
     ("checking", checking::run),
     ("words and codes", codes::run),
     ("packed codes", packing::run),
+    ("decoding", decoding::run),
 ];
 
 fn main() -> ExitCode {
@@ -40,7 +44,9 @@ fn main() -> ExitCode {
     let mut faults = 0;
     for (name, run) in PARTS {
         println!("\n{name}");
+        let begun = Instant::now();
         faults += run(seed);
+        println!("{name}: {:.1} s", begun.elapsed().as_secs_f64());
     }
     if faults == 0 {
         ExitCode::SUCCESS

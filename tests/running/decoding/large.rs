@@ -8,8 +8,9 @@ use crate::sketch::{Sketch, ROOT, SINK};
 /// The highest score: 1,000 emissions and 999 moves of 32,767 each.
 const HIGHEST: i64 = 65_501_233;
 
-/// So many steps of the word-by-word decoder are enough for one call.
-const STEPS: usize = 4_000_000;
+/// So many steps of the word-by-word decoder are enough for one call, and so many for a few.
+const STEPS: usize = 2_000_000;
+const MANY_STEPS: usize = 40_000_000;
 
 impl Decoding {
     /// Up to 400 nodes, 1,000 places, 3,900 arcs, 1,000 frames.
@@ -29,11 +30,24 @@ impl Decoding {
             for sketch in sketches {
                 let (voice, lexicon) = self.images_with_places(&sketch);
                 let pair = Pair::of(voice.bytes(), lexicon.bytes());
-                for _ in 0..2 {
+                for n in 1..=8 {
                     let frames = self.many_frames(&pair);
-                    let n = self.random.between(1, 8) as u32;
                     self.call_accepted(&pair, &frames, n);
                 }
+            }
+        }
+    }
+
+    /// Every number of frames from 1 to 1,000.
+    pub(super) fn every_number_of_frames(&mut self, pairs: usize) {
+        self.begin("every T", &[0]);
+        for _ in 0..pairs {
+            let (voice, lexicon) = self.small_images();
+            let pair = Pair::of(voice.bytes(), lexicon.bytes());
+            for length in 1..=1_000 {
+                let frames = self.any_frames(length, voice.symbols.into());
+                let n = self.random.between(1, 8) as u32;
+                self.call_accepted(&pair, &frames, n);
             }
         }
     }
@@ -100,7 +114,12 @@ impl Decoding {
             return Vec::new();
         };
         let states: usize = images.words.iter().map(|word| images.states_of(word)).sum();
-        let most = (STEPS / states).clamp(50, 1_000);
+        let steps = if self.random.once_in(40) {
+            MANY_STEPS
+        } else {
+            STEPS
+        };
+        let most = (steps / states).clamp(50, 1_000);
         let length = match self.random.below(3) {
             0 => most,
             1 => self.random.between(1, most),
@@ -161,16 +180,17 @@ impl Decoding {
         self.hold_to_score(&voice, &lexicon, 2, score);
     }
 
-    /// Codes up to 1,048,575: now with few scores and many ties, now with any.
+    /// Codes up to 1,048,575, and up to 65,535: now with few scores and many ties, now with any.
     pub(super) fn very_many_words(&mut self) {
-        self.begin("2^20 words", &[0]);
-        let shapes: [(&[usize], usize); 6] = [
+        self.begin("very many words", &[0]);
+        let shapes: [(&[usize], usize); 7] = [
             (&[32; 4], 4),
             (&[32; 4], 2_000),
             (&[32; 4], 32_767),
             (&[16; 5], 4),
             (&[16; 5], 32_767),
             (&[4; 10], 500),
+            (&[2; 16], 3),
         ];
         for (widths, scores) in shapes {
             let sketch = draw::so_many_words(widths, 0);
@@ -182,8 +202,10 @@ impl Decoding {
             voice.moves.fill([-2, 0]);
             let lexicon = sketch.lexicon(&mut self.random);
             let pair = Pair::of(voice.bytes(), lexicon.bytes());
-            let frames = self.any_frames(widths.len() + 1, 8);
-            self.call_accepted(&pair, &frames, 8);
+            for n in [8, 8, 4, 1] {
+                let frames = self.any_frames(widths.len() + 1, 8);
+                self.call_accepted(&pair, &frames, n);
+            }
         }
     }
 }

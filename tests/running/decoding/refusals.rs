@@ -1,10 +1,13 @@
 //! The refusals of decoding: both sides of every limit, several conditions at once, and buffers of every length.
 
-use super::{Call, Decoding, Images, Pair, ALL};
+use super::{scores, Call, Decoding, Images, Pair, ALL};
+use crate::buffers::cut;
 use crate::draw;
-use crate::image::{bytes_of, Field};
+use crate::faults::faulty_images;
+use crate::image::small_voice;
 use crate::reference::WORK_SPACE;
 use crate::sketch::{Sketch, ROOT, SINK};
+use crate::work;
 
 /// Not 1 to 8, though some of them are where a number is cut to fewer bits, or where 8 × n is.
 const WRONG_N: [u32; 14] = [
@@ -41,6 +44,57 @@ impl Decoding {
         }
     }
 
+    /// Both sides of 400 nodes, 1,000 places, 32 letters and 1,048,576 words: every call checks anew.
+    pub(super) fn limits_of_images(&mut self) {
+        self.begin("limits of images", &[0, 5, 7, 8, 9]);
+        for (nodes, known) in [(399, 0), (400, 0), (401, 5)] {
+            self.long_chains(nodes, 64, 1, known);
+        }
+        for (nodes, known) in [(249, 0), (250, 0), (251, 7)] {
+            self.long_chains(nodes, 8, 4, known);
+        }
+        for (length, known) in [(31, 0), (32, 0), (33, 8), (34, 8)] {
+            let mut sketch = Sketch::new();
+            let word = draw::word(&mut self.random, 8, length);
+            sketch.chain(ROOT, &word, SINK);
+            sketch.chain(ROOT, &word[..1], SINK);
+            self.call_sketch(&sketch, 8, 4, known);
+        }
+        // the last ones are 2^32 words and 5, and far more than 64 bits can count
+        let many: [(&[usize], usize, i32); 5] = [
+            (&[4; 10], 0, 0),
+            (&[4; 10], 1, 9),
+            (&[2; 21], 0, 9),
+            (&[2; 32], 5, 9),
+            (&[11; 32], 0, 9),
+        ];
+        for (widths, beside, known) in many {
+            self.call_sketch(&draw::so_many_words(widths, beside), 64, 1, known);
+        }
+    }
+
+    fn long_chains(&mut self, nodes: usize, letters: usize, states: u8, known: i32) {
+        let mut sketch = Sketch::new();
+        draw::fill_up(&mut self.random, &mut sketch, nodes, letters);
+        self.call_sketch(&sketch, letters, states, known);
+    }
+
+    /// Every n, with frames for which words have state paths.
+    fn call_sketch(&mut self, sketch: &Sketch, letters: usize, states: u8, known: i32) {
+        let mut voice = draw::voice_of(&mut self.random, &vec![states; letters], 2);
+        scores::set_all(&mut voice, -1, -2);
+        let lexicon = sketch.lexicon(&mut self.random);
+        let pair = Pair::of(voice.bytes(), lexicon.bytes());
+        let many = pair
+            .images
+            .as_ref()
+            .is_ok_and(|images| images.words.len() > 1_000);
+        for n in if many { 8..=8 } else { 1..=8 } {
+            let frames = self.frames_for(&pair);
+            self.call_made_for(known, &pair, pair.call(&frames, n));
+        }
+    }
+
     /// The call is made for a refusal, 0 for none.
     fn call_made_for(&mut self, number: i32, pair: &Pair, call: Call) {
         let refusal = self.call(&pair.images, call).err().unwrap_or(0);
@@ -67,7 +121,7 @@ impl Decoding {
         let frames = self.any_frames(1_100, symbols);
         for length in [0, 1, 5, 999, 1_000, 1_001] {
             let mut call = pair.call(&frames, 2);
-            call.frames = frames.split_at(length);
+            call.frames = cut(&frames, length);
             let known = if (1..=1_000).contains(&length) { 0 } else { 11 };
             self.call_made_for(known, pair, call);
         }
@@ -146,7 +200,7 @@ impl Decoding {
     /// A call to which conditions apply as wanted, or most of them: bit k of `several` stands for number k.
     fn call_with_conditions(&mut self, several: usize) {
         let has = |number: usize| several >> number & 1 == 1;
-        let (voice, lexicon) = self.faulty_images(has);
+        let (voice, lexicon) = faulty_images(&mut self.random, several >> 2 & 0x1ff);
         let pair = Pair::of(voice, lexicon);
         let mut frames = self.frames_for(&pair);
         if has(11) {
@@ -168,69 +222,6 @@ impl Decoding {
         }
         self.call(&pair.images, call).ok();
     }
-
-    fn faulty_images(&mut self, has: impl Fn(usize) -> bool) -> (Vec<u8>, Vec<u8>) {
-        let letters = self.random.between(2, 5);
-        let sketch = self.faulty_sketch(letters, &has);
-        let (random, symbols) = (&mut self.random, 2);
-        let states = if has(7) { 4 } else { 1 + letters as u8 % 2 };
-        let voice = draw::voice_of(random, &vec![states; letters], symbols);
-        let (mut voice, mut lexicon) = (voice.fields(), sketch.lexicon(random).fields());
-        if has(3) {
-            self.set_out_of_range(&mut voice);
-        }
-        if has(5) {
-            self.set_out_of_range(&mut lexicon);
-        }
-        let voice = self.of_wrong_length(has(2), &voice);
-        (voice, self.of_wrong_length(has(4), &lexicon))
-    }
-
-    /// A few words, with an addition for each of 6 to 10.
-    fn faulty_sketch(&mut self, letters: usize, has: impl Fn(usize) -> bool) -> Sketch {
-        let random = &mut self.random;
-        let mut sketch = Sketch::of_words(&draw::word_list(random, letters, 5, 4));
-        if has(10) {
-            sketch.second_path(random, None);
-        }
-        if has(9) {
-            let layers = random.between(21, 32);
-            sketch.layers(&vec![2; layers], 0);
-            if random.once_in(2) {
-                // 2^32 words and a few: cut off at 32 bits, they could be accepted
-                sketch.layers(&vec![2; 32 - layers], 0);
-            }
-        }
-        if has(8) {
-            let length = random.between(33, 40);
-            let word = draw::word(random, letters, length);
-            sketch.chain(ROOT, &word, SINK);
-        }
-        if has(6) {
-            let node = sketch.node(0);
-            sketch.arc(node, SINK);
-        }
-        if has(7) {
-            let nodes = sketch.nodes().max(251);
-            draw::fill_up(random, &mut sketch, nodes, letters);
-        }
-        sketch
-    }
-
-    fn set_out_of_range(&mut self, fields: &mut [Field]) {
-        let field = self.random.pick_mut(fields);
-        field.value = if field.size == 1 { 255 } else { 65_535 };
-    }
-
-    fn of_wrong_length(&mut self, wrong: bool, fields: &[Field]) -> Vec<u8> {
-        let mut bytes = bytes_of(fields);
-        match self.random.below(2) {
-            _ if !wrong => {}
-            0 => bytes.push(0),
-            _ => bytes.truncate(self.random.below(bytes.len())),
-        }
-        bytes
-    }
 }
 
 impl Decoding {
@@ -245,19 +236,19 @@ impl Decoding {
             let call = pair.call(&frames, n);
             for length in 0..pair.voice.len().min(300) {
                 let mut call = call;
-                call.voice = pair.voice.split_at(length);
-                self.call(&Images::of(call.voice.0, call.lexicon.0), call)
-                    .ok();
+                call.voice = cut(&pair.voice, length);
+                let images = Images::of(call.voice.bytes, call.lexicon.bytes);
+                self.call(&images, call).ok();
             }
             for length in 0..pair.lexicon.len() {
                 let mut call = call;
-                call.lexicon = pair.lexicon.split_at(length);
-                self.call(&Images::of(call.voice.0, call.lexicon.0), call)
-                    .ok();
+                call.lexicon = cut(&pair.lexicon, length);
+                let images = Images::of(call.voice.bytes, call.lexicon.bytes);
+                self.call(&images, call).ok();
             }
             for length in 0..=frames.len() {
                 let mut call = call;
-                call.frames = frames.split_at(length);
+                call.frames = cut(&frames, length);
                 self.call(&pair.images, call).ok();
             }
         }
@@ -268,7 +259,8 @@ impl Decoding {
         self.begin("work spaces", &ALL);
         for k in 0..pairs {
             let condition = ALL[k % ALL.len()];
-            let (voice, lexicon) = self.faulty_images(|number| number == condition);
+            let of_images = 1 << condition >> 2 & 0x1ff;
+            let (voice, lexicon) = faulty_images(&mut self.random, of_images);
             let pair = Pair::of(voice, lexicon);
             let mut frames = self.frames_for(&pair);
             if condition == 11 {
@@ -279,14 +271,35 @@ impl Decoding {
             if condition == 16 {
                 call.out_length -= 1;
             }
-            for length in [0, 1, 7, 8, 400, 20_100, 32_768, 63_992, 63_999] {
+            for length in work::LENGTHS {
                 call.work_length = length;
-                self.call_made_for(1, &pair, call);
+                let refusal = self.call(&pair.images, call).err();
+                if length < WORK_SPACE && refusal != Some(1) {
+                    self.difference("the reference does not say 1");
+                }
             }
-            for length in [64_000, 64_001, 64_007, 65_535, 65_536, 70_000] {
-                call.work_length = length;
-                self.call(&pair.images, call).ok();
+        }
+    }
+
+    /// Bytes that are no images at all: none, few, or many.
+    pub(super) fn any_bytes(&mut self, calls: usize) {
+        self.begin("any bytes", &[1, 2, 3, 4, 5]);
+        for _ in 0..calls {
+            let most = *self.random.pick(&[1, 4, 20, 5_000]);
+            let (first, second) = (self.random.below(most), self.random.below(most));
+            let voice = if self.random.once_in(3) {
+                self.random.bytes(first)
+            } else {
+                small_voice().bytes()
+            };
+            let mut lexicon = self.random.bytes(second);
+            if self.random.once_in(2) {
+                lexicon.iter_mut().for_each(|byte| *byte %= 4);
             }
+            let pair = Pair::of(voice, lexicon);
+            let mut call = pair.call(&[0, 2], 3);
+            call.work_length = work::any_length(&mut self.random);
+            self.call(&pair.images, call).ok();
         }
     }
 }

@@ -6,6 +6,7 @@ use crate::draw;
 use crate::image::{Lexicon, Voice};
 use crate::reference::{self, WORK_SPACE};
 use crate::sketch::Sketch;
+use crate::work;
 
 /// Small images have no more words than this.
 const FEW_WORDS: i32 = 48;
@@ -107,17 +108,8 @@ impl Decoding {
             let pair = Pair::of(voice, lexicon);
             let frames = self.frames_for(&pair);
             let mut call = pair.call(&frames, self.random.between(1, 8) as u32);
-            call.work_length = self.any_work_length();
+            call.work_length = work::any_length(&mut self.random);
             self.call(&pair.images, call).ok();
-        }
-    }
-
-    /// Long enough nearly always.
-    fn any_work_length(&mut self) -> usize {
-        match self.random.below(100) {
-            0 => self.random.below(WORK_SPACE),
-            1..=10 => self.random.between(WORK_SPACE, 70_000),
-            _ => WORK_SPACE,
         }
     }
 }
