@@ -1,1 +1,9 @@
 pub mod Open
+pub mod Cut
+pub mod Putting
+pub mod Digits
+pub mod Hits
+pub mod Answers
+pub mod Counts
+pub mod Decoded
+pub mod Paging

@@ -1,2 +1,4 @@
 pub mod Report
 pub mod Put
+pub mod Lines
+pub mod Page
