@@ -61,5 +61,6 @@ pub fn decode(
         &mut work[0..store],
     );
     zero(&mut work[0..store]);
-    Answer::Value(put_hits(&tokens, out))
+    let listed = put_hits(&tokens, out);
+    Answer::Value(listed)
 }

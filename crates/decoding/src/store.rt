@@ -38,15 +38,15 @@ fn push_down(part: &mut [u8], n: usize, from: usize, token: u64)
     let mut at = from;
     let mut carry = token;
     while at < n {
-        let held = token_at(part, at);
+        let next = token_at(part, at);
         put_token(part, at, carry);
-        if held == 0 {
+        if next == 0 {
             return;
         }
-        if same_code(held, token) {
+        if same_code(next, token) {
             return;
         }
-        carry = held;
+        carry = next;
         at += 1;
     }
 }
