@@ -3,11 +3,12 @@
  * Arguments. Bytes, and codes to pack, are passed as a pointer and their number. A pointer is never null, not even where the number is 0.
  * The buffers of one call do not overlap. Nothing is kept between calls, and nothing is written but the work space and the output.
  *
- * Answers. A call answers a value, 0 or above, or a refusal's number made negative: -4 is WUNDALETH_LEXICON_LENGTH. Of the refusals that apply
- * the lowest number is answered. Within one image the fields are read in order, so that 2 and 3, and 4 and 5, follow the first bad field.
+ * Answers. A call answers a value, 0 or above, or a refusal's number made negative: -WUNDALETH_LEXICON_LENGTH is -4, so compare with the
+ * constant made negative. Of the refusals that apply the lowest number is answered. Within one image the fields are read in order, so that 2
+ * and 3, and 4 and 5, follow the first bad field.
  *
  * Work space. Every call with a lexicon is lent at least WUNDALETH_WORK_BYTES bytes, which may hold anything. Refusal 1 leaves all buffers as
- * they were. After every other call, refused or not, the first 64,000 work bytes are zero and later ones unchanged.
+ * they were. After every other call that is lent one, refused or not, the first 64,000 work bytes are zero and later ones unchanged.
  *
  * Codes belong to one lexicon image: two builds of one list may give a word two codes. Send a code only with the image that it was made from.
  */
@@ -31,11 +32,11 @@ enum wundaleth_refusal {
     WUNDALETH_LEXICON_LENGTH = 4, /* lexicon ends inside a field, or has bytes after its last */
     WUNDALETH_LEXICON_RANGE = 5,  /* lexicon field out of its range */
     WUNDALETH_ORPHAN = 6,         /* a node that is nobody's successor */
-    WUNDALETH_PLACES = 7,         /* more than 1,000 places */
+    WUNDALETH_PLACES = 7,         /* more than 1,000 places; a place is one state of one node */
     WUNDALETH_LONG_WORD = 8,      /* a word of more than 32 letters */
     WUNDALETH_WORD_COUNT = 9,     /* W above 1,048,576, counted or given; where W is given, as in packing and unpacking, also 0 */
     WUNDALETH_SAME_LETTERS = 10,  /* two different full paths with the same letters */
-    WUNDALETH_FRAMES = 11,        /* T 0 or above 1,000, or (decoding) a symbol not below K */
+    WUNDALETH_FRAMES = 11,        /* no frame or more than 1,000, or a symbol not below K, the voice model's number of symbols */
     WUNDALETH_COUNT = 12,         /* n, or the number of codes to pack or unpack, not 1 to 8 */
     WUNDALETH_NO_WORD = 13,       /* the bytes given spell no word here; the empty word too */
     WUNDALETH_PACKED = 14,        /* packed bytes of the wrong length, or a padding bit set */
@@ -64,9 +65,9 @@ int32_t wundaleth_code_to_word(const uint8_t *voice, size_t voice_length, const 
 int32_t wundaleth_list(const uint8_t *voice, size_t voice_length, const uint8_t *lexicon, size_t lexicon_length, uint8_t *work,
                        size_t work_length, uint8_t *out, size_t out_length);
 
-/* Decodes frames, one symbol a byte, against the lexicon, and writes the hits, the best first: at most n, 1 to 8, each in 8 bytes, int32_t score
- * and uint32_t code, both little-endian; the output needs no alignment, but room for n hits. Answers how many, 0 to n, or refuses with 1 to 12
- * or 16. The list is complete and exact: of all words that have a permitted state path the n with the highest scores, equal scores by rising
+/* Decodes frames, one symbol a byte, frames_length of them, against the lexicon, and writes the hits, the best first: at most n, 1 to 8, each in
+ * 8 bytes, int32_t score and uint32_t code, both little-endian. The output needs no alignment, but 8 x n bytes, however many hits are found.
+ * Answers how many, 0 to n, or refuses with 1 to 12 or 16. The list is complete and exact: of all words that have a permitted state path the n with the highest scores, equal scores by rising
  * code; fewer than n are all that have one. */
 int32_t wundaleth_decode(const uint8_t *voice, size_t voice_length, const uint8_t *lexicon, size_t lexicon_length, const uint8_t *frames,
                          size_t frames_length, uint32_t n, uint8_t *work, size_t work_length, uint8_t *out, size_t out_length);

@@ -24,7 +24,7 @@ use Rattle.ranking.proofs.Hits.{hit-path}
 use Rattle.ranking.proofs.Ranked.{≻-trans, ≻-asym}
 use Rattle.decoder.specs.Decoding.{pathScore, decodeAnswer, decodeOut}
 use Rattle.decoder.specs.Demand.{hitAt, Different, HasPath, HasNoPath, IsTrueScore, Names, Off, BehindLast, Demand3, IsRow, decodedList, MeetsDemand3, DecodingMeetsDemand3, Demand3Determines}
-use Rattle.decoder.proofs.Listed.{TrueHit, is-path-score, no-path-score, path-names, one-code, is-row, answered, decoded-first}
+use Rattle.decoder.proofs.Listed.{TrueHit, is-path-score, no-path-score, path-names, one-code, is-row, answered, decoded-first, lists-the-row}
 
 -- what `hitAt` reads past the end
 abbrev nothing : Hit
@@ -181,7 +181,9 @@ meets-demand-3 v x frames work out n k e =
 pub left-meets : (v x frames work out : List ℕ) (n : ℕ) (answer : Answer ℕ) (left : List ℕ) → answer ≡ decodeAnswer v x frames n work out
     → left ≡ decodeOut v x frames n work out → MeetsDemand3 v x frames n answer left
 unfolding decodedList
-left-meets v x frames work out n answer left e l k a = rw l (meets-demand-3 v x frames work out n k (sym e ∙ a))
+left-meets v x frames work out n answer left e l k a =
+    let q = sym e ∙ a in
+    rw l (meets-demand-3 v x frames work out n k q, lists-the-row v x frames work out n k q)
 
 pub demand-3-determines : Demand3Determines
 demand-3-determines v x frames n hs ks ok D E =

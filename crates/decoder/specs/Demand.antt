@@ -1,4 +1,4 @@
--- Demand 3 in the customer's sentences, of what decoding leaves. A word is its print bytes, a state path is the literal one, and the list is
+-- Demand 3 in the customer's sentences, of what decoding leaves; document 01's own form of it, the first n of the row, is `FirstOfRow`. A word is its print bytes, a state path is the literal one, and the list is
 -- read back from the output's bytes (document 01, State paths and hits). Assumes nothing.
 use Prim.Native.Nat.{ℕ, _-_, _≤_, _<_}
 use mathlib.Core.Path.{_≡_}
@@ -97,9 +97,13 @@ module _ (v : List ℕ) (g : Graph) (frames : List ℕ) where
 unfoldable pub decodedList : List ℕ → List ℕ → List ℕ → ℕ → List ℕ → List ℕ → ℕ → List Hit
 decodedList v x frames n work out k = hitsRead (decodeOut v x frames n work out) k
 
--- the same of any answer and output bytes: the contract of the call itself says it so
+-- the list of k hits in output bytes: demand 3, and document 01's own sentence, that it equals the first n of the row
+abbrev pub ListsHits : List ℕ → List ℕ → List ℕ → ℕ → ℕ → List ℕ → Type 0
+ListsHits v x frames n k out = Demand3 v (graphOf x) frames n (hitsRead out k) × FirstOfRow v (graphOf x) frames n (hitsRead out k)
+
+-- the same wherever an answer is a value: the contract of the call says it so
 abbrev pub MeetsDemand3 : List ℕ → List ℕ → List ℕ → ℕ → Answer ℕ → List ℕ → Type 0
-MeetsDemand3 v x frames n answer out = (k : ℕ) → answer ≡ value k → Demand3 v (graphOf x) frames n (hitsRead out k)
+MeetsDemand3 v x frames n answer out = (k : ℕ) → answer ≡ value k → ListsHits v x frames n k out
 
 -- What is to be shown of the call, wherever no number of the table applies to it: demand 3, and that the list is the beginning of the row
 abbrev pub DecodingMeetsDemand3 : Type 0

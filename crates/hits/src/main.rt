@@ -1,7 +1,7 @@
 // The program hits: reads standard input, and writes to standard output what crates/report says.
 //
 // Input is read up to 132,076 bytes: two images of at most 65,535 bytes after their lengths, n, and 1,001 frames. More bytes can only be frames
-// beyond the thousandth, which change no answer.
+// after the 1,001st, and with so many the answer is fixed already (`CutReportsTheSame`, report/specs/Theorems).
 use report::report;
 
 // Room for all input that matters.

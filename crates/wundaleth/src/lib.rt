@@ -3,12 +3,10 @@ ghost use Prim.Native.Nat.{ℕ};
 ghost use mathlib.Core.Path.{_≡_};
 ghost use lib.IntN.{pos};
 ghost use Rattle.call.specs.Table.{answerOf, signedAnswer};
-ghost use Rattle.graph.specs.Graph.{graphOf};
 ghost use Rattle.graph.specs.Checking.{checkAnswer, checkWork};
 ghost use Rattle.codes.specs.Lookup.{wordToCodeAnswer, wordToCodeWork, codeToWordAnswer, codeToWordWork, codeToWordOut, listAnswer, listOut, listWork};
-ghost use Rattle.ranking.specs.Hits.{hitsRead};
 ghost use Rattle.decoder.specs.Decoding.{decodeAnswer, decodeOut, decodeWork};
-ghost use Rattle.decoder.specs.Demand.{Demand3};
+ghost use Rattle.decoder.specs.Demand.{ListsHits};
 ghost use Rattle.packing.specs.Packing.{packAnswer, packOut, unpackAnswer, unpackOut};
 ghost use Rattle.wundaleth.specs.Answers.{Small};
 use call::Answer;
@@ -101,7 +99,7 @@ pub extern "C" fn wundaleth_decode(
     ensures { λ r. ⌜ r ≡ signedAnswer (decodeAnswer (now (voice .entry)) (now (lexicon .entry)) (now (frames .entry)) n (now (work .entry)) (now (out .entry))) ⌝ }
     ensures { λ _. ⌜ now (work .exit) ≡ decodeWork (now (voice .entry)) (now (lexicon .entry)) (now (frames .entry)) n (now (work .entry)) ⌝ }
     ensures { λ _. ⌜ now (out .exit) ≡ decodeOut (now (voice .entry)) (now (lexicon .entry)) (now (frames .entry)) n (now (work .entry)) (now (out .entry)) ⌝ }
-    ensures { λ r. ⌜ ((k : ℕ) → r ≡ pos k → Demand3 (now (voice .entry)) (graphOf (now (lexicon .entry))) (now (frames .entry)) n (hitsRead (now (out .exit)) k)) ⌝ }
+    ensures { λ r. ⌜ ((k : ℕ) → r ≡ pos k → ListsHits (now (voice .entry)) (now (lexicon .entry)) (now (frames .entry)) n k (now (out .exit))) ⌝ }
 {
     signed_of(decode(voice, lexicon, frames, n, work, out))
 }
