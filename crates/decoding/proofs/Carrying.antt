@@ -22,7 +22,7 @@ use Rattle.decoder.specs.Score.{possible, plus}
 use Rattle.passing.specs.Best.{rowOf, best, byCode, shift}
 use Rattle.passing.specs.Tokens.{carried}
 use Rattle.decoding.specs.Slots.{slots, offered, shifted, Movable, Offer, Changed}
-use Rattle.decoding.specs.Held.{tokenOf, held, pad, upOf, downOf}
+use Rattle.decoding.specs.Held.{raised, tokenOf, held, pad, upOf, downOf}
 use Rattle.decoding.specs.Gains.{gainOf}
 use Rattle.decoding.specs.Carrying.{Worth, Movers, Staying, Offering, stayed, joined}
 use Rattle.decoding.proofs.Gaining.{gain-none}
@@ -66,6 +66,12 @@ worth-of y z h k e = record { gain-is = e; none-is = λ n. gain-none y z h k (sy
 pub worth-by : {gain : ℕ} {o : Option ℤ} (y z : ℤ) → o ≡ possible y → mag y < 32768 → mag z < 32768 → gain ≡ gainOf (plus o (possible z))
     → Worth gain (plus o (possible z))
 worth-by y z q h k e = rw q (worth-of y z h k (rw q at e))
+
+pub worth-few : {gain : ℕ} {o : Option ℤ} → Worth gain o → gain ≤ 131072
+unfolding gainOf raised
+worth-few {o = none} w = omega (arith, w .gain-is)
+worth-few {o = some (pos m)} w = omega (arith, w .gain-is, w .small refl)
+worth-few {o = some (negsuc m)} w = omega (arith, w .gain-is)
 
 -- what is added where it is possible
 up-is : {gain : ℕ} {o : Option ℤ} {a : ℤ} → Worth gain o → o ≡ some a → gain * 4294967296 ≡ upOf a

@@ -32,14 +32,14 @@ use Rattle.passing.specs.Best.{shift}
 use Rattle.passing.specs.Tokens.{bestTokens, lastState, finalScore, carried, ending}
 use Rattle.passing.proofs.Bounds.{arc-count}
 use Rattle.passing.proofs.Members.{has-mem}
-use Rattle.decoding.specs.Slots.{slots, offered, Room, Offer}
+use Rattle.decoding.specs.Slots.{slots, offered, Room, Falling, Offer}
 use Rattle.decoding.specs.Held.{raised, held, Storable, upOf, downOf}
 use Rattle.decoding.specs.Places.{firstPlace}
 use Rattle.decoding.specs.Stored.{Ready, Roomy, Place}
 use Rattle.decoding.specs.Running.{Arcs, LastArc, Ending, Ended}
 use Rattle.decoding.proofs.Lending.{copied, length-copied}
 use Rattle.decoding.proofs.Held.{Moves}
-use Rattle.decoding.proofs.Kept.{offered-best, offer-ready}
+use Rattle.decoding.proofs.Kept.{best-falling, offered-best, offer-ready}
 use Rattle.decoding.proofs.Numbering.{place-below}
 
 -- ---- the arc to the sink
@@ -272,12 +272,18 @@ module _ {v x : List ℕ} {n : ℕ} {lists counts firsts : List ℕ} {w : ℕ} {
   unfolding ending
   end-nothing p = record { holds = rw (p, append-nil (e .s)) (e .holds) }
 
-  module _ (t : has (sink (graphOf x)) (successors x w) ≡ true) {d : ℕ} (q : d ≡ increment (graphOf x) w (sink (graphOf x))) where
-    end-from : (h : Hit) → List·Memᴰ h last-tokens → Storable h
-    end-from h i =
-        let B = e .bound (end-at .place) i in
-        record { score = B .score; code = omega (arith, B .code, few-words (e .ready)) }
+  end-from : (h : Hit) → List·Memᴰ h last-tokens → Storable h
+  end-from h i =
+      let B = e .bound (end-at .place) i in
+      record { score = B .score; code = omega (arith, B .code, few-words (e .ready)) }
 
+  keeps : bestTokens n last-tokens ≡ last-tokens
+  keeps = e .stored .kept (end-at .place)
+
+  pub end-falls : Falling (slots n (n * (getD firsts w 0 + lastAt v x w)) b)
+  end-falls = rw (end-at .slot ∙ e .stored .holds (end-at .place)) (rw keeps at (best-falling n last-tokens end-from))
+
+  module _ (t : has (sink (graphOf x)) (successors x w) ≡ true) {d : ℕ} (q : d ≡ increment (graphOf x) w (sink (graphOf x))) where
     end-to : (h : Hit) → List·Memᴰ h last-tokens → Storable (shift (pos 0) d h)
     unfolding shift
     end-to h i =
@@ -286,9 +292,6 @@ module _ {v x : List ℕ} {n : ℕ} {lists counts firsts : List ℕ} {w : ℕ} {
           score = omega (arith, B .score, size-sum (h .score) (pos 0));
           code = omega (arith, B .code, few-words (e .ready), arc-count graph-ok under (has-mem (successors x w) t), q);
         }
-
-    keeps : bestTokens n last-tokens ≡ last-tokens
-    keeps = e .stored .kept (end-at .place)
 
     end-moves : Moves (pos 0) d (bestTokens n last-tokens)
     end-moves = rw keeps (record { small = omega arith; from = end-from; to = end-to })

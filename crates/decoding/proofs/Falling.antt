@@ -8,7 +8,7 @@ use mathlib.Core.List.{List, [], _∷_, List·Memᴰ, List·Memᴰ·head as here
 use native.Mathlib.Omega.{arith}
 use borrow.Author.Tests.{ltb-true, ltb-false, le-ltb}
 use lib.Dec.{ltb, eqb}
-use lib.ListN.{length, getD, drop}
+use lib.ListN.{length, getD, drop, replicate}
 use Rattle.endian.proofs.Booleans.{cond-cases}
 use Rattle.decoding.specs.Slots.{codePart, sameCode, push, enter, offered, Falling, none, next}
 
@@ -69,6 +69,16 @@ pub falling-drop : (i : ℕ) {l : List ℕ} → Falling l → Falling (drop i l)
 falling-drop zero p = p
 falling-drop (suc i) none = none
 falling-drop (suc i) (next q p) = falling-drop i p
+
+-- behind no token is none
+pub falling-none : {l : List ℕ} → Falling (0 ∷ l) → l ≡ replicate (length l) 0
+falling-none (next q p) = all-none _ q
+  where
+    all-none : (l : List ℕ) → ((y : ℕ) → y ∈ l → y ≤ 0) → l ≡ replicate (length l) 0
+    all-none [] h = refl
+    all-none (x ∷ l) h =
+        let z : x ≡ 0 = omega (arith, h x (here refl)) in
+        rw z (ap (λ r. 0 ∷ r) (all-none l (λ y i. h y (there i))))
 
 -- ---- the early exit
 

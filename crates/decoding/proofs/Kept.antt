@@ -13,7 +13,7 @@ use Rattle.passing.proofs.Order.{hits-strict}
 use Rattle.passing.proofs.Best.{best-from, best-ranked, best-right}
 use Rattle.passing.proofs.Shifting.{best-shift}
 use Rattle.passing.proofs.Bounds.{Bounded}
-use Rattle.decoding.specs.Slots.{slots, offered, shifted, Room, Offer}
+use Rattle.decoding.specs.Slots.{slots, offered, shifted, Room, Falling, Offer}
 use Rattle.decoding.specs.Held.{held, Storable, upOf, downOf}
 use Rattle.decoding.proofs.Held.{AllStorable, Moves, shifted-held, offered-held, held-movable, held-falling}
 
@@ -22,6 +22,9 @@ bounded-storable b f w = record { score = omega (arith, b .score); code = omega 
 
 best-storable : (n : ℕ) (l : List Hit) → AllStorable l → AllStorable (best byCode n l)
 best-storable n l s h i = s h (best-from hits-strict n l h i)
+
+pub best-falling : (n : ℕ) (l : List Hit) → AllStorable l → Falling (held n (best byCode n l))
+best-falling n l s = held-falling n (best-ranked hits-strict n l) (best-storable n l s)
 
 module _ (n : ℕ) (a : ℤ) (d : ℕ) (l : List Hit) (m : Moves a d (best byCode n l)) where
   -- the place that moves
@@ -43,5 +46,5 @@ module _ (n : ℕ) (a : ℤ) (d : ℕ) (l : List Hit) (m : Moves a d (best byCod
     long = long;
     bears = rw e (held-movable a d n (best byCode n l) m);
     source = rw e (held-falling n (best-ranked hits-strict n l) (m .from));
-    target = rw f (held-falling n (best-ranked hits-strict n s) (best-storable n s t));
+    target = rw f (best-falling n s t);
   }

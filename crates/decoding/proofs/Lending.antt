@@ -1,14 +1,17 @@
--- A part of the store that is lent as a place and comes back, and a place that is copied: what their slots are. By the bytes. Assumes nothing.
-use Prim.Native.Nat.{ℕ, _+_, _-_, _*_, _<_, _≤_}
-use mathlib.Core.Path.{_≡_, ap₂, _∙_}
+-- A part of the store that is lent as a place and comes back, and a place that is copied: what their slots are. By the bytes. And the turns of the
+-- loop that offers a place the tokens of the one before it. Assumes nothing.
+use Prim.Native.Nat.{ℕ, suc, _+_, _-_, _*_, _<_, _≤_}
+use mathlib.Core.Path.{_≡_, refl, sym, ap, ap₂, _∙_}
 use mathlib.Core.Logic.{_⊎_, inl, inr, ⊎-elim}
-use mathlib.Core.List.{List, _++_}
+use mathlib.Core.List.{List, _++_, append-assoc}
 use native.Mathlib.Omega.{arith}
-use lib.ListN.{length, getD, take, drop, replicate, length-append, length-replicate, length-take, length-drop, List·getD-append}
-use lib.Seq.{getD-take, getD-drop, getD-append-add, length-take-le, take-at}
+use lib.ListN.{length, getD, take, drop, replicate, length-append, length-replicate, length-take, length-drop, replicate-append-replicate, List·getD-append}
+use lib.Seq.{getD-take, getD-drop, getD-append-add, length-take-le, take-at, take-all, drop-append-seam}
 use borrow.Rule.Slice.PartMut.{putMid}
-use Rattle.decoding.specs.Slots.{tokenAt, slots, Changed, Room, Offer}
-use Rattle.decoding.proofs.Slots.{u32-ext, slots-ext, length-slots}
+use Rattle.decoding.specs.Slots.{tokenAt, slots, Changed, enter, offered, Room, Bears, Falling, Offer}
+use Rattle.decoding.proofs.Slots.{u32-ext, slots-ext, length-slots, slots-cut, slots-step, slots-get}
+use Rattle.decoding.proofs.Falling.{falling-enter, falling-drop, falling-none}
+use Rattle.decoding.proofs.Moving.{from-holds, offered-ends, offered-goes, offered-done, offered-late}
 
 -- ---- a copy
 
@@ -17,6 +20,22 @@ copied n k b = take-at (slots n k b) (replicate (8 - n) 0) n (length-slots n k b
 
 pub length-copied : (n k : ℕ) (b : List ℕ) → n ≤ 8 → length (slots n k b ++ replicate (8 - n) 0) ≡ 8
 length-copied n k b h = rw (length-append, length-slots, length-replicate) (omega arith)
+
+-- the first empty slot ends it
+pub copied-early : (n k : ℕ) (b : List ℕ) → k < n → n ≤ 8 → Falling (slots n 0 b) → tokenAt b k ≡ 0
+    → slots k 0 b ++ replicate (8 - k) 0 ≡ slots n 0 b ++ replicate (8 - n) 0
+copied-early n k b h f falls z =
+    let zeros : ℕ → List ℕ = λ m. replicate m 0 in
+    let front = slots k 0 b in
+    let cut = slots-cut n k b (omega arith) in
+    let step = slots-step n k b h in
+    let rest : Falling (slots (n - k) k b) = rw (drop-append-seam front (slots (n - k) k b)) at (falling-drop (length front) (rw cut at falls)) in
+    let none : slots (n - (k + 1)) (k + 1) b ≡ zeros (n - (k + 1)) = rw length-slots at (falling-none (rw (step, z) at rest)) in
+    let e : n - k ≡ suc (n - (k + 1)) = omega arith in
+    let g : n - k + (8 - n) ≡ 8 - k = omega arith in
+    sym (ap (λ l. l ++ zeros (8 - n)) (cut ∙ ap (λ l. front ++ l) (step ∙ rw (z, none, e)))
+    ∙ append-assoc front (zeros (n - k)) (zeros (8 - n))
+    ∙ ap (λ l. front ++ l) (replicate-append-replicate (n - k) (8 - n) 0 ∙ ap zeros g))
 
 -- ---- a part
 
@@ -100,3 +119,59 @@ part-back b ys k n size l e f long r = record { inside = slots-ext n k 0 (putMid
 pub changed-apart : {k n : ℕ} {l b b′ : List ℕ} → Changed k n l b b′ → (m j : ℕ) → (j + m ≤ k) ⊎ (k + n ≤ j) → slots m j b′ ≡ slots m j b
 changed-apart {b} {b′} c m j h =
     slots-ext m j j b′ b (λ i g. c .outside (j + i) (⊎-elim (λ p. inl (omega arith)) (λ p. inr (omega arith)) h))
+
+-- ---- tokens of the place before
+
+-- before token i of it: what is left to offer makes the whole offer, and no other place has changed
+pub record BeforeLeft (n k up down : ℕ) (b₀ : List ℕ) (i : ℕ) (b : List ℕ) : Type 0 where
+  pub few : i ≤ n
+  pub long : length b ≡ length b₀
+  pub target : Falling (slots n k b)
+  pub outside : (j : ℕ) → (j < k) ⊎ (k + n ≤ j) → tokenAt b j ≡ tokenAt b₀ j
+  pub left : offered up down (drop i (take n (slots n (k - n) b₀))) (slots n k b) ≡ offered up down (slots n (k - n) b₀) (slots n k b₀)
+
+pub take-slots : (n k : ℕ) (b : List ℕ) → take n (slots n k b) ≡ slots n k b
+take-slots n k b = take-all n (slots n k b) (omega (arith, length-slots n k b))
+
+module _ {n k up down : ℕ} {b₀ : List ℕ} (below : n ≤ k) (o : Offer n k up down (slots n (k - n) b₀) b₀) where
+  pub before-start : BeforeLeft n k up down b₀ 0 b₀
+  before-start = record {
+    few = omega arith;
+    long = refl;
+    target = o .target;
+    outside = λ j h. refl;
+    left = ap (λ l. offered up down l (slots n k b₀)) (take-slots n (k - n) b₀);
+  }
+
+  module _ {i : ℕ} {b : List ℕ} (L : BeforeLeft n k up down b₀ i b) where
+    -- the offer ends where nothing more enters
+    before-ends : offered up down (drop i (take n (slots n (k - n) b₀))) (slots n k b) ≡ slots n k b
+        → Changed k n (offered up down (slots n (k - n) b₀) (slots n k b₀)) b₀ b
+    before-ends e = record { inside = sym e ∙ L .left; outside = L .outside }
+
+    pub before-done : n ≤ i → Changed k n (offered up down (slots n (k - n) b₀) (slots n k b₀)) b₀ b
+    before-done h = before-ends (offered-done up down n i (slots n (k - n) b₀) (slots n k b) h)
+
+    module _ (h : i < n) {token : ℕ} (read : token ≡ tokenAt b (k - n + i)) where
+      -- the token that is read is still the one at the beginning
+      old : token ≡ getD (slots n (k - n) b₀) i 0
+      old = read ∙ L .outside (k - n + i) (inl (omega arith)) ∙ sym (slots-get n (k - n) i b₀ 0 h)
+
+      pub before-none : token ≡ 0 → Changed k n (offered up down (slots n (k - n) b₀) (slots n k b₀)) b₀ b
+      before-none z = before-ends (offered-ends up down n i _ (slots n k b) h (o .long) (sym old ∙ z))
+
+      pub before-bears : ¬ (token ≡ 0) → Bears up down token
+      before-bears z = rw old (o .bears _ (from-holds n i _ h (o .long)) (λ e. z (old ∙ e)))
+
+      pub before-late : token + up - down < tokenAt b (k + n - 1) → Changed k n (offered up down (slots n (k - n) b₀) (slots n k b₀)) b₀ b
+      before-late l = before-ends (offered-late up down n i k (k + n - 1) _ b (omega arith) h (o .long) (o .source) (L .target) (rw old at l))
+
+      pub before-next : ¬ (token ≡ 0) → {b′ : List ℕ} → length b′ ≡ length b → Changed k n (enter (token + up - down) (slots n k b)) b b′
+          → BeforeLeft n k up down b₀ (i + 1) b′
+      before-next z {b′} long c = record {
+        few = omega arith;
+        long = long ∙ L .long;
+        target = rw (c .inside) (falling-enter (L .target) (token + up - down));
+        outside = λ j g. c .outside j g ∙ L .outside j g;
+        left = rw (c .inside, old) (sym (offered-goes up down n i _ (slots n k b) h (o .long) (λ e. z (old ∙ e))) ∙ L .left);
+      }

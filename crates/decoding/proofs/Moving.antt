@@ -75,10 +75,9 @@ offered-done up down n i from l h =
     rw (drop-of-length-le (take n from) {i = i} none)
 
 -- the last slot outranks the candidate
-pub offered-late : (up down n i : ℕ) (from b : List ℕ) → i < n → n ≤ length from → Falling (take n from) → Falling (slots n 0 b)
-    → getD from i 0 + up - down < tokenAt b (n - 1) → offered up down (drop i (take n from)) (slots n 0 b) ≡ slots n 0 b
-offered-late up down n i from b h f source target o =
+pub offered-late : (up down n i k at : ℕ) (from b : List ℕ) → k + (n - 1) ≡ at → i < n → n ≤ length from → Falling (take n from) → Falling (slots n k b)
+    → getD from i 0 + up - down < tokenAt b at → offered up down (drop i (take n from)) (slots n k b) ≡ slots n k b
+offered-late up down n i k at from b e h f source target o =
     let step = from-step n i from h f in
-    let z : 0 + (n - 1) ≡ n - 1 = omega arith in
-    let last : getD (slots n 0 b) (n - 1) 0 ≡ tokenAt b (n - 1) = rw z at (slots-get n 0 (n - 1) b 0 (omega arith)) in
+    let last : getD (slots n k b) (n - 1) 0 ≡ tokenAt b at = rw e at (slots-get n k (n - 1) b 0 (omega arith)) in
     rw step (early-exit up down (n - 1) (rw step at (falling-drop i source)) target (rw length-slots (omega arith)) (rw last o))

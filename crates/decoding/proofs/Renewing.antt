@@ -9,7 +9,7 @@ use native.Mathlib.Omega.{arith}
 use native.Mathlib.Nat.{mul-le-mul, mul-comm, suc-mul}
 use native.Mathlib.Decide.{decLt}
 use lib.IntN.{ℤ}
-use lib.ListN.{length, getD, replicate}
+use lib.ListN.{length, getD}
 use Rattle.endian.proofs.Bytes.{i16-range}
 use Rattle.voice.specs.Voice.{letterCount, firstState, loopScore, stepScore, emission}
 use Rattle.voice.proofs.Letters.{states-range}
@@ -25,13 +25,14 @@ use Rattle.passing.specs.InPlace.{put, renewDown}
 use Rattle.passing.proofs.Order.{hits-strict}
 use Rattle.passing.proofs.Best.{best-from, best-best, best-left}
 use Rattle.passing.proofs.InPlace.{put-state}
-use Rattle.decoding.specs.Slots.{slots, Room, Changed}
+use Rattle.decoding.specs.Slots.{slots, offered, Room, Offer, Changed}
 use Rattle.decoding.specs.Held.{held, downOf}
 use Rattle.decoding.specs.Gains.{loopGain, stepGain}
 use Rattle.decoding.specs.Carrying.{Worth, Staying, Offering, stayed, joined, Own, Renewing, renewedOne, renewedAll}
-use Rattle.decoding.proofs.Lending.{copied, length-copied, changed-apart}
+use Rattle.decoding.proofs.Slots.{length-slots}
+use Rattle.decoding.proofs.Lending.{changed-apart, take-slots}
 use Rattle.decoding.proofs.Storing.{PutAt, same, other, put-at, block, words-few, carried-bound, bound-storable, movers}
-use Rattle.decoding.proofs.Carrying.{emission-range, worth-of}
+use Rattle.decoding.proofs.Carrying.{emission-range, worth-of, worth-few, hand-ready, hand-done}
 
 mul-next : (n a : ℕ) → n * suc a ≡ n * a + n
 mul-next n a = mul-comm n (suc a) ∙ suc-mul a n ∙ ap (λ (m : ℕ). m + n) (mul-comm a n)
@@ -159,6 +160,9 @@ module _ {n entry s : ℕ} {loops steps b : List ℕ} (t : Renewing n entry (suc
     unfolding stayed staying carried
     loop-done z c = done c (renewed-is ∙ rw (step-worth .none-is z) (append-nil _))
 
+    pub step-few : getD steps (entry + s) 0 ≤ 131072
+    step-few = worth-few step-worth
+
     slot-next : n * s ≡ n * r + n
     slot-next = ap (λ (a : ℕ). n * a) e ∙ mul-next n r
 
@@ -168,41 +172,47 @@ module _ {n entry s : ℕ} {loops steps b : List ℕ} (t : Renewing n entry (suc
     slot-before : n * s - n ≡ n * r
     slot-before = omega (arith, slot-next)
 
-    module _ {b′ : List ℕ} (long : length b′ ≡ length b) where
-      pub copy-room : Room n (n * s - n) b′
-      copy-room = rw slot-before (room-at before long)
+    module _ {b′ : List ℕ} (long : length b′ ≡ length b) (c : Changed (n * s) n (held n (stayed staying)) b b′) where
+      -- the state before still holds what it held
+      old-slots : slots n (n * s - n) b′ ≡ held n (t .P (t .node) r)
+      old-slots =
+          changed-apart c n (n * s - n) (inl (omega (arith, slot-covers)))
+          ∙ rw slot-before (t .stored .holds (inside before))
 
-      module _ (c : Changed (n * s) n (held n (stayed staying)) b b′) {old : List ℕ} (o : old ≡ slots n (n * s - n) b′ ++ replicate (8 - n) 0) where
-        -- the state before still holds what it held
-        old-slots : slots n (n * s - n) b′ ≡ held n (t .P (t .node) r)
-        old-slots =
-            changed-apart c n (n * s - n) (inl (omega (arith, slot-covers)))
-            ∙ rw slot-before (t .stored .holds (inside before))
+      step-offering : Offering n (n * s) (getD steps (entry + s) 0) 281474976710656 (slots n (n * s - n) b′) b′
+      unfolding downOf stayed staying
+      step-offering = record {
+        score = stepMove (t .v) g (t .P) (t .k) (t .node) r;
+        d = 0;
+        l = t .P (t .node) r;
+        s = stayed staying;
+        worth = step-worth;
+        down-is = refl;
+        room = room-at here long;
+        long = omega (arith, length-slots n (n * s - n) b′);
+        handed = take-slots n (n * s - n) b′ ∙ old-slots;
+        movers = movers n (t .M) (t .node) (t .node) 0 _ _ words (t .fits) (t .stored .kept (inside before)) (λ a q. step-worth .small q) (λ h i. t .bound before i) (omega arith);
+        holds = c .inside;
+        best = best-best hits-strict n _;
+        storable = λ h i. bound-storable words (t .fits)
+            (carried-bound (t .M) (t .node) (t .node) 0 _ (t .P (t .node) s) (λ a q. loop-worth .small q) (λ y j. t .bound here j) (omega arith)
+            (best-from hits-strict n _ h i));
+      }
 
-        pub step-offering : Offering n (n * s) (getD steps (entry + s) 0) 281474976710656 old b′
-        unfolding downOf stayed staying
-        step-offering = record {
-          score = stepMove (t .v) g (t .P) (t .k) (t .node) r;
-          d = 0;
-          l = t .P (t .node) r;
-          s = stayed staying;
-          worth = step-worth;
-          down-is = refl;
-          room = room-at here long;
-          long = rw (o, length-copied n _ b′ (t .eight)) (t .eight);
-          handed = rw o (copied n _ b′) ∙ old-slots;
-          movers = movers n (t .M) (t .node) (t .node) 0 _ _ words (t .fits) (t .stored .kept (inside before)) (λ a q. step-worth .small q) (λ h i. t .bound before i) (omega arith);
-          holds = c .inside;
-          best = best-best hits-strict n _;
-          storable = λ h i. bound-storable words (t .fits)
-              (carried-bound (t .M) (t .node) (t .node) 0 _ (t .P (t .node) s) (λ a q. loop-worth .small q) (λ y j. t .bound here j) (omega arith)
-              (best-from hits-strict n _ h i));
-        }
+      module _ (z : ¬ (getD steps (entry + s) 0 ≡ 0)) where
+        abbrev up : ℕ
+        up = getD steps (entry + s) 0 * 4294967296
 
-        pub step-done : {b″ : List ℕ} → Changed (n * s) n (held n (joined step-offering)) b′ b″ → Own n (t .S) (renewedOne t (t .node)) b″
+        pub step-ready : Offer n (n * s) up 281474976710656 (slots n (n * s - n) b′) b′
+        step-ready = hand-ready step-offering z
+
+        pub step-done : {b″ : List ℕ} → Changed (n * s) n (offered up 281474976710656 (slots n (n * s - n) b′) (slots n (n * s) b′)) b′ b″
+            → Own n (t .S) (renewedOne t (t .node)) b″
         unfolding joined step-offering stayed staying
-        step-done d = done
-            (record { inside = d .inside ∙ ap (held n) (best-left hits-strict n _ _); outside = λ j h. d .outside j h ∙ c .outside j h })
+        step-done {b″} d =
+            let j = hand-done step-offering z {b′ = b″} (rw (take-slots n (n * s - n) b′) d) in
+            done
+            (record { inside = j .inside ∙ ap (held n) (best-left hits-strict n _ _); outside = λ i h. j .outside i h ∙ c .outside i h })
             renewed-is
 
 -- ---- all states

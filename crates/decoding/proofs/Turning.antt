@@ -24,13 +24,14 @@ use Rattle.passing.specs.InPlace.{passNode}
 use Rattle.passing.proofs.Order.{hits-strict}
 use Rattle.passing.proofs.Best.{best-from}
 use Rattle.passing.proofs.InPlace.{node-own, node-other}
-use Rattle.decoding.specs.Slots.{slots, Room}
+use Rattle.decoding.specs.Slots.{slots, Room, Falling}
 use Rattle.decoding.specs.Held.{held, pad, tokenOf}
 use Rattle.decoding.specs.Places.{firstPlace}
 use Rattle.decoding.specs.Stored.{Bound, Place, Stored, Handing, Handed, handedOn, Turn, TurnDone, turned}
 use Rattle.decoding.specs.Carrying.{Renewal, renewal}
 use Rattle.decoding.proofs.Held.{held-none}
-use Rattle.decoding.proofs.Storing.{places-few, place-there, place-room, slot-small, carried-bound}
+use Rattle.decoding.proofs.Kept.{best-falling}
+use Rattle.decoding.proofs.Storing.{places-few, words-few, place-there, place-room, slot-small, carried-bound, bound-storable}
 use Rattle.decoding.proofs.Carrying.{emission-range, move-small}
 use Rattle.decoding.proofs.Stretch.{renew-apart}
 use Rattle.decoding.proofs.Handing.{lexicon-formed, known, letter-few, state-range, place-of, first-at}
@@ -118,9 +119,6 @@ module _ {v x : List ℕ} {n : ℕ} {lists counts firsts loops steps entries : L
 
   -- ---- the copy
 
-  pub copy-ready : Room n (n * (getD firsts w 0 + count - 1)) b
-  copy-ready = rw slot-is (place-room v x (t .roomy) last)
-
   abbrev old : List Hit
   old = t .P w (lastState v g w)
 
@@ -134,13 +132,22 @@ module _ {v x : List ℕ} {n : ℕ} {lists counts firsts loops steps entries : L
       let p : Place v g w (lastState v g w) = rw last-is at last in
       rw (t .stored .kept p) at q
 
+  old-slots : slots n (n * (getD firsts w 0 + count - 1)) b ≡ held n old
+  old-slots =
+      let p : Place v g w (lastState v g w) = rw last-is at last in
+      ap (λ (k : ℕ). slots n k b) (slot-is ∙ ap (λ (s : ℕ). n * (firstPlace v g w + s)) last-is) ∙ t .stored .holds p
+
+  pub copy-ready : Room n (n * (getD firsts w 0 + count - 1)) b × Falling (slots n (n * (getD firsts w 0 + count - 1)) b)
+  copy-ready =
+      let p : Place v g w (lastState v g w) = rw last-is at last in
+      let falls : Falling (held n (bestTokens n old)) = best-falling n old
+      (λ h i. bound-storable (words-few v x (t .ready .accepted)) (omega (arith, t .fits)) (t .within .old p (omega arith) i)) in
+      (rw slot-is (place-room v x (t .roomy) last), rw old-slots (rw (t .stored .kept p) at falls))
+
   copy-is : {from : List ℕ} → from ≡ slots n (n * (getD firsts w 0 + count - 1)) b ++ replicate (8 - n) 0 → from ≡ held 8 old
   copy-is e =
-      let p : Place v g w (lastState v g w) = rw last-is at last in
-      let q : slots n (n * (getD firsts w 0 + count - 1)) b ≡ held n old =
-      ap (λ (k : ℕ). slots n k b) (slot-is ∙ ap (λ (s : ℕ). n * (firstPlace v g w + s)) last-is) ∙ t .stored .holds p in
       let m : n + (8 - n) ≡ 8 = omega (arith, t .roomy .few) in
-      e ∙ ap (λ l. l ++ replicate (8 - n) 0) q ∙ held-more n (8 - n) old old-few ∙ ap (λ (k : ℕ). held k old) m
+      e ∙ ap (λ l. l ++ replicate (8 - n) 0) old-slots ∙ held-more n (8 - n) old old-few ∙ ap (λ (k : ℕ). held k old) m
 
   -- ---- renewal
 

@@ -16,11 +16,12 @@ use Rattle.passing.proofs.Order.{hits-strict}
 use Rattle.passing.proofs.Best.{best-from}
 use Rattle.passing.proofs.Bounds.{token-bounded}
 use Rattle.passing.proofs.Decoded.{decoded-hits}
-use Rattle.decoding.specs.Slots.{tokenAt, slots, Room}
+use Rattle.decoding.specs.Slots.{tokenAt, slots, Room, Falling}
 use Rattle.decoding.specs.Held.{held, Storable}
 use Rattle.decoding.specs.Stored.{Bound, Place}
 use Rattle.decoding.specs.Running.{Empty, Run, StoredAt, Ending, Ended}
 use Rattle.decoding.proofs.Held.{held-none}
+use Rattle.decoding.proofs.Kept.{best-falling}
 use Rattle.decoding.proofs.Listing.{held-longer}
 use Rattle.decoding.proofs.Running.{empty-slots, none-best, frame-count, sound-run}
 use Rattle.decoding.proofs.Closing.{end-storable}
@@ -108,8 +109,11 @@ module _ {v x frames : List ℕ} {n : ℕ} {lists counts firsts b : List ℕ} (r
   decoded-so [] l = absurd (omega arith)
   decoded-so (k ∷ frames) l = let e : suc (length frames) - 1 ≡ length frames = omega arith in rw e
 
-  pub list-room : {m : ℕ} {list : List ℕ} → EndsLeft v x frames n m list → Room n 0 list
-  list-room d = record { some = r .roomy .some; few = r .roomy .few; room = omega (arith, d .long, r .roomy .few) }
+  pub list-ready : {m : ℕ} {list : List ℕ} → EndsLeft v x frames n m list → Room n 0 list × Falling (slots n 0 list)
+  list-ready d = (
+    record { some = r .roomy .some; few = r .roomy .few; room = omega (arith, d .long, r .roomy .few) },
+    rw (d .holds) (best-falling n (d .s) (d .storable)),
+  )
 
   module _ {m : ℕ} {list : List ℕ} (z : m ≤ 0) (d : EndsLeft v x frames n m list) where
     listed : bestTokens n (d .s) ≡ hits v (graphOf x) frames n

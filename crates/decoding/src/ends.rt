@@ -60,7 +60,8 @@ fn offer_end(
     }
     let letter = lexicon[1 + node] as usize;
     let last = voice[2 + 2 * letter] as usize - 1;
-    let tokens = copy_at(store, n, n * (firsts[node] as usize + last));
+    let mut tokens = [0; 8];
+    copy_at(store, n, n * (firsts[node] as usize + last), &mut tokens);
     offer(list, n, &tokens, LEVEL, LEVEL + increment as u64);
 }
 
@@ -97,5 +98,7 @@ pub(crate) fn best_words(
         );
         node -= 1;
     }
-    copy_place(&list[..], n)
+    let mut best = [0; 8];
+    copy_place(&list[..], n, &mut best);
+    best
 }

@@ -3,7 +3,7 @@ ghost use mathlib.Core.Path.{_≡_};
 ghost use mathlib.Core.List.{_++_};
 ghost use Prim.Native.Nat.{_-_, _*_, _≤_};
 ghost use lib.ListN.{length, take, replicate};
-ghost use Rattle.decoding.specs.Slots.{slots, codePart, position, push, enter, offered, shifted, Room, Movable, Offer};
+ghost use Rattle.decoding.specs.Slots.{slots, codePart, position, push, enter, offered, shifted, Room, Movable, Falling, Offer};
 use crate::tokens::put_token;
 use crate::tokens::same_code;
 use crate::tokens::token_at;
@@ -109,16 +109,20 @@ pub(crate) fn clear_place(part: &mut [u8], n: usize)
     }
 }
 
-// The tokens of a place, and no token after them.
-pub(crate) fn copy_place(part: &[u8], n: usize) -> [u64; 8]
-    requires { ⌜ Room n 0 (now part) ⌝ }
-    ensures { λ r. ⌜ r ≡ slots n 0 (now (part .entry)) ++ replicate (8 - n) 0 ⌝ }
+// Copies the tokens of a place to a lent list of no tokens, since one that is returned would be copied again. Behind the first empty slot are only
+// empty ones, so that the copy ends there.
+pub(crate) fn copy_place(part: &[u8], n: usize, tokens: &mut [u64; 8])
+    requires { ⌜ Room n 0 (now part) × Falling (slots n 0 (now part)) ⌝ }
+    requires { ⌜ now tokens ≡ replicate 8 0 ⌝ }
+    ensures { λ _. ⌜ now (tokens .exit) ≡ slots n 0 (now (part .entry)) ++ replicate (8 - n) 0 ⌝ }
 {
-    let mut tokens = [0; 8];
     let mut k = 0;
     while k < n {
-        tokens[k] = token_at(part, k);
+        let token = token_at(part, k);
+        if token == 0 {
+            return;
+        }
+        tokens[k] = token;
         k += 1;
     }
-    tokens
 }

@@ -11,6 +11,7 @@ ghost use Rattle.decoding.specs.Carrying.{Staying, Offering, Arc, Own, R
 use crate::parts::clear_at;
 use crate::parts::copy_at;
 use crate::parts::offer_at;
+use crate::parts::offer_before;
 use crate::parts::shift_at;
 use endian::u16_of;
 
@@ -122,8 +123,7 @@ fn renew_state(
     if gain == 0 {
         return;
     }
-    let before = copy_at(part, n, slot - n);
-    hand(part, n, slot, &before, gain, LIFT);
+    offer_before(part, n, slot, gain as u64 * 4294967296, LIFT);
 }
 
 // Renews the states in a node's part of the store, from the last to the first.
@@ -183,7 +183,8 @@ pub(crate) fn pass_node(
     let letter = lexicon[1 + node] as usize;
     let states = voice[2 + 2 * letter] as usize;
     let first = firsts[node] as usize;
-    let old = copy_at(store, n, n * (first + states - 1));
+    let mut old = [0; 8];
+    copy_at(store, n, n * (first + states - 1), &mut old);
     renew_node(store, n, 4 * letter, first, states, loops, steps);
     pass_on(
         lexicon,

@@ -1,12 +1,13 @@
 -- `ends::best_words` meets its contract: after all frames, the ends that are left give what all give. The measure is the nodes left.
 -- Assumes nothing.
+use mathlib.Core.Path.{refl}
 use Prim.Native.Nat.{_-_}
 use native.Mathlib.Omega.{arith}
 use borrow.Author.Needs.{needs}
 use Rattle.lexicon.specs.Lexicon.{nodeCount}
 use Rattle.decoding.specs.Running.{Run}
 use Rattle.decoding.proofs.Running.{run-same}
-use Rattle.decoding.proofs.Whole.{EndsLeft, ends-start, next-end, ends-next, list-room, ends-done, ends-storable}
+use Rattle.decoding.proofs.Whole.{EndsLeft, ends-start, next-end, ends-next, list-ready, ends-done, ends-storable}
 use Rattle.decoding.proofs.ends.best_words.Statement.{statement}
 use Rattle.decoding.proofs.ends.best_words.Tie as tie
 
@@ -45,13 +46,13 @@ loop-again c =
 
 copy-place-requires : tie.Need-copy-place-requires Inv-loop μ-loop
 copy-place-requires c κs =
-    let l = c .before .before in
+    let l = c .before .before .before in
     let f = l .before .before .before .before in
-    list-room (run f) (f .all-frames .ensures) (l .loop .inv)
+    (list-ready (run f) (f .all-frames .ensures) (l .loop .inv), refl)
 
 returns : tie.Need-returns Inv-loop μ-loop
 returns c =
-    let l = c .before .before in
+    let l = c .before .before .before in
     let f = l .before .before .before .before .before in
     let i = l .before .loop .inv in
     (ends-done (run f) (f .all-frames .ensures) (l .loop-test .left) i (c .copy-place .ensures), ends-storable (run f) (f .all-frames .ensures) (l .loop-test .left) i)
@@ -75,7 +76,7 @@ slice-aggregate-copy-place : tie.Need-slice-aggregate-copy-place Inv-loop μ-loo
 slice-aggregate-copy-place c = search needs
 
 same-length : tie.Need-same-length Inv-loop μ-loop
-same-length c = c .before .before .before .before .before .before .before .all-frames .kept .1 .1 .1 .1 .1 .1 .1 .0
+same-length c = c .before .before .before .before .before .before .before .before .all-frames .kept .1 .1 .1 .1 .1 .1 .1 .0
 
 pub best-words-spec : {M : Type 1} → statement M
 best-words-spec =

@@ -1,8 +1,9 @@
 -- `ends::offer_end` meets its contract: without an arc to the sink the list stays, and with one it takes what the last state holds. Assumes nothing.
 use Prim.Native.Nat.{_-_}
+use mathlib.Core.Path.{refl}
 use native.Mathlib.Omega.{arith}
 use borrow.Author.Needs.{needs}
-use Rattle.decoding.proofs.Closing.{arcs-of, EndPlace, end-place, end-none, end-there, end-nothing, end-offer, end-offered}
+use Rattle.decoding.proofs.Closing.{arcs-of, EndPlace, end-place, end-none, end-there, end-nothing, end-falls, end-offer, end-offered}
 use Rattle.decoding.proofs.ends.offer_end.Statement.{statement}
 use Rattle.decoding.proofs.ends.offer_end.Tie as tie
 
@@ -13,9 +14,14 @@ at c = end-place (c .pre .ready) (c .pre .roomy) (c .pre .low) (c .pre .high)
 returns : tie.Need-returns
 returns c e = end-nothing e (end-none e (c .before .before .last-increment .ensures) (c .if1 .taken))
 
+copy-at-requires : tie.Need-copy-at-requires
+copy-at-requires c κs =
+    let s = c .before .before .before .before .before .before .before .before .before .before .before in
+    ((at s .room, end-falls (s .pre)), refl)
+
 offer-requires : tie.Need-offer-requires
 offer-requires c κs =
-    let l = c .before .before .before .before .before .before in
+    let l = c .before .before .before .before .before .before .before in
     let i = l .before .before in
     let e = i .before .before .before .before .before .pre in
     let t = end-there e (i .last-increment .ensures) (l .if1 .left) in
@@ -25,7 +31,7 @@ returns-2 : tie.Need-returns-2
 returns-2 c e =
     let o = c .before .before in
     let k = o .before .before .before in
-    let l = k .before .before .before .before in
+    let l = k .before .before .before .before .before in
     let i = l .before .before in
     let t = end-there e (i .last-increment .ensures) (l .if1 .left) in
     end-offered e t (i .last-increment .ensures .there t) (k .copy-at .ensures) (o .offer .ensures)
@@ -51,7 +57,7 @@ offer-end-spec =
     (λ c. let h = at (c .before .before .before .before .before .before .before .before .before .before) .place-small in search needs)
     (λ c. let h = at (c .before .before .before .before .before .before .before .before .before .before) .place-small in search needs)
     (λ c. let h = at (c .before .before .before .before .before .before .before .before .before .before) .slot-small in search needs)
-    (λ c κs. at (c .before .before .before .before .before .before .before .before .before .before) .room)
+    copy-at-requires
     (λ c. search needs)
     (λ c. search needs)
     offer-requires

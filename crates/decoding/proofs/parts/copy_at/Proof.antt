@@ -10,14 +10,15 @@ use Rattle.decoding.proofs.parts.copy_at.Tie as tie
 
 copy-place-requires : tie.Need-copy-place-requires
 copy-place-requires c κs =
-    let s = c .before .before in
+    let s = c .before .before .before in
     let a = s .args in
+    let p = s .pre .0 in
     let size = part-size (a .slot) (a .n) in
-    part-room (s .pre) _ size
+    ((part-room (p .0) _ size, rw (part-slots (a .store .now) (a .slot) (a .n) _ size) (p .1)), s .pre .1)
 
 returns : tie.Need-returns
 returns c =
-    let a = c .before .before .before .args in
+    let a = c .before .before .before .before .args in
     c .copy-place .ensures
     ∙ ap (λ l. l ++ replicate {A = ℕ} (8 - a .n) 0) (part-slots (a .store .now) (a .slot) (a .n) _ (part-size (a .slot) (a .n)))
 

@@ -1,7 +1,7 @@
--- `copy_place` copies one slot after another: those before k are copied, and no token follows. The measure is what is left of them.
--- Assumes nothing.
+-- `copy_place` copies one slot after another: those before k are copied, and no token follows. The first empty slot ends it, since those behind
+-- are empty too. The measure is what is left of them. Assumes nothing.
 use Prim.Native.Nat.{ℕ, suc, _+_, _-_, _≤_}
-use mathlib.Core.Path.{_≡_, refl, ap, sym, _∙_}
+use mathlib.Core.Path.{_≡_, ap, sym, _∙_}
 use mathlib.Core.List.{_∷_, _++_}
 use native.Mathlib.Omega.{arith}
 use borrow.Author.Needs.{needs}
@@ -9,6 +9,7 @@ use lib.ListN.{set, replicate}
 use lib.Seq.{set-at, append-snoc}
 use Rattle.decoding.specs.Slots.{tokenAt, slots}
 use Rattle.decoding.proofs.Slots.{length-slots, slots-snoc}
+use Rattle.decoding.proofs.Lending.{copied-early}
 use Rattle.decoding.proofs.store.copy_place.Statement.{statement}
 use Rattle.decoding.proofs.store.copy_place.Tie as tie
 
@@ -20,26 +21,36 @@ abbrev μ-loop : tie.MeasureT-loop
 
 loop-holds : tie.Need-loop-holds Inv-loop μ-loop
 unfolding slots
-loop-holds c = (omega arith, refl)
+loop-holds c = (omega arith, c .before .pre .1)
+
+returns : tie.Need-returns Inv-loop μ-loop
+returns c =
+    let t = c .before in
+    let e = t .before in
+    let l = e .before .loop in
+    let s = e .before .before .before in
+    let p = s .pre .0 in
+    l .inv .1 ∙ copied-early (s .args .n) (l .k) (s .args .part .now) (e .loop-test .taken) (p .0 .few) (p .1) (sym (t .token-at .ensures) ∙ c .if1 .taken)
 
 loop-again : tie.Need-loop-again Inv-loop μ-loop
 loop-again c =
-    let l = c .before .before .loop in
-    let a = c .before .before .before .before .args in
+    let t = c .before in
+    let l = t .before .before .loop in
+    let a = t .before .before .before .before .args in
     let part = a .part .now in
     let room : 8 - l .k ≡ suc (8 - (l .k + 1)) = omega arith in
     let rest = replicate {A = ℕ} (8 - (l .k + 1)) 0 in
     let as-list : l .tokens ≡ slots (l .k) 0 part ++ 0 ∷ rest = rw room at (l .inv .1) in (
       omega arith,
-      ap (λ t. set t (l .k) (c .token-at .result)) as-list
-          ∙ set-at (slots (l .k) 0 part) 0 rest (c .token-at .result) (l .k) (length-slots (l .k) 0 part)
-          ∙ ap (λ t. slots (l .k) 0 part ++ t ∷ rest) (c .token-at .ensures)
+      ap (λ s. set s (l .k) (t .token-at .result)) as-list
+          ∙ set-at (slots (l .k) 0 part) 0 rest (t .token-at .result) (l .k) (length-slots (l .k) 0 part)
+          ∙ ap (λ s. slots (l .k) 0 part ++ s ∷ rest) (t .token-at .ensures)
           ∙ sym (append-snoc (slots (l .k) 0 part) (tokenAt part (l .k)) rest)
           ∙ ap (λ s. s ++ rest) (sym (slots-snoc (l .k) part)),
     )
 
-returns : tie.Need-returns Inv-loop μ-loop
-returns c =
+returns-2 : tie.Need-returns-2 Inv-loop μ-loop
+returns-2 c =
     let l = c .before .loop in
     let a = c .before .before .before .args in
     let e : a .n ≡ l .k = omega arith in
@@ -53,9 +64,10 @@ copy-place-spec =
     μ-loop
     loop-holds
     (λ c κs. search needs)
+    returns
     (λ c. search needs)
     (λ c. search needs)
     (λ c. search needs)
     (λ c. search needs)
     loop-again
-    returns)
+    returns-2)

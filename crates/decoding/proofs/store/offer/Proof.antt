@@ -46,7 +46,7 @@ returns-2 c =
     let l = e .before .loop in
     let s = e .before .before .before in
     let a = s .args in
-    sym (offered-late (a .up) (a .down) (a .n) (l .i) (a .from .now) (l .part) (e .loop-test .taken) (s .pre .long) (s .pre .source) (l .inv .2)
+    sym (offered-late (a .up) (a .down) (a .n) (l .i) 0 (a .n - 1) (a .from .now) (l .part) (omega arith) (e .loop-test .taken) (s .pre .long) (s .pre .source) (l .inv .2)
     (rw (c .before .token-at .ensures) at (c .if2 .taken)))
     ∙ l .inv .3
 

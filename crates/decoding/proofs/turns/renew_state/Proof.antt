@@ -3,7 +3,7 @@ use Prim.Native.Nat.{suc, _-_}
 use mathlib.Core.Path.{_≡_}
 use native.Mathlib.Omega.{arith}
 use borrow.Author.Needs.{needs}
-use Rattle.decoding.proofs.Renewing.{entry-few, slot-few, staying, first-done, loop-done, slot-covers, copy-room, step-offering, step-done}
+use Rattle.decoding.proofs.Renewing.{entry-few, slot-few, staying, first-done, loop-done, step-few, slot-covers, step-ready, step-done}
 use Rattle.decoding.proofs.turns.renew_state.Statement.{statement}
 use Rattle.decoding.proofs.turns.renew_state.Tie as tie
 
@@ -26,27 +26,21 @@ returns-2 c =
     let o = e .before .before .before in
     λ t. loop-done t _ (later e) (c .if2 .taken) (o .stay .ensures (staying t))
 
-copy-at-requires : tie.Need-copy-at-requires
-copy-at-requires c κs =
-    let e = c .before .before .before in
-    copy-room (start e .pre) _ (later e) (e .before .before .before .stay .kept .0)
-
-hand-requires : tie.Need-hand-requires
-hand-requires c κs =
-    let y = c .before .before in
-    let e = y .before .before .before .before in
+offer-before-requires : tie.Need-offer-before-requires
+offer-before-requires c κs =
+    let q = c .before in
+    let e = q .before .before in
     let o = e .before .before .before in
     let t = start e .pre in
-    step-offering t _ (later e) (o .stay .kept .0) (o .stay .ensures (staying t)) (y .copy-at .ensures)
+    (slot-covers t _ (later e), step-ready t _ (later e) (o .stay .kept .0) (o .stay .ensures (staying t)) (q .if2 .left))
 
 returns-3 : tie.Need-returns-3
 returns-3 c =
     let h = c .before .before in
-    let y = h .before .before .before in
-    let e = y .before .before .before .before in
+    let q = h .before .before in
+    let e = q .before .before in
     let o = e .before .before .before in
-    λ t. step-done t _ (later e) (o .stay .kept .0) (o .stay .ensures (staying t)) (y .copy-at .ensures)
-    (h .hand .ensures (step-offering t _ (later e) (o .stay .kept .0) (o .stay .ensures (staying t)) (y .copy-at .ensures)))
+    λ t. step-done t _ (later e) (o .stay .kept .0) (o .stay .ensures (staying t)) (q .if2 .left) (h .offer-before .ensures)
 
 pub renew-state-spec : {M : Type 1} → statement M
 renew-state-spec =
@@ -64,8 +58,8 @@ renew-state-spec =
     (λ c. let h = entry-few (start c .pre) in search needs)
     (search needs)
     returns-2
-    (λ c. let e = c .before .before .before in let h = slot-covers (start e .pre) _ (later e) in search needs)
-    copy-at-requires
-    hand-requires
+    (λ c. let e = c .before .before .before in let h = step-few (start e .pre) _ (later e) in search needs)
+    (λ c. let e = c .before .before .before in let h = step-few (start e .pre) _ (later e) in search needs)
+    offer-before-requires
     (search needs)
     returns-3)
