@@ -7,3 +7,4 @@ pub mod Answers
 pub mod Counts
 pub mod Decoded
 pub mod Paging
+pub mod Theorems
