@@ -1,0 +1,79 @@
+/* The seven functions, and what a run counts and finds. */
+#ifndef FUZZ_FINDINGS_H
+#define FUZZ_FINDINGS_H
+
+#include <signal.h>
+#include <stdbool.h>
+#include <stdint.h>
+#include <stdio.h>
+#include <unistd.h>
+
+enum function { CHECK, WORD_TO_CODE, CODE_TO_WORD, LIST, DECODE, PACK, UNPACK, FUNCTIONS };
+
+#define UP_TO_10 0x7fe
+#define BIT(k) (1 << (k))
+
+/* Which refusals a function can give, and how many bytes it writes for each one that it answers. */
+static const struct {
+    const char *name;
+    unsigned refusals, unit;
+    bool has_images;
+} functions[FUNCTIONS] = {
+    {"check", UP_TO_10, 0, true},
+    {"word to code", UP_TO_10 | BIT(13), 0, true},
+    {"code to word", UP_TO_10 | BIT(15) | BIT(16), 1, true},
+    {"list", UP_TO_10 | BIT(16), 1, true},
+    {"decode", UP_TO_10 | BIT(11) | BIT(12) | BIT(16), 8, true},
+    {"pack", BIT(9) | BIT(12) | BIT(15) | BIT(16), 1, false},
+    {"unpack", BIT(9) | BIT(12) | BIT(14) | BIT(15) | BIT(16), 4, false},
+};
+
+enum { MOST_WORDS = 1 << 20, HIGHEST_SCORE = 65501233, NODES = 400, IMAGE = 40 << 10, OUTPUT = 700 << 10, LISTED = 3000 };
+
+/* So many findings are printed, and end the run. */
+enum { SHOWN = 20 };
+
+static unsigned long long counts[FUNCTIONS][17], findings;
+static unsigned long long seed, first_round, round_now;
+static enum function called;
+
+static void found(const char *what)
+{
+    if (++findings <= SHOWN)
+        printf("FOUND in %s: %s (again: tests/fuzz plain 0 %llu %llu)\n", functions[called].name, what, seed, round_now);
+}
+
+static void must(bool is_true, const char *what)
+{
+    if (!is_true)
+        found(what);
+}
+
+static void print_counts(void)
+{
+    printf("rounds %llu\n%-14s%12s%12s", round_now - first_round, "", "calls", "answered");
+    for (int k = 1; k <= 16; k++)
+        printf("%9d", -k);
+    for (int f = 0; f < FUNCTIONS; f++) {
+        unsigned long long calls = 0;
+        for (int k = 0; k <= 16; k++)
+            calls += counts[f][k];
+        printf("\n%-14s%12llu%12llu", functions[f].name, calls, counts[f][0]);
+        for (int k = 1; k <= 16; k++)
+            if (functions[f].refusals & BIT(k))
+                printf("%9llu", counts[f][k]);
+            else
+                printf("%9s", "");
+    }
+    printf("\nfindings %llu\n", findings);
+    fflush(stdout);
+}
+
+static void stopped(int which)
+{
+    found(which == SIGALRM ? "the call does not end" : "a byte outside the buffers was touched, or the call stopped the program");
+    print_counts();
+    _exit(1);
+}
+
+#endif
