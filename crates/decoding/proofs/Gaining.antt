@@ -1,12 +1,10 @@
--- Laws of gains: of the sum of two biased scores; of one letter's pairs; and of the tables of gains while they are filled, state by state and
--- letter by letter. Assumes nothing.
+-- Laws of gains: of raised scores and their sum; of one letter's pairs; and of its states. Assumes nothing.
 use Prim.Native.Nat.{ℕ, zero, suc, _+_, _-_, _*_, _≤_, _<_}
 use mathlib.Core.Path.{_≡_, refl, sym, ap, ap₂, _∙_}
 use mathlib.Core.Bool.{Bool, true, false, cond, false≢true}
 use mathlib.Core.List.{List, [], _∷_}
-use mathlib.Core.Option.{Option, none, some}
+use mathlib.Core.Option.{none, some}
 use native.Mathlib.Omega.{arith}
-use native.Mathlib.Decide.{ℕ-discrete}
 use native.Mathlib.Nat.{add-zero}
 use native.Mathlib.Numerals.{add-one}
 use borrow.Author.Tests.{lt-ltb, le-ltb, ltb-true, ltb-false, eq-eqb, ne-eqb}
@@ -16,21 +14,21 @@ use lib.Signed.{mag}
 use mir.Syntax.{w16}
 use mir.Val.{toZ, ofZ}
 use mir.Facts.{toZ-ofZ}
-use lib.ListN.{length, getD, set, length-set}
-use lib.Seq.{getD-set-same, getD-set-other}
+use lib.ListN.{length, getD}
 use Rattle.endian.specs.Integers.{eqZ}
 use Rattle.endian.specs.Bytes.{i16}
 use Rattle.endian.specs.Lists.{from, sum}
 use Rattle.endian.proofs.Differences.{sub-add, movedUp, moved-below, moved-back}
 use Rattle.endian.proofs.Bytes.{i16-range}
-use Rattle.voice.specs.Voice.{letterCount, states, firstState, loopScore, stepScore, stateCount, statesAt, symbolsAt, impossible, emission}
+use Rattle.voice.specs.Fields.{wellFormed}
+use Rattle.voice.specs.Voice.{letterCount, states, firstState, loopScore, stepScore, stateCount, statesAt, impossible, voiceVerdict}
 use Rattle.voice.proofs.Tiling.{firstState-suc}
 use Rattle.voice.proofs.Letters.{states-range, states-there}
 use Rattle.voice.proofs.Scores.{letters-few, state-known, pair-there}
 use Rattle.decoder.specs.declared.score.Score.{Score}
 use Rattle.decoder.specs.Score.{meaning, possible, plus}
 use Rattle.decoding.specs.Held.{raised}
-use Rattle.decoding.specs.Gains.{gainOf, letterPairs, pairOf, pairGain, loopGain, stepGain, entryGain, Gained, MoveGains, EntryGains, Stored, Hearing, AtLetter}
+use Rattle.decoding.specs.Gains.{raisedOf, gainOf, raisedGain, letterPairs, pairOf, pairScore, Stored, loopRaised, stepRaised, AtLetter}
 
 -- ---- the sum of two scores
 
@@ -73,19 +71,16 @@ raised-sub k n m h = go (ltb n m) refl
     go true p = let l = ltb-true n m p in rw (lt-ltb n m l) (omega arith)
     go false p = let l = ltb-false n m p in rw (le-ltb n m l) (omega arith)
 
-module _ (a b : ℕ) (y z : ℤ) (p : subℕ a 134217728 ≡ y) (q : subℕ b 134217728 ≡ z) (h : mag y < 32768) (k : mag z < 32768) where
-  pub gain-room : (268369920 ≤ a + b) × (a + b < 4294967296)
-  gain-room =
-      let l = near a 134217728 32768 y p h in
-      let r = near b 134217728 32768 z q k in
-      (omega (arith, l .0, r .0), omega (arith, l .1, r .1))
+-- a biased score that is raised only
+module _ (a : ℕ) (y : ℤ) (p : subℕ a 134217728 ≡ y) (h : mag y < 32768) where
+  pub raise-room : 134184960 ≤ a
+  raise-room = omega (arith, near a 134217728 32768 y p h .0)
 
-  pub gain-sum : a + b - 268369920 ≡ gainOf (some (y +ℤ z))
-  unfolding gainOf
-  gain-sum =
-      let low : 268435456 ≤ a + b + 65536 = omega (arith, gain-room .0) in
-      let e : y +ℤ z ≡ subℕ (a + b) 268435456 = ap₂ _+ℤ_ (sym p) (sym q) ∙ sub-add a 134217728 b 134217728 in
-      rw (e, raised-sub 65536 (a + b) 268435456 low) (omega arith)
+  pub raise-is : a - 134184960 ≡ raisedOf (some y)
+  unfolding raisedOf
+  raise-is =
+      let low : 134217728 ≤ a + 32768 = near a 134217728 32768 y p h .0 in
+      rw (sym p, raised-sub 32768 a 134217728 low) (omega arith)
 
 -- ---- what a gain is, for two stored scores
 
@@ -97,17 +92,7 @@ module _ (y z : ℤ) (h : mag y < 32768) (k : mag z < 32768) where
       ap₂ _+ℤ_ (sym (moved-back 32768 y h)) (sym (moved-back 32768 z k)) ∙ sub-add (movedUp 32768 y) 32768 (movedUp 32768 z) 32768 in
       rw (e, raised-sub 65536 (movedUp 32768 y + movedUp 32768 z) 65536 (omega arith)) (omega arith)
 
-  -- it is less than 2^17
-  pub gain-below : gainOf (plus (possible y) (possible z)) < 131072
-  unfolding possible plus gainOf
-  gain-below = go (eqZ y impossible) (eqZ z impossible)
-    where
-      go : (b c : Bool) → gainOf (plus (cond b none (some y)) (cond c none (some z))) < 131072
-      go true c = omega arith
-      go false true = omega arith
-      go false false = rw gain-is (omega (arith, moved-below 32768 y h, moved-below 32768 z k))
-
-  -- and 0 only where one of them is impossible
+  -- 0 only where one of them is impossible
   pub gain-none : gainOf (plus (possible y) (possible z)) ≡ 0 → plus (possible y) (possible z) ≡ none
   unfolding possible plus gainOf eqZ impossible
   gain-none = go (eqZ y impossible) (eqZ z impossible) refl
@@ -120,6 +105,61 @@ module _ (y z : ℤ) (h : mag y < 32768) (k : mag z < 32768) where
           let n : movedUp 32768 y ≡ 0 = omega (arith, rw gain-is at e) in
           let q : y ≡ negsuc 32767 = sym (moved-back 32768 y h) ∙ ap (λ (m : ℕ). subℕ m 32768) n in
           absurd (false≢true (sym p ∙ ap (λ (w : ℤ). eqZ w impossible) q))
+
+-- one raised score
+module _ (y : ℤ) (h : mag y < 32768) where
+  up-is : raised 32768 y ≡ movedUp 32768 y
+  unfolding raised
+  up-is = go y
+    where
+      go : (z : ℤ) → raised 32768 z ≡ movedUp 32768 z
+      go (pos n) = refl
+      go (negsuc n) = refl
+
+  pub raised-below : raisedOf (possible y) < 65536
+  unfolding raisedOf possible
+  raised-below = go (eqZ y impossible)
+    where
+      go : (b : Bool) → raisedOf (cond b none (some y)) < 65536
+      go true = omega arith
+      go false = rw up-is (omega (arith, moved-below 32768 y h))
+
+  -- a possible score is never raised to 0
+  raised-some : eqZ y impossible ≡ false → 0 < raised 32768 y
+  unfolding eqZ impossible
+  raised-some p = rw up-is (go (movedUp 32768 y) refl)
+    where
+      go : (n : ℕ) → movedUp 32768 y ≡ n → 0 < n
+      go zero e =
+          let q : y ≡ negsuc 32767 = sym (moved-back 32768 y h) ∙ ap (λ (m : ℕ). subℕ m 32768) e in
+          absurd (false≢true (sym p ∙ ap (λ (w : ℤ). eqZ w impossible) q))
+      go (suc n) e = omega arith
+
+pub gain-zero : (b : ℕ) → raisedGain 0 b ≡ 0
+unfolding raisedGain
+gain-zero b = refl
+
+pub gain-silent : (a : ℕ) → raisedGain a 0 ≡ 0
+unfolding raisedGain
+gain-silent zero = refl
+gain-silent (suc a) = refl
+
+pub gain-some : (a b : ℕ) → 0 < a → 0 < b → raisedGain a b ≡ a + b
+unfolding raisedGain
+gain-some zero b h k = absurd (omega arith)
+gain-some (suc a) zero h k = absurd (omega arith)
+gain-some (suc a) (suc b) h k = refl
+
+-- the gain of two raised scores is that of the two stored ones
+pub gain-both : (y z : ℤ) → mag y < 32768 → mag z < 32768 → raisedGain (raisedOf (possible y)) (raisedOf (possible z)) ≡ gainOf (plus (possible y) (possible z))
+unfolding possible plus gainOf raisedOf
+gain-both y z h k = go (eqZ y impossible) (eqZ z impossible) refl refl
+  where
+    go : (b c : Bool) → eqZ y impossible ≡ b → eqZ z impossible ≡ c
+        → raisedGain (raisedOf (cond b none (some y))) (raisedOf (cond c none (some z))) ≡ gainOf (plus (cond b none (some y)) (cond c none (some z)))
+    go true c p q = gain-zero (raisedOf (cond c none (some z)))
+    go false true p q = gain-silent (raised 32768 y)
+    go false false p q = gain-some (raised 32768 y) (raised 32768 z) (raised-some y h p) (raised-some z k q) ∙ rw (up-is y h, up-is z k) (sym (gain-is y z h k))
 
 -- a score that a call answers
 pub back : (z : ℤ) → mag z < 32768 → toZ w16 (ofZ w16 z) ≡ z
@@ -161,17 +201,14 @@ pair-read v at s b e =
     let q : at + 2 ≡ 1 + 2 * letterCount v + 4 + 4 * s = omega arith in
     ap₂ (λ (x y : ℤ). cond b (x ∷ y ∷ []) (impossible ∷ impossible ∷ [])) (ap (i16 v) p) (ap (i16 v) q)
 
--- ---- the tables
+-- ---- one letter
 
-module _ {v : List ℕ} {at k l first : ℕ} (a : AtLetter v at k l first) where
-  few : {i : ℕ} → i < letterCount v → states v i ≤ 4
-  few h = states-range v (a .hearing .well-formed) h .1
-
+module _ {v : List ℕ} {l first : ℕ} (a : AtLetter v l first) where
   pub letter-small : l < 64
-  letter-small = omega (arith, a .letter, letters-few v (a .hearing .well-formed))
+  letter-small = omega (arith, a .letter, letters-few v (a .well-formed))
 
   pub letter-few : states v l ≤ 4
-  letter-few = few (a .letter)
+  letter-few = states-range v (a .well-formed) (a .letter) .1
 
   -- the byte that says so
   pub letter-byte : getD v (2 + 2 * l) 0 ≤ 4
@@ -179,92 +216,34 @@ module _ {v : List ℕ} {at k l first : ℕ} (a : AtLetter v at k l first) where
   letter-byte = letter-few
 
   pub letter-there : 2 + 2 * l < length v
-  letter-there = states-there v (a .hearing .well-formed) (a .letter)
+  letter-there = states-there v (a .well-formed) (a .letter)
 
   pub state-there : {s : ℕ} → s < states v l → first + s < stateCount v
-  state-there h = rw (a .begins) (state-known v (a .hearing .well-formed) (a .letter) h)
+  state-there h = rw (a .begins) (state-known v (a .well-formed) (a .letter) h)
 
   pub state-small : {s : ℕ} → s < states v l → first + s < length v
-  state-small h = omega (arith, pair-there v (a .hearing .well-formed) (state-there h))
+  state-small h = omega (arith, pair-there v (a .well-formed) (state-there h))
+
+  -- the number of its first state is small
+  pub first-small : first < length v
+  first-small = let r = states-range v (a .well-formed) (a .letter) .0 in omega (arith, state-small {s = 0} (omega arith))
 
   pub letter-inside : first + states v l ≤ stateCount v
   letter-inside =
-      let r = states-range v (a .hearing .well-formed) (a .letter) .0 in
+      let r = states-range v (a .well-formed) (a .letter) .0 in
       last (states v l) refl r
     where
       last : (n : ℕ) → states v l ≡ n → 1 ≤ n → first + n ≤ stateCount v
       last zero e h = absurd (omega arith)
       last (suc n) e h = omega (arith, state-there {s = n} (omega arith))
 
-  -- what the next state adds to the tables
-  pub record StateAdded (s : ℕ) (loops steps loops′ steps′ : List ℕ) : Type 0 where
-    pub pairs : List (List ℤ)
-    pub heard : ℤ
-    pub pairs-are : pairs ≡ letterPairs v first (states v l)
-    pub heard-is : heard ≡ emission v (first + s) k
-    pub loop : loops′ ≡ set loops (4 * l + s) (pairGain pairs s 0 heard)
-    pub no-step : s ≡ 0 → steps′ ≡ steps
-    pub step : (p : ℕ) → s ≡ suc p → steps′ ≡ set steps (4 * l + s) (pairGain pairs p 1 heard)
+  pub loop-score : (s : ℕ) → s < states v l → pairScore (letterPairs v first (states v l)) s 0 ≡ loopRaised v l s
+  unfolding pairScore loopRaised
+  loop-score s h = rw (pair-is v first (states v l) s h letter-few, a .begins)
 
-  loop-is : (s : ℕ) → s < states v l → pairGain (letterPairs v first (states v l)) s 0 (emission v (first + s) k) ≡ loopGain v k l s
-  unfolding pairGain loopGain
-  loop-is s h = rw (pair-is v first (states v l) s h letter-few, a .begins)
-
-  step-is : (s : ℕ) → suc s < states v l → pairGain (letterPairs v first (states v l)) s 1 (emission v (first + suc s) k) ≡ stepGain v k l s
-  unfolding pairGain stepGain
-  step-is s h = rw (pair-is v first (states v l) s (omega arith) letter-few, a .begins)
-
-  pub state-next : {s : ℕ} {loops steps loops′ steps′ : List ℕ} → s < states v l → Gained v k (4 * l + s) loops steps → StateAdded s loops steps loops′ steps′
-      → Gained v k (4 * l + (s + 1)) loops′ steps′
-  state-next {s} {loops} {steps} {loops′} {steps′} h g n = record {
-    long-loops = ap length (n .loop) ∙ length-set loops (4 * l + s) _ ∙ g .long-loops;
-    long-steps = stepped-long s refl;
-    loop = λ i r p q m. loop-at i r p q m (ℕ-discrete (4 * i + r) (4 * l + s));
-    step = λ i r p q m. step-at s refl i r p q m;
-  }
-    where
-      gain : pairGain (n .pairs) s 0 (n .heard) ≡ loopGain v k l s
-      gain = rw (n .pairs-are, n .heard-is) (loop-is s h)
-
-      loop-at : (i r : ℕ) → i < letterCount v → r < states v i → 4 * i + r < 4 * l + (s + 1) → Dec (4 * i + r ≡ 4 * l + s)
-          → getD loops′ (4 * i + r) 0 ≡ loopGain v k i r
-      loop-at i r p q m (yes e) =
-          let x : i ≡ l = omega (arith, few p, letter-few) in
-          let y : r ≡ s = omega (arith, few p, letter-few) in
-          rw (n .loop, x, y) (getD-set-same loops (4 * l + s) _ 0 (omega (arith, g .long-loops, letter-small, letter-few)) ∙ gain)
-      loop-at i r p q m (no d) = rw (n .loop) (getD-set-other loops (4 * l + s) (4 * i + r) _ 0 d ∙ g .loop i r p q (omega (arith, d)))
-
-      stepped-long : (t : ℕ) → s ≡ t → length steps′ ≡ 256
-      stepped-long zero e = ap length (n .no-step e) ∙ g .long-steps
-      stepped-long (suc t) e = ap length (n .step t e) ∙ length-set steps (4 * l + s) _ ∙ g .long-steps
-
-      step-at : (t : ℕ) → s ≡ t → (i r : ℕ) → i < letterCount v → suc r < states v i → 4 * i + suc r < 4 * l + (s + 1)
-          → getD steps′ (4 * i + suc r) 0 ≡ stepGain v k i r
-      step-at zero e i r p q m = rw (n .no-step e) (g .step i r p q (omega (arith, few p, letter-few)))
-      step-at (suc t) e i r p q m = stepped (ℕ-discrete (4 * i + suc r) (4 * l + s))
-        where
-          gained : pairGain (n .pairs) t 1 (n .heard) ≡ stepGain v k l t
-          gained = rw (n .pairs-are, n .heard-is, e) (step-is t (omega arith))
-
-          stepped : Dec (4 * i + suc r ≡ 4 * l + s) → getD steps′ (4 * i + suc r) 0 ≡ stepGain v k i r
-          stepped (yes d) =
-              let x : i ≡ l = omega (arith, few p, letter-few) in
-              let y : r ≡ t = omega (arith, few p, letter-few) in
-              rw (n .step t e, d) (getD-set-same steps (4 * l + s) _ 0 (omega (arith, g .long-steps, letter-small, letter-few)) ∙ gained ∙ ap₂ (stepGain v k) (sym x) (sym y))
-          stepped (no d) = rw (n .step t e) (getD-set-other steps (4 * l + s) (4 * i + suc r) _ 0 d ∙ g .step i r p q (omega (arith, d)))
-
-  -- after its states the letter is done
-  pub letter-done : {s : ℕ} {loops steps : List ℕ} → states v l ≤ s → Gained v k (4 * l + s) loops steps → Gained v k (4 * l + 4) loops steps
-  letter-done {s} h g = record {
-    long-loops = g .long-loops;
-    long-steps = g .long-steps;
-    loop = λ i r p q m. g .loop i r p q (before i r p q m (ℕ-discrete i l));
-    step = λ i r p q m. g .step i r p q (before i (suc r) p q m (ℕ-discrete i l));
-  }
-    where
-      before : (i r : ℕ) → i < letterCount v → r < states v i → 4 * i + r < 4 * l + 4 → Dec (i ≡ l) → 4 * i + r < 4 * l + s
-      before i r p q m (yes e) = let f : states v i ≡ states v l = ap (states v) e in omega arith
-      before i r p q m (no d) = omega (arith, few p, d)
+  pub step-score : (s : ℕ) → suc s < states v l → pairScore (letterPairs v first (states v l)) s 1 ≡ stepRaised v l s
+  unfolding pairScore stepRaised
+  step-score s h = rw (pair-is v first (states v l) s (omega arith) letter-few, a .begins)
 
 -- ---- letter by letter
 
@@ -278,53 +257,13 @@ pub letters-start : (v : List ℕ) → LettersPassed v 0 0
 unfolding firstState from sum
 letters-start v = record { begins = refl; inside = omega arith; few = omega arith }
 
-pub at-letter : {v : List ℕ} {at k first letter : ℕ} → Hearing v k → at ≡ symbolsAt v → LettersPassed v first letter → letter < letterCount v → AtLetter v at k letter first
-at-letter h e p l = record { hearing = h; place = e; letter = l; begins = p .begins }
+pub at-letter : {v : List ℕ} {first letter : ℕ} → voiceVerdict v ≡ wellFormed → LettersPassed v first letter → letter < letterCount v → AtLetter v letter first
+at-letter w p l = record { well-formed = w; letter = l; begins = p .begins }
 
-pub letters-next : {v : List ℕ} {at k first letter : ℕ} → AtLetter v at k letter first → LettersPassed v first letter
+pub letters-next : {v : List ℕ} {first letter : ℕ} → AtLetter v letter first → LettersPassed v first letter
     → LettersPassed v (first + states v letter) (letter + 1)
 letters-next {v} {first} {letter} a p = rw add-one (record {
   begins = rw (p .begins) (sym (firstState-suc v letter));
   inside = a .letter;
   few = omega (arith, p .few, letter-few a);
 })
-
-pub gains-start : (v : List ℕ) (k : ℕ) (loops steps : List ℕ) → length loops ≡ 256 → length steps ≡ 256 → Gained v k 0 loops steps
-gains-start v k loops steps e f = record { long-loops = e; long-steps = f; loop = λ i r p q m. absurd (omega arith); step = λ i r p q m. absurd (omega arith) }
-
-pub gains-next : {v : List ℕ} {k : ℕ} {loops steps : List ℕ} (letter : ℕ) → Gained v k (4 * letter + 4) loops steps → Gained v k (4 * (letter + 1)) loops steps
-gains-next letter g = let e : 4 * letter + 4 ≡ 4 * (letter + 1) = omega arith in rw e at g
-
-pub gains-done : {v : List ℕ} {k letter : ℕ} {loops steps : List ℕ} → Hearing v k → letterCount v ≤ letter → Gained v k (4 * letter) loops steps → MoveGains v k loops steps
-gains-done {v} h e g = record {
-  long-loops = g .long-loops;
-  long-steps = g .long-steps;
-  loop = λ i r p q. g .loop i r p q (omega (arith, states-range v (h .well-formed) p .1));
-  step = λ i r p q. g .step i r p q (omega (arith, states-range v (h .well-formed) p .1));
-}
-
--- entries of the letters below this one
-pub record Entered (v : List ℕ) (k : ℕ) (score : Option ℤ) (letter : ℕ) (entries : List ℕ) : Type 0 where
-  pub long : length entries ≡ 64
-  pub entry : (i : ℕ) → i < letter → getD entries i 0 ≡ entryGain v k score i
-
-pub entries-start : (v : List ℕ) (k : ℕ) (score : Option ℤ) (entries : List ℕ) → length entries ≡ 64 → Entered v k score 0 entries
-entries-start v k score entries e = record { long = e; entry = λ i h. absurd (omega arith) }
-
-pub entries-next : {v : List ℕ} {at k letter first : ℕ} {score : Option ℤ} {entries : List ℕ} {e : ℕ} → AtLetter v at k letter first → Entered v k score letter entries
-    → e ≡ gainOf (plus score (possible (emission v first k))) → Entered v k score (letter + 1) (set entries letter e)
-unfolding entryGain
-entries-next {v} {at} {k} {letter} {first} {score} {entries} {e} a p q = record {
-  long = length-set entries letter e ∙ p .long;
-  entry = λ i h. held i h (ℕ-discrete i letter);
-}
-  where
-    gain : e ≡ entryGain v k score letter
-    gain = q ∙ rw (a .begins, add-zero (firstState v letter))
-
-    held : (i : ℕ) → i < letter + 1 → Dec (i ≡ letter) → getD (set entries letter e) i 0 ≡ entryGain v k score i
-    held i h (yes d) = rw d (getD-set-same entries letter e 0 (omega (arith, p .long, letter-small a)) ∙ gain)
-    held i h (no d) = getD-set-other entries letter i e 0 d ∙ p .entry i (omega (arith, d))
-
-pub entries-done : {v : List ℕ} {k letter : ℕ} {score : Option ℤ} {entries : List ℕ} → letterCount v ≤ letter → Entered v k score letter entries → EntryGains v k score entries
-entries-done h p = record { long = p .long; entry = λ i l. p .entry i (omega arith) }

@@ -101,7 +101,7 @@ module _ {x : List ℕ} {n nodes : ℕ} {firsts entries from : List ℕ} {u down
   unfolding nodeLetter entryGain heard stateOf
   worth k =
       worth-by (h .moved) (emission (h .v) (firstState (h .v) (nodeLetter x u) + 0) (h .k)) (h .score-is) (h .small) (emission-range (h .v) _ (h .k))
-      (h .gains .entry (nodeLetter x u) (known (h .ready) (omega (arith, rises .0)) k))
+      (h .gains .entry u (omega (arith, rises .0)) k)
 
   module _ (k : u ≤ nodeCount x) where
     one : 1 ≤ u

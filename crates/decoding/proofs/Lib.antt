@@ -13,6 +13,7 @@ pub mod Listing
 pub mod Search
 pub mod Storing
 pub mod Carrying
+pub mod Filling
 pub mod Handing
 pub mod Renewing
 pub mod Stretch

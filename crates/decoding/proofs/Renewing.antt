@@ -117,7 +117,7 @@ module _ {n entry s : ℕ} {loops steps b : List ℕ} (t : Renewing n entry (suc
       let at : entry + s ≡ 4 * letter + s = omega (arith, t .entry-is) in
       worth-of (loopScore (t .v) (firstState (t .v) letter + s)) (emission (t .v) (firstState (t .v) letter + s) (t .k))
       (i16-range (t .v) _) (emission-range (t .v) _ (t .k))
-      (ap (λ i. getD loops i 0) at ∙ t .moves .loop letter s known (omega (arith, t .few)))
+      (ap (λ i. getD loops i 0) at ∙ t .moves .loop (t .node) s (t .low) (t .high) (omega (arith, t .few)))
 
   pub staying : Staying n (n * s) (getD loops (entry + s) 0) b
   staying = record {
@@ -149,7 +149,7 @@ module _ {n entry s : ℕ} {loops steps b : List ℕ} (t : Renewing n entry (suc
         let at : entry + s ≡ 4 * letter + suc r = omega (arith, t .entry-is) in
         worth-of (stepScore (t .v) (firstState (t .v) letter + r)) (emission (t .v) (firstState (t .v) letter + suc r) (t .k))
         (i16-range (t .v) _) (emission-range (t .v) _ (t .k))
-        (ap (λ i. getD steps i 0) at ∙ t .moves .step letter r known (omega (arith, t .few)))
+        (ap (λ i. getD steps i 0) at ∙ t .moves .step (t .node) r (t .low) (t .high) (omega (arith, t .few)))
 
     renewed-is : renewed (t .v) g (t .P) (t .k) (t .node) s
         ≡ carried (loopMove (t .v) g (t .P) (t .k) (t .node) s) 0 (t .P (t .node) s) ++ carried (stepMove (t .v) g (t .P) (t .k) (t .node) r) 0 (t .P (t .node) r)

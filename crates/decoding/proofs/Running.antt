@@ -79,10 +79,6 @@ module _ (v frames : List ℕ) (h : AcceptedFrames v frames) where
       go (y ∷ l) e zero k = leb-false (symbolCount v) y (or-none (leb (symbolCount v) y) (any (λ k. leb (symbolCount v) k) l) e .0)
       go (y ∷ l) e (suc i) k = go l (or-none (leb (symbolCount v) y) (any (λ k. leb (symbolCount v) k) l) e .1) i (omega arith)
 
-pub root-score : possible (pos 0) ≡ some (pos 0)
-unfolding possible eqZ impossible
-root-score = refl
-
 module _ {v x frames : List ℕ} {n : ℕ} {lists counts firsts b : List ℕ} (r : Run v x frames n lists counts firsts b) where
   pub sound-run : Sound (graphOf x)
   sound-run = sound (letterCount v) x (accepted (r .ready .accepted) .lexicon)
@@ -92,7 +88,7 @@ module _ {v x frames : List ℕ} {n : ℕ} {lists counts firsts b : List ℕ} (r
 
   -- ---- the first frame
 
-  module _ (e : Empty b) {entries from : List ℕ} (gains : EntryGains v (getD frames 0 0) (some (pos 0)) entries) (f : from ≡ held 8 (hit (pos 0) 0 ∷ [])) where
+  module _ (e : Empty b) {entries from : List ℕ} (gains : EntryGains v x (getD frames 0 0) (some (pos 0)) entries) (f : from ≡ held 8 (hit (pos 0) 0 ∷ [])) where
     pub one-best : (n : ℕ) → 1 ≤ n → bestTokens n (hit (pos 0) 0 ∷ []) ≡ hit (pos 0) 0 ∷ []
     unfolding rowOf insert
     one-best zero h = absurd (omega arith)
@@ -158,8 +154,8 @@ module _ {v x frames : List ℕ} {n : ℕ} {lists counts firsts b₀ : List ℕ}
     long = refl;
   })
 
-  module _ (h : suc t < length frames) {loops steps entries : List ℕ} (moves : MoveGains v (getD frames (suc t) 0) loops steps)
-      (links : EntryGains v (getD frames (suc t) 0) (possible (linkScore v 0)) entries) {m : ℕ} {b : List ℕ} (k : 1 ≤ m) (d : TurnsLeft v x frames n t m b₀ b) where
+  module _ (h : suc t < length frames) {loops steps entries : List ℕ} (moves : MoveGains v x (getD frames (suc t) 0) loops steps)
+      (links : EntryGains v x (getD frames (suc t) 0) (possible (linkScore v 0)) entries) {m : ℕ} {b : List ℕ} (k : 1 ≤ m) (d : TurnsLeft v x frames n t m b₀ b) where
     unfoldable pub turn-next : Turn v x n lists counts firsts loops steps entries m b
     turn-next = record {
       k = getD frames (suc t) 0;

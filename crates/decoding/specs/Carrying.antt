@@ -106,7 +106,7 @@ pub record Renewing (n entry s : ℕ) (loops steps part : List ℕ) : Type 0 whe
   pub all : S ≤ states v (nodeLetter x node)
   pub few : s ≤ S
   pub entry-is : entry ≡ 4 * nodeLetter x node
-  pub moves : MoveGains v k loops steps
+  pub moves : MoveGains v x k loops steps
   pub stored : Own n S (P node) part
   pub bound : {r : ℕ} {h : Hit} → r < s → List·Memᴰ h (P node r) → Bound (graphOf x) M node h
   pub fits : M + 65536 ≤ 67108864
@@ -133,7 +133,7 @@ pub record Renewal (n entry first s : ℕ) (loops steps b : List ℕ) : Type 0 w
   pub all : s ≡ states v (nodeLetter x node)
   pub entry-is : entry ≡ 4 * nodeLetter x node
   pub first-is : first ≡ firstPlace v (graphOf x) node
-  pub moves : MoveGains v k loops steps
+  pub moves : MoveGains v x k loops steps
   pub stored : Stored v (graphOf x) n P b
   pub bound : {r : ℕ} {h : Hit} → r < s → List·Memᴰ h (P node r) → Bound (graphOf x) M node h
   pub fits : M + 65536 ≤ 67108864

@@ -69,7 +69,7 @@ pub record Handing (x : List ℕ) (n : ℕ) (lists counts firsts entries : List 
   pub ready : Ready v x lists counts firsts
   pub roomy : Roomy v x n b
   pub vertex : w ≤ nodeCount x
-  pub gains : EntryGains v k score entries
+  pub gains : EntryGains v x k score entries
   -- the score is a stored one
   pub moved : ℤ
   pub score-is : score ≡ possible moved
@@ -100,8 +100,8 @@ pub record Turn (v x : List ℕ) (n : ℕ) (lists counts firsts loops steps entr
   pub roomy : Roomy v x n b
   pub low : 1 ≤ w
   pub high : w ≤ nodeCount x
-  pub moves : MoveGains v k loops steps
-  pub links : EntryGains v k (possible (linkScore v 0)) entries
+  pub moves : MoveGains v x k loops steps
+  pub links : EntryGains v x k (possible (linkScore v 0)) entries
   pub stored : Stored v (graphOf x) n P b
   pub within : Within v (graphOf x) w M P
   pub fits : M + 65536 ≤ 67108864

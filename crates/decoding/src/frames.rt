@@ -3,16 +3,24 @@ ghost use mathlib.Core.Path.{_≡_};
 ghost use Prim.Native.Nat.{suc, _-_, _<_};
 ghost use lib.ListN.{length};
 ghost use Rattle.voice.specs.Voice.{linkScore};
+ghost use Rattle.decoder.specs.Score.{possible};
+ghost use Rattle.decoding.specs.Gains.{raisedOf, InUse, Scored, Long};
 ghost use Rattle.decoding.specs.Running.{Empty, Run, StoredAt};
-use crate::gains::entry_gains;
+use crate::gains::frame_gains;
+use crate::gains::letter_begins;
+use crate::gains::letters_in_use;
 use crate::gains::link_score;
-use crate::gains::move_gains;
+use crate::gains::raise;
+use crate::gains::raised_scores;
 use crate::turns::pass_node;
 use crate::turns::pass_on;
 use endian::u16_at;
 
 // The token of score 0 and code 0.
 const ROOT: u64 = 576460756598390783;
+
+// A score of 0, raised: what the root's token enters by.
+const RAISED_ZERO: u32 = 32768;
 
 // The first frame: the root's token is passed on into an empty store.
 fn first_frame(
@@ -22,17 +30,40 @@ fn first_frame(
     lists: &[u16; 402],
     counts: &[u32; 402],
     firsts: &[u16; 402],
+    letters: &[u8; 64],
+    used: usize,
+    begins: &[u16; 64],
+    looping: &[u32; 256],
+    stepping: &[u32; 256],
     frames: &[u8],
+    loops: &mut [u32; 256],
+    steps: &mut [u32; 256],
+    entries: &mut [u32; 64],
     store: &mut [u8],
 )
     requires { ⌜ Run (now voice) (now lexicon) (now frames) n (now lists) (now counts) (now firsts) (now store) ⌝ }
     requires { ⌜ Empty (now store) ⌝ }
+    requires { ⌜ InUse (now voice) (now lexicon) (now letters) used × Scored (now voice) (now letters) used (now begins) (now looping) (now stepping) ⌝ }
+    requires { ⌜ Long (now loops) (now steps) (now entries) ⌝ }
     ensures { λ _. ⌜ StoredAt (now (voice .entry)) (now (lexicon .entry)) (now (frames .entry)) n 0 (now (store .exit)) ⌝ }
+    ensures { λ _. ⌜ Long (now (loops .exit)) (now (steps .exit)) (now (entries .exit)) ⌝ }
 {
-    let mut entries = [0u32; 64];
-    entry_gains(voice, 0, frames[0] as usize, &mut entries);
+    let symbol = frames[0] as usize;
+    frame_gains(
+        voice,
+        symbol,
+        RAISED_ZERO,
+        letters,
+        used,
+        begins,
+        looping,
+        stepping,
+        loops,
+        steps,
+        entries,
+    );
     let from = [ROOT, 0, 0, 0, 0, 0, 0, 0];
-    pass_on(lexicon, n, lists, counts, firsts, &entries, 0, &from, store);
+    pass_on(lexicon, n, lists, counts, firsts, entries, 0, &from, store);
 }
 
 // The frame after frame t.
@@ -43,22 +74,41 @@ fn next_frame(
     lists: &[u16; 402],
     counts: &[u32; 402],
     firsts: &[u16; 402],
-    link: i16,
+    letters: &[u8; 64],
+    used: usize,
+    begins: &[u16; 64],
+    looping: &[u32; 256],
+    stepping: &[u32; 256],
+    link: u32,
     frames: &[u8],
     t: usize,
+    loops: &mut [u32; 256],
+    steps: &mut [u32; 256],
+    entries: &mut [u32; 64],
     store: &mut [u8],
 )
     requires { ⌜ Run (now voice) (now lexicon) (now frames) n (now lists) (now counts) (now firsts) (now store) ⌝ }
-    requires { ⌜ (link ≡ linkScore (now voice) 0) × (suc t < length (now frames)) ⌝ }
+    requires { ⌜ (link ≡ raisedOf (possible (linkScore (now voice) 0))) × (suc t < length (now frames)) ⌝ }
     requires { ⌜ StoredAt (now voice) (now lexicon) (now frames) n t (now store) ⌝ }
+    requires { ⌜ InUse (now voice) (now lexicon) (now letters) used × Scored (now voice) (now letters) used (now begins) (now looping) (now stepping) ⌝ }
+    requires { ⌜ Long (now loops) (now steps) (now entries) ⌝ }
     ensures { λ _. ⌜ StoredAt (now (voice .entry)) (now (lexicon .entry)) (now (frames .entry)) n (suc t) (now (store .exit)) ⌝ }
+    ensures { λ _. ⌜ Long (now (loops .exit)) (now (steps .exit)) (now (entries .exit)) ⌝ }
 {
     let symbol = frames[t + 1] as usize;
-    let mut loops = [0u32; 256];
-    let mut steps = [0u32; 256];
-    move_gains(voice, symbol, &mut loops, &mut steps);
-    let mut entries = [0u32; 64];
-    entry_gains(voice, link, symbol, &mut entries);
+    frame_gains(
+        voice,
+        symbol,
+        link,
+        letters,
+        used,
+        begins,
+        looping,
+        stepping,
+        loops,
+        steps,
+        entries,
+    );
     let mut node = u16_at(lexicon, 0) as usize;
     while 0 < node {
         pass_node(
@@ -68,14 +118,128 @@ fn next_frame(
             lists,
             counts,
             firsts,
-            &loops,
-            &steps,
-            &entries,
+            loops,
+            steps,
+            entries,
             node,
             store,
         );
         node -= 1;
     }
+}
+
+// The frames after the first.
+fn later_frames(
+    voice: &[u8],
+    lexicon: &[u8],
+    n: usize,
+    lists: &[u16; 402],
+    counts: &[u32; 402],
+    firsts: &[u16; 402],
+    letters: &[u8; 64],
+    used: usize,
+    begins: &[u16; 64],
+    looping: &[u32; 256],
+    stepping: &[u32; 256],
+    frames: &[u8],
+    loops: &mut [u32; 256],
+    steps: &mut [u32; 256],
+    entries: &mut [u32; 64],
+    store: &mut [u8],
+)
+    requires { ⌜ Run (now voice) (now lexicon) (now frames) n (now lists) (now counts) (now firsts) (now store) ⌝ }
+    requires { ⌜ StoredAt (now voice) (now lexicon) (now frames) n 0 (now store) ⌝ }
+    requires { ⌜ InUse (now voice) (now lexicon) (now letters) used × Scored (now voice) (now letters) used (now begins) (now looping) (now stepping) ⌝ }
+    requires { ⌜ Long (now loops) (now steps) (now entries) ⌝ }
+    ensures { λ _. ⌜ StoredAt (now (voice .entry)) (now (lexicon .entry)) (now (frames .entry)) n (length (now (frames .entry)) - 1) (now (store .exit)) ⌝ }
+{
+    let link = raise(link_score(voice));
+    let mut t = 0;
+    while t + 1 < frames.len() {
+        next_frame(
+            voice,
+            lexicon,
+            n,
+            lists,
+            counts,
+            firsts,
+            letters,
+            used,
+            begins,
+            looping,
+            stepping,
+            link,
+            frames,
+            t,
+            loops,
+            steps,
+            entries,
+            store,
+        );
+        t += 1;
+    }
+}
+
+// All frames, with the tables of the letters in use at hand.
+fn run_frames(
+    voice: &[u8],
+    lexicon: &[u8],
+    n: usize,
+    lists: &[u16; 402],
+    counts: &[u32; 402],
+    firsts: &[u16; 402],
+    letters: &[u8; 64],
+    used: usize,
+    begins: &[u16; 64],
+    looping: &[u32; 256],
+    stepping: &[u32; 256],
+    frames: &[u8],
+    store: &mut [u8],
+)
+    requires { ⌜ Run (now voice) (now lexicon) (now frames) n (now lists) (now counts) (now firsts) (now store) ⌝ }
+    requires { ⌜ Empty (now store) ⌝ }
+    requires { ⌜ InUse (now voice) (now lexicon) (now letters) used × Scored (now voice) (now letters) used (now begins) (now looping) (now stepping) ⌝ }
+    ensures { λ _. ⌜ StoredAt (now (voice .entry)) (now (lexicon .entry)) (now (frames .entry)) n (length (now (frames .entry)) - 1) (now (store .exit)) ⌝ }
+{
+    let mut loops = [0u32; 256];
+    let mut steps = [0u32; 256];
+    let mut entries = [0u32; 64];
+    first_frame(
+        voice,
+        lexicon,
+        n,
+        lists,
+        counts,
+        firsts,
+        letters,
+        used,
+        begins,
+        looping,
+        stepping,
+        frames,
+        &mut loops,
+        &mut steps,
+        &mut entries,
+        store,
+    );
+    later_frames(
+        voice,
+        lexicon,
+        n,
+        lists,
+        counts,
+        firsts,
+        letters,
+        used,
+        begins,
+        looping,
+        stepping,
+        frames,
+        &mut loops,
+        &mut steps,
+        &mut entries,
+        store,
+    );
 }
 
 // All frames, of which there is at least one.
@@ -93,22 +257,26 @@ pub(crate) fn all_frames(
     requires { ⌜ Empty (now store) ⌝ }
     ensures { λ _. ⌜ StoredAt (now (voice .entry)) (now (lexicon .entry)) (now (frames .entry)) n (length (now (frames .entry)) - 1) (now (store .exit)) ⌝ }
 {
-    first_frame(voice, lexicon, n, lists, counts, firsts, frames, store);
-    let link = link_score(voice);
-    let mut t = 0;
-    while t + 1 < frames.len() {
-        next_frame(
-            voice,
-            lexicon,
-            n,
-            lists,
-            counts,
-            firsts,
-            link,
-            frames,
-            t,
-            store,
-        );
-        t += 1;
-    }
+    let mut letters = [0u8; 64];
+    let used = letters_in_use(voice, lexicon, &mut letters);
+    let mut begins = [0u16; 64];
+    letter_begins(voice, &mut begins);
+    let mut looping = [0u32; 256];
+    let mut stepping = [0u32; 256];
+    raised_scores(voice, &letters, used, &begins, &mut looping, &mut stepping);
+    run_frames(
+        voice,
+        lexicon,
+        n,
+        lists,
+        counts,
+        firsts,
+        &letters,
+        used,
+        &begins,
+        &looping,
+        &stepping,
+        frames,
+        store,
+    );
 }

@@ -1,15 +1,18 @@
 // The gains of one frame's moves. A gain is what a move and the emission after it add to a token: the two stored scores, each raised by 32,768
-// so that the sum has no sign, and 0 where one of them is impossible.
+// so that the sum has no sign, and 0 where one of them is impossible. Gains are found for letters that some node has; what doesn't depend on
+// the frame is found once a call. `looping` and `stepping` hold the raised scores of loops and steps, `loops` and `steps` their gains.
 ghost use mathlib.Core.Path.{_≡_};
 ghost use mathlib.Core.Bool.{true, cond};
 ghost use mathlib.Core.List.{[], _∷_};
 ghost use Prim.Native.Nat.{ℕ, suc, _+_, _*_, _≤_, _<_};
-ghost use lib.ListN.{length, set};
+ghost use lib.ListN.{length, getD, set};
 ghost use Rattle.endian.specs.Bytes.{i16};
 ghost use Rattle.voice.specs.Fields.{wellFormed};
-ghost use Rattle.voice.specs.Voice.{linkScore, stateCount, symbolsAt, impossible, emission, voiceVerdict};
-ghost use Rattle.decoder.specs.Score.{possible, plus};
-ghost use Rattle.decoding.specs.Gains.{gainOf, letterPairs, pairGain, Gained, MoveGains, EntryGains, Stored, Hearing, AtLetter};
+ghost use Rattle.voice.specs.Voice.{letterCount, linkScore, stateCount, symbolsAt, impossible, voiceVerdict};
+ghost use Rattle.lexicon.specs.Lexicon.{nodeCount, nodeLetter, lexiconVerdict};
+ghost use Rattle.checking.specs.Tables.{WellFormed};
+ghost use Rattle.decoder.specs.Score.{possible};
+ghost use Rattle.decoding.specs.Gains.{raisedOf, raisedGain, letterPairs, pairScore, Stored, loopRaised, stepRaised, loopGain, stepGain, linkGain, Marked, Letters, InUse, Begins, LetterEntries, Entries, Filled, Scored, Gained, Hearing, AtLetter, Long};
 use decoder::score::Score;
 use endian::i16_of;
 use endian::u16_at;
@@ -17,32 +20,42 @@ use endian::u16_at;
 // The score of the voice model that means impossible.
 const IMPOSSIBLE: i16 = -32768;
 
-// Twice the bias of a score, less 2^16.
-const LIFT: u32 = 268369920;
+// The bias of a score, less 2^15.
+const LIFT: u32 = 134184960;
 
-// The gain of a move and an emission.
-fn gain(moved: i16, heard: i16) -> u32
-    ensures { λ r. ⌜ r ≡ gainOf (plus (possible moved) (possible heard)) ⌝ }
+// A stored score raised by 32,768, and 0 where it is impossible.
+pub(crate) fn raise(stored: i16) -> u32
+    ensures { λ r. ⌜ r ≡ raisedOf (possible stored) ⌝ }
 {
-    let first = Score::from_stored(moved);
-    let second = Score::from_stored(heard);
+    let score = Score::from_stored(stored);
     let none = Score::IMPOSSIBLE;
-    if first.0 == none.0 {
+    if score.0 == none.0 {
         return 0;
     }
-    if second.0 == none.0 {
-        return 0;
-    }
-    first.0 + second.0 - LIFT
+    score.0 - LIFT
 }
 
-// The move scorer: of one letter's pairs, the loop (0) or the step (1) of a state, with an emission.
-fn move_gain(pairs: [[i16; 2]; 4], state: usize, which: usize, heard: i16) -> u32
+// The gain of a move and an emission, both raised.
+fn gain(moved: u32, heard: u32) -> u32
+    requires { ⌜ (moved < 65536) × (heard < 65536) ⌝ }
+    ensures { λ r. ⌜ r ≡ raisedGain moved heard ⌝ }
+{
+    if moved == 0 {
+        return 0;
+    }
+    if heard == 0 {
+        return 0;
+    }
+    moved + heard
+}
+
+// The move scorer: of one letter's pairs, the raised loop (0) or step (1) of a state.
+fn move_score(pairs: [[i16; 2]; 4], state: usize, which: usize) -> u32
     requires { ⌜ (state < 4) × (which < 2) ⌝ }
     requires { ⌜ Stored pairs ⌝ }
-    ensures { λ r. ⌜ r ≡ pairGain pairs state which heard ⌝ }
+    ensures { λ r. ⌜ r ≡ pairScore pairs state which ⌝ }
 {
-    gain(pairs[state][which], heard)
+    raise(pairs[state][which])
 }
 
 // The score at an offset inside the voice model.
@@ -95,91 +108,242 @@ pub(crate) fn link_score(voice: &[u8]) -> i16
     score_at(voice, symbols_at(voice) - 2)
 }
 
-// What symbol k scores in a state.
-fn emission_at(voice: &[u8], at: usize, state: usize, k: usize) -> i16
-    requires { ⌜ Hearing (now voice) k ⌝ }
-    requires { ⌜ (at ≡ symbolsAt (now voice)) × (state < stateCount (now voice)) ⌝ }
-    ensures { λ r. ⌜ r ≡ emission (now (voice .entry)) state k ⌝ }
+// Marks each letter that some node has.
+fn mark_letters(lexicon: &[u8], marks: &mut [bool; 64])
+    requires { ⌜ WellFormed (now lexicon) × ((u : ℕ) → 1 ≤ u → u ≤ nodeCount (now lexicon) → nodeLetter (now lexicon) u < 64) ⌝ }
+    requires { ⌜ Marked (now lexicon) 0 (now marks) ⌝ }
+    ensures { λ _. ⌜ Marked (now (lexicon .entry)) (nodeCount (now (lexicon .entry))) (now (marks .exit)) ⌝ }
 {
-    let symbols = voice[at] as usize;
-    score_at(voice, at + 1 + 2 * (state * symbols + k))
-}
-
-// One state's gains: of its loop, and of the step from the state before it.
-fn state_gains(
-    pairs: [[i16; 2]; 4],
-    state: usize,
-    heard: i16,
-    entry: usize,
-    loops: &mut [u32; 256],
-    steps: &mut [u32; 256],
-)
-    requires { ⌜ (state < 4) × (entry < 256) ⌝ }
-    requires { ⌜ Stored pairs ⌝ }
-    ensures { λ _. ⌜ now (loops .exit) ≡ set (now (loops .entry)) entry (pairGain pairs state 0 heard) ⌝ }
-    ensures { λ _. ⌜ (state ≡ 0 → now (steps .exit) ≡ now (steps .entry)) ⌝ }
-    ensures { λ _. ⌜ ((s : ℕ) → state ≡ suc s → now (steps .exit) ≡ set (now (steps .entry)) entry (pairGain pairs s 1 heard)) ⌝ }
-{
-    loops[entry] = move_gain(pairs, state, 0, heard);
-    if 0 < state {
-        steps[entry] = move_gain(pairs, state - 1, 1, heard);
+    let nodes = u16_at(lexicon, 0) as usize;
+    let mut node = 0;
+    while node < nodes {
+        let letter = lexicon[2 + node] as usize;
+        marks[letter] = true;
+        node += 1;
     }
 }
 
-// The gains of one letter, whose states begin with number `first`.
-fn letter_gains(
+// The letters in use, in rising order; answers how many.
+pub(crate) fn letters_in_use(voice: &[u8], lexicon: &[u8], letters: &mut [u8; 64]) -> usize
+    requires { ⌜ (voiceVerdict (now voice) ≡ wellFormed) × (lexiconVerdict (letterCount (now voice)) (now lexicon) ≡ wellFormed) ⌝ }
+    requires { ⌜ length (now letters) ≡ 64 ⌝ }
+    ensures { λ r. ⌜ InUse (now (voice .entry)) (now (lexicon .entry)) (now (letters .exit)) r ⌝ }
+{
+    let mut marks = [false; 64];
+    mark_letters(lexicon, &mut marks);
+    let count = voice[0] as usize;
+    let mut used = 0;
+    let mut letter = 0;
+    while letter < count {
+        if marks[letter] {
+            letters[used] = letter as u8;
+            used += 1;
+        }
+        letter += 1;
+    }
+    used
+}
+
+// The number of each letter's first state.
+pub(crate) fn letter_begins(voice: &[u8], begins: &mut [u16; 64])
+    requires { ⌜ voiceVerdict (now voice) ≡ wellFormed ⌝ }
+    requires { ⌜ length (now begins) ≡ 64 ⌝ }
+    ensures { λ _. ⌜ Begins (now (voice .entry)) (now (begins .exit)) ⌝ }
+{
+    let letters = voice[0] as usize;
+    let mut first: usize = 0;
+    let mut letter = 0;
+    while letter < letters {
+        begins[letter] = first as u16;
+        first += voice[2 + 2 * letter] as usize;
+        letter += 1;
+    }
+}
+
+// One state's raised scores: of its loop, and of the step from the state before it.
+fn state_scores(
+    pairs: [[i16; 2]; 4],
+    state: usize,
+    entry: usize,
+    looping: &mut [u32; 256],
+    stepping: &mut [u32; 256],
+)
+    requires { ⌜ (state < 4) × (entry < 256) ⌝ }
+    requires { ⌜ Stored pairs ⌝ }
+    ensures { λ _. ⌜ now (looping .exit) ≡ set (now (looping .entry)) entry (pairScore pairs state 0) ⌝ }
+    ensures { λ _. ⌜ (state ≡ 0 → now (stepping .exit) ≡ now (stepping .entry)) ⌝ }
+    ensures { λ _. ⌜ ((s : ℕ) → state ≡ suc s → now (stepping .exit) ≡ set (now (stepping .entry)) entry (pairScore pairs s 1)) ⌝ }
+{
+    looping[entry] = move_score(pairs, state, 0);
+    if 0 < state {
+        stepping[entry] = move_score(pairs, state - 1, 1);
+    }
+}
+
+// The raised scores of one letter, whose states begin with number `first`.
+fn letter_scores(
     voice: &[u8],
-    at: usize,
-    k: usize,
     letter: usize,
     first: usize,
-    loops: &mut [u32; 256],
-    steps: &mut [u32; 256],
+    looping: &mut [u32; 256],
+    stepping: &mut [u32; 256],
 )
-    requires { ⌜ AtLetter (now voice) at k letter first ⌝ }
-    requires { ⌜ Gained (now voice) k (4 * letter) (now loops) (now steps) ⌝ }
-    ensures { λ _. ⌜ Gained (now (voice .entry)) k (4 * letter + 4) (now (loops .exit)) (now (steps .exit)) ⌝ }
+    requires { ⌜ AtLetter (now voice) letter first ⌝ }
+    requires { ⌜ (length (now looping) ≡ 256) × (length (now stepping) ≡ 256) ⌝ }
+    ensures { λ _. ⌜ Filled (now (voice .entry)) (loopRaised (now (voice .entry))) (stepRaised (now (voice .entry))) letter (now (looping .entry)) (now (stepping .entry)) (now (looping .exit)) (now (stepping .exit)) ⌝ }
 {
     let states = voice[2 + 2 * letter] as usize;
     let pairs = letter_pairs(voice, first, states);
     let mut s = 0;
     while s < states {
-        let heard = emission_at(voice, at, first + s, k);
-        state_gains(pairs, s, heard, 4 * letter + s, loops, steps);
+        state_scores(pairs, s, 4 * letter + s, looping, stepping);
         s += 1;
     }
 }
 
-// The gains of all loops and steps at a frame of symbol k.
-pub(crate) fn move_gains(voice: &[u8], k: usize, loops: &mut [u32; 256], steps: &mut [u32; 256])
-    requires { ⌜ Hearing (now voice) k ⌝ }
-    requires { ⌜ (length (now loops) ≡ 256) × (length (now steps) ≡ 256) ⌝ }
-    ensures { λ _. ⌜ MoveGains (now (voice .entry)) k (now (loops .exit)) (now (steps .exit)) ⌝ }
+// The raised scores of the letters in use.
+pub(crate) fn raised_scores(
+    voice: &[u8],
+    letters: &[u8; 64],
+    used: usize,
+    begins: &[u16; 64],
+    looping: &mut [u32; 256],
+    stepping: &mut [u32; 256],
+)
+    requires { ⌜ voiceVerdict (now voice) ≡ wellFormed ⌝ }
+    requires { ⌜ Letters (now voice) (now letters) used × Begins (now voice) (now begins) ⌝ }
+    requires { ⌜ (length (now looping) ≡ 256) × (length (now stepping) ≡ 256) ⌝ }
+    ensures { λ _. ⌜ Entries (now (voice .entry)) (loopRaised (now (voice .entry))) (stepRaised (now (voice .entry))) (now (letters .entry)) used (now (looping .exit)) (now (stepping .exit)) ⌝ }
 {
-    let at = symbols_at(voice);
-    let letters = voice[0] as usize;
-    let mut first: usize = 0;
-    let mut letter = 0;
-    while letter < letters {
-        letter_gains(voice, at, k, letter, first, loops, steps);
-        first += voice[2 + 2 * letter] as usize;
-        letter += 1;
+    let mut i = 0;
+    while i < used {
+        let letter = letters[i] as usize;
+        letter_scores(voice, letter, begins[letter] as usize, looping, stepping);
+        i += 1;
     }
 }
 
-// The gains of entering each letter's first state by a move of that score, at a frame of symbol k: the link, or 0 from the root.
-pub(crate) fn entry_gains(voice: &[u8], moved: i16, k: usize, entries: &mut [u32; 64])
-    requires { ⌜ Hearing (now voice) k ⌝ }
-    requires { ⌜ length (now entries) ≡ 64 ⌝ }
-    ensures { λ _. ⌜ EntryGains (now (voice .entry)) k (possible moved) (now (entries .exit)) ⌝ }
+// The raised score at an offset inside the voice model.
+fn raised_at(voice: &[u8], at: usize) -> u32
+    requires { ⌜ at + 2 ≤ length (now voice) ⌝ }
+    ensures { λ r. ⌜ r ≡ raisedOf (possible (i16 (now (voice .entry)) at)) ⌝ }
+{
+    raise(score_at(voice, at))
+}
+
+// The gains of a letter's first state: of entering it, and of its loop.
+fn first_gains(
+    heard: u32,
+    letter: usize,
+    link: u32,
+    looping: &[u32; 256],
+    loops: &mut [u32; 256],
+    entries: &mut [u32; 64],
+)
+    requires { ⌜ (letter < 64) × (heard < 65536) × (link < 65536) × (getD (now looping) (4 * letter) 0 < 65536) ⌝ }
+    ensures { λ _. ⌜ now (loops .exit) ≡ set (now (loops .entry)) (4 * letter) (raisedGain (getD (now (looping .entry)) (4 * letter) 0) heard) ⌝ }
+    ensures { λ _. ⌜ now (entries .exit) ≡ set (now (entries .entry)) letter (raisedGain link heard) ⌝ }
+{
+    entries[letter] = gain(link, heard);
+    loops[4 * letter] = gain(looping[4 * letter], heard);
+}
+
+// The gains of a later state: of its loop, and of the step into it.
+fn state_gains(
+    heard: u32,
+    entry: usize,
+    looping: &[u32; 256],
+    stepping: &[u32; 256],
+    loops: &mut [u32; 256],
+    steps: &mut [u32; 256],
+)
+    requires { ⌜ (entry < 256) × (heard < 65536) ⌝ }
+    requires { ⌜ (getD (now looping) entry 0 < 65536) × (getD (now stepping) entry 0 < 65536) ⌝ }
+    ensures { λ _. ⌜ now (loops .exit) ≡ set (now (loops .entry)) entry (raisedGain (getD (now (looping .entry)) entry 0) heard) ⌝ }
+    ensures { λ _. ⌜ now (steps .exit) ≡ set (now (steps .entry)) entry (raisedGain (getD (now (stepping .entry)) entry 0) heard) ⌝ }
+{
+    loops[entry] = gain(looping[entry], heard);
+    steps[entry] = gain(stepping[entry], heard);
+}
+
+// The gains of one letter at a frame of symbol k, whose emission in the next state stands one state's emissions further on.
+fn letter_gains(
+    voice: &[u8],
+    at: usize,
+    k: usize,
+    link: u32,
+    letter: usize,
+    first: usize,
+    looping: &[u32; 256],
+    stepping: &[u32; 256],
+    loops: &mut [u32; 256],
+    steps: &mut [u32; 256],
+    entries: &mut [u32; 64],
+)
+    requires { ⌜ Hearing (now voice) k × (at ≡ symbolsAt (now voice)) × (link < 65536) ⌝ }
+    requires { ⌜ AtLetter (now voice) letter first ⌝ }
+    requires { ⌜ LetterEntries (now voice) (loopRaised (now voice)) (stepRaised (now voice)) letter (now looping) (now stepping) ⌝ }
+    requires { ⌜ Long (now loops) (now steps) (now entries) ⌝ }
+    ensures { λ _. ⌜ Filled (now (voice .entry)) (loopGain (now (voice .entry)) k) (stepGain (now (voice .entry)) k) letter (now (loops .entry)) (now (steps .entry)) (now (loops .exit)) (now (steps .exit)) ⌝ }
+    ensures { λ _. ⌜ now (entries .exit) ≡ set (now (entries .entry)) letter (linkGain (now (voice .entry)) k link letter) ⌝ }
+{
+    let symbols = voice[at] as usize;
+    let states = voice[2 + 2 * letter] as usize;
+    let mut place = at + 1 + 2 * (first * symbols + k);
+    first_gains(
+        raised_at(voice, place),
+        letter,
+        link,
+        looping,
+        loops,
+        entries,
+    );
+    let mut s = 1;
+    while s < states {
+        place += 2 * symbols;
+        let heard = raised_at(voice, place);
+        state_gains(heard, 4 * letter + s, looping, stepping, loops, steps);
+        s += 1;
+    }
+}
+
+// The gains of the letters in use at a frame of symbol k, where a node is entered by a move of that raised score.
+pub(crate) fn frame_gains(
+    voice: &[u8],
+    k: usize,
+    link: u32,
+    letters: &[u8; 64],
+    used: usize,
+    begins: &[u16; 64],
+    looping: &[u32; 256],
+    stepping: &[u32; 256],
+    loops: &mut [u32; 256],
+    steps: &mut [u32; 256],
+    entries: &mut [u32; 64],
+)
+    requires { ⌜ Hearing (now voice) k × (link < 65536) ⌝ }
+    requires { ⌜ Scored (now voice) (now letters) used (now begins) (now looping) (now stepping) ⌝ }
+    requires { ⌜ Long (now loops) (now steps) (now entries) ⌝ }
+    ensures { λ _. ⌜ Gained (now (voice .entry)) k link (now (letters .entry)) used (now (loops .exit)) (now (steps .exit)) (now (entries .exit)) ⌝ }
 {
     let at = symbols_at(voice);
-    let letters = voice[0] as usize;
-    let mut first: usize = 0;
-    let mut letter = 0;
-    while letter < letters {
-        entries[letter] = gain(moved, emission_at(voice, at, first, k));
-        first += voice[2 + 2 * letter] as usize;
-        letter += 1;
+    let mut i = 0;
+    while i < used {
+        let letter = letters[i] as usize;
+        let first = begins[letter] as usize;
+        letter_gains(
+            voice,
+            at,
+            k,
+            link,
+            letter,
+            first,
+            looping,
+            stepping,
+            loops,
+            steps,
+            entries,
+        );
+        i += 1;
     }
 }

@@ -8,25 +8,26 @@ use lib.IntN.{pos}
 use lib.ListN.{getD}
 use Rattle.voice.proofs.Scores.{symbols-few}
 use Rattle.ranking.specs.Hits.{hit}
-use Rattle.decoder.specs.Score.{possible}
 use Rattle.decoding.specs.Held.{raised, tokenOf, pad, held}
-use Rattle.decoding.specs.Gains.{EntryGains}
-use Rattle.decoding.proofs.Running.{frame-count, hearing, root-score, root-handing, root-stored}
+use Rattle.decoding.specs.Gains.{EntryGains, Hearing}
+use Rattle.decoding.proofs.Filling.{gained-long, root-gains}
+use Rattle.decoding.proofs.Running.{frame-count, hearing, root-handing, root-stored}
 use Rattle.decoding.proofs.frames.first_frame.Statement.{statement}
 use Rattle.decoding.proofs.frames.first_frame.Tie as tie
 
-entry-gains-requires : tie.Need-entry-gains-requires
-entry-gains-requires c κs =
-    let r = c .before .before .before .before .before .before .pre .0 in
-    (hearing r 0 (omega (arith, frame-count _ _ (r .heard))), refl)
+symbol : (c : tie.Start) → Hearing (c .args .voice .now) (getD (c .args .frames .now) 0 0)
+symbol c = let r = c .pre .0 in hearing r 0 (omega (arith, frame-count _ _ (r .heard)))
 
-gains : (c : tie.After-entry-gains) →
-    let a = c .before .before .before .before .before .before .before .args in
-    EntryGains (a .voice .now) (getD (a .frames .now) 0 0) (some (pos 0)) (c .entry-gains .last .1 .1 .1 .0)
-gains c =
-    let a = c .before .before .before .before .before .before .before .args in
-    let g : EntryGains (a .voice .now) (getD (a .frames .now) 0 0) (possible (pos 0)) (c .entry-gains .last .1 .1 .1 .0) = c .entry-gains .ensures in
-    rw root-score at g
+frame-gains-requires : tie.Need-frame-gains-requires
+frame-gains-requires c κs =
+    let s = c .before .before .before .before .before .before .before .before in
+    let p = s .pre .1 .1 in
+    ((symbol s, omega arith), (p .0 .1, p .1))
+
+gains : (c : tie.After-frame-gains) →
+    let a = c .before .before .before .before .before .before .before .before .before .args in
+    EntryGains (a .voice .now) (a .lexicon .now) (getD (a .frames .now) 0 0) (some (pos 0)) (c .frame-gains .last .1 .1 .1 .1 .1 .1 .1 .1 .1 .1 .0)
+gains c = root-gains (c .before .before .before .before .before .before .before .before .before .pre .1 .1 .0 .0) (c .frame-gains .ensures)
 
 root-list : 576460756598390783 ∷ 0 ∷ 0 ∷ 0 ∷ 0 ∷ 0 ∷ 0 ∷ 0 ∷ [] ≡ held 8 (hit (pos 0) 0 ∷ [])
 unfolding raised tokenOf pad
@@ -35,37 +36,25 @@ root-list = refl
 pass-on-requires : tie.Need-pass-on-requires
 pass-on-requires c κs =
     let g = c .before .before .before in
-    let p = g .before .before .before .before .before .before .before .pre in
-    root-handing (p .0) (p .1) (gains g) root-list
+    let p = g .before .before .before .before .before .before .before .before .before .pre in
+    root-handing (p .0) (p .1 .0) (gains g) root-list
 
 returns : tie.Need-returns
 returns c =
     let m = c .before .before in
     let g = m .before .before .before .before in
-    let p = g .before .before .before .before .before .before .before .pre in
-    root-stored (p .0) (p .1) (gains g) root-list (m .pass-on .ensures (root-handing (p .0) (p .1) (gains g) root-list))
+    let p = g .before .before .before .before .before .before .before .before .before .pre in
+    (root-stored (p .0) (p .1 .0) (gains g) root-list (m .pass-on .ensures (root-handing (p .0) (p .1 .0) (gains g) root-list)), gained-long (g .frame-gains .ensures))
 
-shared-slice-read-entry-gains : tie.Need-shared-slice-read-entry-gains
-shared-slice-read-entry-gains c = let h = frame-count _ _ (c .before .before .before .before .before .pre .0 .heard) in search needs
+shared-slice-read-symbol : tie.Need-shared-slice-read-symbol
+shared-slice-read-symbol c = let h = frame-count _ _ (c .before .before .before .before .before .pre .0 .heard) in search needs
 
-cast-entry-gains : tie.Need-cast-entry-gains
-cast-entry-gains c =
-    let r = c .before .before .before .before .before .pre .0 in
-    let h = hearing r 0 (omega (arith, frame-count _ _ (r .heard))) in
+cast-symbol : tie.Need-cast-symbol
+cast-symbol c =
+    let h = symbol (c .before .before .before .before .before) in
     let k = h .known in
     let f = symbols-few _ (h .well-formed) in
     search needs
 
-same-length : tie.Need-same-length
-same-length c = search needs
-
 pub first-frame-spec : {M : Type 1} → statement M
-first-frame-spec =
-    tie.close
-    (tie.spec
-    shared-slice-read-entry-gains
-    cast-entry-gains
-    entry-gains-requires
-    pass-on-requires
-    same-length
-    returns)
+first-frame-spec = tie.close (tie.spec shared-slice-read-symbol cast-symbol frame-gains-requires pass-on-requires (λ c. search needs) returns)

@@ -1,26 +1,25 @@
 -- `frames::next_frame` meets its contract: the turns that are left give what all turns give. The measure is the nodes left. Assumes nothing.
-use mathlib.Core.Path.{refl, _∙_}
 use Prim.Native.Nat.{suc, _+_, _≤_, _<_}
 use native.Mathlib.Numerals.{add-one}
 use native.Mathlib.Omega.{arith}
 use borrow.Author.Needs.{needs}
-use mir.Facts.{toZ-ofZ}
 use lib.ListN.{length, getD}
 use Rattle.voice.specs.Voice.{linkScore}
 use Rattle.voice.proofs.Scores.{symbols-few}
 use Rattle.lexicon.specs.Lexicon.{nodeCount}
 use Rattle.decoder.specs.Score.{possible}
 use Rattle.decoding.specs.Gains.{MoveGains, EntryGains, Hearing}
+use Rattle.decoding.proofs.Filling.{gained-long, move-gains, link-gains, link-below}
 use Rattle.decoding.proofs.Running.{frame-count, hearing, TurnsLeft, turns-start, turn-next, turns-next, turns-done}
 use Rattle.decoding.proofs.frames.next_frame.Statement.{statement}
 use Rattle.decoding.proofs.frames.next_frame.Tie as tie
 
 abbrev Inv-loop : tie.InvT-loop
-Inv-loop voice lexicon n lists counts firsts link frames t store₀ symbol loops steps entries node₀ store node =
+Inv-loop voice lexicon n lists counts firsts letters used begins looping stepping link frames t loops steps entries store₀ symbol node₀ store node =
     TurnsLeft voice lexicon frames n t node store₀ store
 
 abbrev μ-loop : tie.MeasureT-loop
-μ-loop voice lexicon n lists counts firsts link frames t store₀ symbol loops steps entries node₀ store node = node
+μ-loop voice lexicon n lists counts firsts letters used begins looping stepping link frames t loops steps entries store₀ symbol node₀ store node = node
 
 few : (c : tie.Start Inv-loop μ-loop) → c .args .t + 1 < length (c .args .frames .now)
 few c = omega (arith, c .pre .1 .0 .1)
@@ -31,49 +30,59 @@ most c = frame-count _ _ (c .pre .0 .heard) .1
 symbol : (c : tie.Start Inv-loop μ-loop) → Hearing (c .args .voice .now) (getD (c .args .frames .now) (c .args .t + 1) 0)
 symbol c = hearing (c .pre .0) (c .args .t + 1) (few c)
 
-moves : (c : tie.After-u16-at Inv-loop μ-loop) →
-    let m = c .before .before .before in
-    let a = m .before .before .before .before .before .before .before .before .args in
-    MoveGains (a .voice .now) (getD (a .frames .now) (suc (a .t)) 0) (m .move-gains .last .1 .1 .0) (m .move-gains .last .1 .1 .1 .0)
-moves c = rw add-one at (c .before .before .before .move-gains .ensures)
+frame-gains-requires : tie.Need-frame-gains-requires Inv-loop μ-loop
+frame-gains-requires c κs =
+    let s = c .before .before .before .before .before .before .before .before in
+    let p = s .pre .1 .1 .1 in
+    ((symbol s, link-below _ (s .pre .1 .0 .0)), (p .0 .1, p .1))
 
-links : (c : tie.After-u16-at Inv-loop μ-loop) →
-    let g = c .before in
-    let a = g .before .before .before .before .before .before .before .before .before .before .args in
-    EntryGains (a .voice .now) (getD (a .frames .now) (suc (a .t)) 0) (possible (linkScore (a .voice .now) 0)) (g .entry-gains .last .1 .1 .1 .0)
+moves : (c : tie.After-frame-gains Inv-loop μ-loop) →
+    let a = c .before .before .before .before .before .before .before .before .before .args in
+    MoveGains (a .voice .now) (a .lexicon .now) (getD (a .frames .now) (suc (a .t)) 0)
+    (c .frame-gains .last .1 .1 .1 .1 .1 .1 .1 .1 .0)
+    (c .frame-gains .last .1 .1 .1 .1 .1 .1 .1 .1 .1 .0)
+moves c =
+    let s = c .before .before .before .before .before .before .before .before .before in
+    rw add-one at (move-gains (s .pre .1 .1 .1 .0 .0) (c .frame-gains .ensures))
+
+links : (c : tie.After-frame-gains Inv-loop μ-loop) →
+    let a = c .before .before .before .before .before .before .before .before .before .args in
+    EntryGains (a .voice .now) (a .lexicon .now) (getD (a .frames .now) (suc (a .t)) 0) (possible (linkScore (a .voice .now) 0))
+    (c .frame-gains .last .1 .1 .1 .1 .1 .1 .1 .1 .1 .1 .0)
 links c =
-    let s = c .before .before .before .before .before .before .before .before .before .before .before in
-    rw (toZ-ofZ (s .fits .link) ∙ s .pre .1 .0 .0) at (rw add-one at (c .before .entry-gains .ensures))
+    let s = c .before .before .before .before .before .before .before .before .before in
+    rw add-one at (link-gains (s .pre .1 .1 .1 .0 .0) (c .frame-gains .ensures) (s .pre .1 .0 .0))
 
 loop-holds : tie.Need-loop-holds Inv-loop μ-loop
 unfolding nodeCount
 loop-holds c =
-    let s = c .before .before .before .before .before .before .before .before .before .before .before in
-    turns-start (s .pre .0) (s .args .t) (c .u16-at .ensures) (s .pre .1 .1)
+    let s = c .before .before .before .before .before .before .before .before .before .before in
+    turns-start (s .pre .0) (s .args .t) (c .u16-at .ensures) (s .pre .1 .1 .0)
 
 pass-node-requires : tie.Need-pass-node-requires Inv-loop μ-loop
 pass-node-requires c κs =
     let l = c .before .before .before .before in
-    let u = l .before .before in
-    let s = u .before .before .before .before .before .before .before .before .before .before .before in
-    turn-next (s .pre .0) (s .args .t) (s .pre .1 .0 .1) (moves u) (links u) (l .loop-test .taken) (l .before .loop .inv)
+    let g = l .before .before .before in
+    let s = g .before .before .before .before .before .before .before .before .before in
+    turn-next (s .pre .0) (s .args .t) (s .pre .1 .0 .1) (moves g) (links g) (l .loop-test .taken) (l .before .loop .inv)
 
 loop-again : tie.Need-loop-again Inv-loop μ-loop
 loop-again c =
     let m = c .before .before in
     let l = m .before .before .before .before .before in
-    let u = l .before .before in
-    let s = u .before .before .before .before .before .before .before .before .before .before .before in
-    turns-next (s .pre .0) (s .args .t) (s .pre .1 .0 .1) (moves u) (links u) (l .loop-test .taken) (l .before .loop .inv)
-    (m .pass-node .ensures (turn-next (s .pre .0) (s .args .t) (s .pre .1 .0 .1) (moves u) (links u) (l .loop-test .taken) (l .before .loop .inv)))
+    let g = l .before .before .before in
+    let s = g .before .before .before .before .before .before .before .before .before in
+    turns-next (s .pre .0) (s .args .t) (s .pre .1 .0 .1) (moves g) (links g) (l .loop-test .taken) (l .before .loop .inv)
+    (m .pass-node .ensures (turn-next (s .pre .0) (s .args .t) (s .pre .1 .0 .1) (moves g) (links g) (l .loop-test .taken) (l .before .loop .inv)))
 
 loop-less : tie.Need-loop-less Inv-loop μ-loop
 loop-less c = let h = c .before .before .before .before .before .before .before .loop-test .taken in omega arith
 
 returns : tie.Need-returns Inv-loop μ-loop
 returns c =
-    let s = c .before .before .before .before .before .before .before .before .before .before .before .before .before in
-    turns-done (s .pre .0) (s .args .t) (c .loop-test .left) (c .before .loop .inv)
+    let g = c .before .before .before in
+    let s = g .before .before .before .before .before .before .before .before .before in
+    (turns-done (s .pre .0) (s .args .t) (c .loop-test .left) (c .before .loop .inv), gained-long (g .frame-gains .ensures))
 
 add-symbol : tie.Need-add-symbol Inv-loop μ-loop
 add-symbol c = let h = few (c .before .before .before .before) in let k = most (c .before .before .before .before) in search needs
@@ -87,18 +96,6 @@ cast-symbol c =
     let k = h .known in
     let f = symbols-few _ (h .well-formed) in
     search needs
-
-move-gains-requires : tie.Need-move-gains-requires Inv-loop μ-loop
-move-gains-requires c κs = (symbol (c .before .before .before .before .before .before .before), (refl, refl))
-
-entry-gains-requires : tie.Need-entry-gains-requires Inv-loop μ-loop
-entry-gains-requires c κs = (symbol (c .before .before .before .before .before .before .before .before .before), refl)
-
-u16-at-requires : tie.Need-u16-at-requires Inv-loop μ-loop
-u16-at-requires c κs = search needs
-
-cast-node : tie.Need-cast-node Inv-loop μ-loop
-cast-node c = search needs
 
 sub-node : tie.Need-sub-node Inv-loop μ-loop
 sub-node c = c .before .before .before .before .before .before .before .loop-test .taken
@@ -115,10 +112,9 @@ next-frame-spec =
     add-symbol
     shared-slice-read-symbol
     cast-symbol
-    move-gains-requires
-    entry-gains-requires
-    u16-at-requires
-    cast-node
+    frame-gains-requires
+    (λ c κs. search needs)
+    (λ c. search needs)
     loop-holds
     pass-node-requires
     sub-node
