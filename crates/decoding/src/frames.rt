@@ -1,17 +1,19 @@
 // Frame by frame: the root's token enters at the first, and at each later one every node takes its turn, from the last to the first.
 ghost use mathlib.Core.Path.{_≡_};
-ghost use Prim.Native.Nat.{suc, _-_, _<_};
+ghost use Prim.Native.Nat.{ℕ, suc, _-_, _<_};
 ghost use lib.ListN.{length};
-ghost use Rattle.voice.specs.Voice.{linkScore};
+ghost use Rattle.voice.specs.Voice.{linkScore, symbolsAt};
 ghost use Rattle.decoder.specs.Score.{possible};
-ghost use Rattle.decoding.specs.Gains.{raisedOf, InUse, Scored, Long};
+ghost use Rattle.decoding.specs.Gains.{raisedOf, InUse, Scored, Long, Gained};
 ghost use Rattle.decoding.specs.Running.{Empty, Run, StoredAt};
 use crate::gains::frame_gains;
+use crate::gains::hear;
 use crate::gains::letter_begins;
 use crate::gains::letters_in_use;
 use crate::gains::link_score;
 use crate::gains::raise;
 use crate::gains::raised_scores;
+use crate::gains::symbols_at;
 use crate::turns::pass_node;
 use crate::turns::pass_on;
 use endian::u16_at;
@@ -49,8 +51,10 @@ fn first_frame(
     ensures { λ _. ⌜ Long (now (loops .exit)) (now (steps .exit)) (now (entries .exit)) ⌝ }
 {
     let symbol = frames[0] as usize;
+    let at = symbols_at(voice);
     frame_gains(
         voice,
+        at,
         symbol,
         RAISED_ZERO,
         letters,
@@ -66,7 +70,7 @@ fn first_frame(
     pass_on(lexicon, n, lists, counts, firsts, entries, 0, &from, store);
 }
 
-// The frame after frame t.
+// The frame after frame t, where the tables hold the gains of symbol `heard`, or of none if that is 256. Answers its symbol.
 fn next_frame(
     voice: &[u8],
     lexicon: &[u8],
@@ -80,25 +84,30 @@ fn next_frame(
     looping: &[u32; 256],
     stepping: &[u32; 256],
     link: u32,
+    at: usize,
+    heard: usize,
     frames: &[u8],
     t: usize,
     loops: &mut [u32; 256],
     steps: &mut [u32; 256],
     entries: &mut [u32; 64],
     store: &mut [u8],
-)
+) -> usize
     requires { ⌜ Run (now voice) (now lexicon) (now frames) n (now lists) (now counts) (now firsts) (now store) ⌝ }
     requires { ⌜ (link ≡ raisedOf (possible (linkScore (now voice) 0))) × (suc t < length (now frames)) ⌝ }
     requires { ⌜ StoredAt (now voice) (now lexicon) (now frames) n t (now store) ⌝ }
     requires { ⌜ InUse (now voice) (now lexicon) (now letters) used × Scored (now voice) (now letters) used (now begins) (now looping) (now stepping) ⌝ }
-    requires { ⌜ Long (now loops) (now steps) (now entries) ⌝ }
+    requires { ⌜ Long (now loops) (now steps) (now entries) × (at ≡ symbolsAt (now voice)) ⌝ }
+    requires { ⌜ ((k : ℕ) → k ≡ heard → k < 256 → Gained (now voice) k link (now letters) used (now loops) (now steps) (now entries)) ⌝ }
     ensures { λ _. ⌜ StoredAt (now (voice .entry)) (now (lexicon .entry)) (now (frames .entry)) n (suc t) (now (store .exit)) ⌝ }
-    ensures { λ _. ⌜ Long (now (loops .exit)) (now (steps .exit)) (now (entries .exit)) ⌝ }
+    ensures { λ r. ⌜ Gained (now (voice .entry)) r link (now (letters .entry)) used (now (loops .exit)) (now (steps .exit)) (now (entries .exit)) ⌝ }
 {
     let symbol = frames[t + 1] as usize;
-    frame_gains(
+    hear(
         voice,
+        at,
         symbol,
+        heard,
         link,
         letters,
         used,
@@ -126,6 +135,7 @@ fn next_frame(
         );
         node -= 1;
     }
+    symbol
 }
 
 // The frames after the first.
@@ -154,9 +164,11 @@ fn later_frames(
     ensures { λ _. ⌜ StoredAt (now (voice .entry)) (now (lexicon .entry)) (now (frames .entry)) n (length (now (frames .entry)) - 1) (now (store .exit)) ⌝ }
 {
     let link = raise(link_score(voice));
+    let at = symbols_at(voice);
+    let mut heard = 256;
     let mut t = 0;
     while t + 1 < frames.len() {
-        next_frame(
+        heard = next_frame(
             voice,
             lexicon,
             n,
@@ -169,6 +181,8 @@ fn later_frames(
             looping,
             stepping,
             link,
+            at,
+            heard,
             frames,
             t,
             loops,

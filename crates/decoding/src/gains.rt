@@ -310,6 +310,7 @@ fn letter_gains(
 // The gains of the letters in use at a frame of symbol k, where a node is entered by a move of that raised score.
 pub(crate) fn frame_gains(
     voice: &[u8],
+    at: usize,
     k: usize,
     link: u32,
     letters: &[u8; 64],
@@ -321,12 +322,11 @@ pub(crate) fn frame_gains(
     steps: &mut [u32; 256],
     entries: &mut [u32; 64],
 )
-    requires { ⌜ Hearing (now voice) k × (link < 65536) ⌝ }
+    requires { ⌜ Hearing (now voice) k × (at ≡ symbolsAt (now voice)) × (link < 65536) ⌝ }
     requires { ⌜ Scored (now voice) (now letters) used (now begins) (now looping) (now stepping) ⌝ }
     requires { ⌜ Long (now loops) (now steps) (now entries) ⌝ }
     ensures { λ _. ⌜ Gained (now (voice .entry)) k link (now (letters .entry)) used (now (loops .exit)) (now (steps .exit)) (now (entries .exit)) ⌝ }
 {
-    let at = symbols_at(voice);
     let mut i = 0;
     while i < used {
         let letter = letters[i] as usize;
@@ -346,4 +346,45 @@ pub(crate) fn frame_gains(
         );
         i += 1;
     }
+}
+
+// The same for a frame after others: where the symbol is the one whose gains the tables hold, as in most frames of a long sound, they stay.
+pub(crate) fn hear(
+    voice: &[u8],
+    at: usize,
+    k: usize,
+    heard: usize,
+    link: u32,
+    letters: &[u8; 64],
+    used: usize,
+    begins: &[u16; 64],
+    looping: &[u32; 256],
+    stepping: &[u32; 256],
+    loops: &mut [u32; 256],
+    steps: &mut [u32; 256],
+    entries: &mut [u32; 64],
+)
+    requires { ⌜ Hearing (now voice) k × (at ≡ symbolsAt (now voice)) × (link < 65536) ⌝ }
+    requires { ⌜ Scored (now voice) (now letters) used (now begins) (now looping) (now stepping) ⌝ }
+    requires { ⌜ Long (now loops) (now steps) (now entries) ⌝ }
+    requires { ⌜ (k ≡ heard → Gained (now voice) k link (now letters) used (now loops) (now steps) (now entries)) ⌝ }
+    ensures { λ _. ⌜ Gained (now (voice .entry)) k link (now (letters .entry)) used (now (loops .exit)) (now (steps .exit)) (now (entries .exit)) ⌝ }
+{
+    if k == heard {
+        return;
+    }
+    frame_gains(
+        voice,
+        at,
+        k,
+        link,
+        letters,
+        used,
+        begins,
+        looping,
+        stepping,
+        loops,
+        steps,
+        entries,
+    );
 }

@@ -20,14 +20,14 @@ symbol c = let r = c .pre .0 in hearing r 0 (omega (arith, frame-count _ _ (r .h
 
 frame-gains-requires : tie.Need-frame-gains-requires
 frame-gains-requires c κs =
-    let s = c .before .before .before .before .before .before .before .before in
+    let s = c .before .before .before .before .before .before .before .before .before in
     let p = s .pre .1 .1 in
-    ((symbol s, omega arith), (p .0 .1, p .1))
+    ((symbol s, c .before .before .before .symbols-at .ensures, omega arith), (p .0 .1, p .1))
 
 gains : (c : tie.After-frame-gains) →
-    let a = c .before .before .before .before .before .before .before .before .before .args in
-    EntryGains (a .voice .now) (a .lexicon .now) (getD (a .frames .now) 0 0) (some (pos 0)) (c .frame-gains .last .1 .1 .1 .1 .1 .1 .1 .1 .1 .1 .0)
-gains c = root-gains (c .before .before .before .before .before .before .before .before .before .pre .1 .1 .0 .0) (c .frame-gains .ensures)
+    let a = c .before .before .before .before .before .before .before .before .before .before .args in
+    EntryGains (a .voice .now) (a .lexicon .now) (getD (a .frames .now) 0 0) (some (pos 0)) (c .frame-gains .last .1 .1 .1 .1 .1 .1 .1 .1 .1 .1 .1 .0)
+gains c = root-gains (c .before .before .before .before .before .before .before .before .before .before .pre .1 .1 .0 .0) (c .frame-gains .ensures)
 
 root-list : 576460756598390783 ∷ 0 ∷ 0 ∷ 0 ∷ 0 ∷ 0 ∷ 0 ∷ 0 ∷ [] ≡ held 8 (hit (pos 0) 0 ∷ [])
 unfolding raised tokenOf pad
@@ -36,14 +36,14 @@ root-list = refl
 pass-on-requires : tie.Need-pass-on-requires
 pass-on-requires c κs =
     let g = c .before .before .before in
-    let p = g .before .before .before .before .before .before .before .before .before .pre in
+    let p = g .before .before .before .before .before .before .before .before .before .before .pre in
     root-handing (p .0) (p .1 .0) (gains g) root-list
 
 returns : tie.Need-returns
 returns c =
     let m = c .before .before in
     let g = m .before .before .before .before in
-    let p = g .before .before .before .before .before .before .before .before .before .pre in
+    let p = g .before .before .before .before .before .before .before .before .before .before .pre in
     (root-stored (p .0) (p .1 .0) (gains g) root-list (m .pass-on .ensures (root-handing (p .0) (p .1 .0) (gains g) root-list)), gained-long (g .frame-gains .ensures))
 
 shared-slice-read-symbol : tie.Need-shared-slice-read-symbol
@@ -56,5 +56,8 @@ cast-symbol c =
     let f = symbols-few _ (h .well-formed) in
     search needs
 
+symbols-at-requires : tie.Need-symbols-at-requires
+symbols-at-requires c κs = symbol (c .before .before .before .before .before) .well-formed
+
 pub first-frame-spec : {M : Type 1} → statement M
-first-frame-spec = tie.close (tie.spec shared-slice-read-symbol cast-symbol frame-gains-requires pass-on-requires (λ c. search needs) returns)
+first-frame-spec = tie.close (tie.spec shared-slice-read-symbol cast-symbol symbols-at-requires frame-gains-requires pass-on-requires (λ c. search needs) returns)

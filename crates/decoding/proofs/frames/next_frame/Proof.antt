@@ -9,17 +9,17 @@ use Rattle.voice.proofs.Scores.{symbols-few}
 use Rattle.lexicon.specs.Lexicon.{nodeCount}
 use Rattle.decoder.specs.Score.{possible}
 use Rattle.decoding.specs.Gains.{MoveGains, EntryGains, Hearing}
-use Rattle.decoding.proofs.Filling.{gained-long, move-gains, link-gains, link-below}
+use Rattle.decoding.proofs.Filling.{move-gains, link-gains, link-below}
 use Rattle.decoding.proofs.Running.{frame-count, hearing, TurnsLeft, turns-start, turn-next, turns-next, turns-done}
 use Rattle.decoding.proofs.frames.next_frame.Statement.{statement}
 use Rattle.decoding.proofs.frames.next_frame.Tie as tie
 
 abbrev Inv-loop : tie.InvT-loop
-Inv-loop voice lexicon n lists counts firsts letters used begins looping stepping link frames t loops steps entries store₀ symbol node₀ store node =
+Inv-loop voice lexicon n lists counts firsts letters used begins looping stepping link at heard frames t loops steps entries store₀ symbol node₀ store node =
     TurnsLeft voice lexicon frames n t node store₀ store
 
 abbrev μ-loop : tie.MeasureT-loop
-μ-loop voice lexicon n lists counts firsts letters used begins looping stepping link frames t loops steps entries store₀ symbol node₀ store node = node
+μ-loop voice lexicon n lists counts firsts letters used begins looping stepping link at heard frames t loops steps entries store₀ symbol node₀ store node = node
 
 few : (c : tie.Start Inv-loop μ-loop) → c .args .t + 1 < length (c .args .frames .now)
 few c = omega (arith, c .pre .1 .0 .1)
@@ -30,28 +30,30 @@ most c = frame-count _ _ (c .pre .0 .heard) .1
 symbol : (c : tie.Start Inv-loop μ-loop) → Hearing (c .args .voice .now) (getD (c .args .frames .now) (c .args .t + 1) 0)
 symbol c = hearing (c .pre .0) (c .args .t + 1) (few c)
 
-frame-gains-requires : tie.Need-frame-gains-requires Inv-loop μ-loop
-frame-gains-requires c κs =
+hear-requires : tie.Need-hear-requires Inv-loop μ-loop
+hear-requires c κs =
     let s = c .before .before .before .before .before .before .before .before in
     let p = s .pre .1 .1 .1 in
-    ((symbol s, link-below _ (s .pre .1 .0 .0)), (p .0 .1, p .1))
+    let k = symbol s .known in
+    let f = symbols-few _ (symbol s .well-formed) in
+    ((symbol s, p .1 .0 .1, link-below _ (s .pre .1 .0 .0)), (p .0 .1, (p .1 .0 .0, λ e. p .1 .1 _ e (omega (arith, k, f)))))
 
-moves : (c : tie.After-frame-gains Inv-loop μ-loop) →
+moves : (c : tie.After-hear Inv-loop μ-loop) →
     let a = c .before .before .before .before .before .before .before .before .before .args in
     MoveGains (a .voice .now) (a .lexicon .now) (getD (a .frames .now) (suc (a .t)) 0)
-    (c .frame-gains .last .1 .1 .1 .1 .1 .1 .1 .1 .0)
-    (c .frame-gains .last .1 .1 .1 .1 .1 .1 .1 .1 .1 .0)
+    (c .hear .last .1 .1 .1 .1 .1 .1 .1 .1 .1 .1 .0)
+    (c .hear .last .1 .1 .1 .1 .1 .1 .1 .1 .1 .1 .1 .0)
 moves c =
     let s = c .before .before .before .before .before .before .before .before .before in
-    rw add-one at (move-gains (s .pre .1 .1 .1 .0 .0) (c .frame-gains .ensures))
+    rw add-one at (move-gains (s .pre .1 .1 .1 .0 .0) (c .hear .ensures))
 
-links : (c : tie.After-frame-gains Inv-loop μ-loop) →
+links : (c : tie.After-hear Inv-loop μ-loop) →
     let a = c .before .before .before .before .before .before .before .before .before .args in
     EntryGains (a .voice .now) (a .lexicon .now) (getD (a .frames .now) (suc (a .t)) 0) (possible (linkScore (a .voice .now) 0))
-    (c .frame-gains .last .1 .1 .1 .1 .1 .1 .1 .1 .1 .1 .0)
+    (c .hear .last .1 .1 .1 .1 .1 .1 .1 .1 .1 .1 .1 .1 .0)
 links c =
     let s = c .before .before .before .before .before .before .before .before .before in
-    rw add-one at (link-gains (s .pre .1 .1 .1 .0 .0) (c .frame-gains .ensures) (s .pre .1 .0 .0))
+    rw add-one at (link-gains (s .pre .1 .1 .1 .0 .0) (c .hear .ensures) (s .pre .1 .0 .0))
 
 loop-holds : tie.Need-loop-holds Inv-loop μ-loop
 unfolding nodeCount
@@ -82,7 +84,7 @@ returns : tie.Need-returns Inv-loop μ-loop
 returns c =
     let g = c .before .before .before in
     let s = g .before .before .before .before .before .before .before .before .before in
-    (turns-done (s .pre .0) (s .args .t) (c .loop-test .left) (c .before .loop .inv), gained-long (g .frame-gains .ensures))
+    (turns-done (s .pre .0) (s .args .t) (c .loop-test .left) (c .before .loop .inv), g .hear .ensures)
 
 add-symbol : tie.Need-add-symbol Inv-loop μ-loop
 add-symbol c = let h = few (c .before .before .before .before) in let k = most (c .before .before .before .before) in search needs
@@ -112,7 +114,7 @@ next-frame-spec =
     add-symbol
     shared-slice-read-symbol
     cast-symbol
-    frame-gains-requires
+    hear-requires
     (λ c κs. search needs)
     (λ c. search needs)
     loop-holds

@@ -11,16 +11,16 @@ use Rattle.decoding.proofs.gains.frame_gains.Statement.{statement}
 use Rattle.decoding.proofs.gains.frame_gains.Tie as tie
 
 abbrev Inv-loop : tie.InvT-loop
-Inv-loop voice k link letters used begins looping stepping loops₀ steps₀ entries₀ at i₀ loops steps entries i = Gained voice k link letters i loops steps entries
+Inv-loop voice at k link letters used begins looping stepping loops₀ steps₀ entries₀ i₀ loops steps entries i = Gained voice k link letters i loops steps entries
 
 abbrev μ-loop : tie.MeasureT-loop
-μ-loop voice k link letters used begins looping stepping loops₀ steps₀ entries₀ at i₀ loops steps entries i = used - i
+μ-loop voice at k link letters used begins looping stepping loops₀ steps₀ entries₀ i₀ loops steps entries i = used - i
 
 loop-holds : tie.Need-loop-holds Inv-loop μ-loop
-loop-holds c = gained-start (c .before .before .pre .1 .1)
+loop-holds c = gained-start (c .before .pre .1 .1)
 
 abbrev start : tie.In-loop Inv-loop μ-loop → tie.Start Inv-loop μ-loop
-start c = c .before .before .before .before
+start c = c .before .before .before
 
 -- the letter whose turn it is
 letter : (c : tie.In-loop Inv-loop μ-loop) →
@@ -36,7 +36,7 @@ letter-gains-requires : tie.Need-letter-gains-requires Inv-loop μ-loop
 letter-gains-requires c κs =
     let l = c .before .before .before .before .before in
     let p = start l .pre in (
-      (p .0 .0, l .before .before .symbols-at .ensures, p .0 .1),
+      p .0,
       (
         letter l,
         (
@@ -61,7 +61,6 @@ frame-gains-spec =
     (tie.spec
     Inv-loop
     μ-loop
-    (λ c κs. c .before .pre .0 .0 .well-formed)
     loop-holds
     (λ c. let h = few c in search needs)
     (λ c. let h = letter-small (letter (c .before)) in search needs)
