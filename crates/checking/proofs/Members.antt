@@ -6,9 +6,7 @@ use mathlib.Core.Bool.{Bool, true, false, false≢true}
 use mathlib.Core.List.{List, [], _∷_, map, List·Memᴰ, List·Memᴰ·head as here, List·Memᴰ·tail as there}
 use Prim.Native.Nat.{ℕ, _≤_}
 use native.Mathlib.Omega.{arith}
-use lib.Dec.{eqb}
-use borrow.Author.Tests.{eqb-true}
-use Rattle.endian.specs.Lists.{any, has, sum}
+use Rattle.endian.specs.Lists.{any, sum}
 use Rattle.endian.proofs.Booleans.{or-cases, or-left, or-right, or-none}
 
 pub same-test : (a b : Bool) → (a ≡ true → b ≡ true) → (b ≡ true → a ≡ true) → a ≡ b
@@ -41,15 +39,6 @@ module _ {A : Type 0} where
   unfolding any
   any-none p h (here {x} {xs} e) = rw e (or-none (p x) (any p xs) h .0)
   any-none p h (there {x} {xs} m) = any-none p (or-none (p x) (any p xs) h .1) m
-
-pub has-out : (a : ℕ) (l : List ℕ) → has a l ≡ true → List·Memᴰ a l
-unfolding has
-has-out a [] h = absurd (false≢true h)
-has-out a (b ∷ l) h = go (or-cases (eqb a b) (has a l) h) (has-out a l)
-  where
-    go : (eqb a b ≡ true) ⊎ (has a l ≡ true) → (has a l ≡ true → List·Memᴰ a l) → List·Memᴰ a (b ∷ l)
-    go (inl e) ih = here (eqb-true a b e)
-    go (inr e) ih = there (ih e)
 
 pub member-of-sum : {A : Type 0} (f : A → ℕ) {a : A} {l : List A} → List·Memᴰ a l → f a ≤ sum (map f l)
 unfolding sum

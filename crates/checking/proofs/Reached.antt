@@ -10,11 +10,12 @@ use lib.ListN.{getD}
 use borrow.Author.Tests.{not-false}
 use Rattle.endian.specs.Lists.{from, has}
 use Rattle.endian.proofs.Lists.{mem-getD, from-in, from-out}
+use Rattle.endian.proofs.Search.{has-mem}
 use Rattle.graph.specs.Graph.{Graph, sink, ArcPath, arrived, along, pathCount, wordCount}
 use Rattle.graph.specs.Conditions.{orphan}
 use Rattle.graph.proofs.Sound.{Sound}
 use Rattle.graph.proofs.Codes.{pathCount-below}
-use Rattle.checking.proofs.Members.{any-out, any-none, has-out, member-of-sum}
+use Rattle.checking.proofs.Members.{any-out, any-none, member-of-sum}
 
 -- a vertex of which s is a successor
 record Parent (g : Graph) (s : ℕ) : Type 0 where
@@ -62,7 +63,7 @@ module _ {g : Graph} (ok : Sound g) where
       | no n ↦
           let led = not-false _ (any-none _ reached (from-in 1 (g .nodes) s h (omega arith))) in
           let r = any-out (λ u. has s (g .successors u)) (from 0 (sink g)) led in
-          record { vertex = r .one; below = omega (arith, from-out 0 (sink g) (r .member)); member = has-out s (g .successors (r .one)) (r .passes) }
+          record { vertex = r .one; below = omega (arith, from-out 0 (sink g) (r .member)); member = has-mem (g .successors (r .one)) (r .passes) }
     ]
 
     climb-within : (P : ℕ → Type 0) → HandedUp g P → (n s : ℕ) → s ≤ n → s ≤ sink g → P s → P 0

@@ -14,6 +14,7 @@ use Rattle.endian.specs.Bytes.{u16}
 use Rattle.endian.specs.Lists.{sum, has}
 use Rattle.endian.proofs.Integers.{size-sum}
 use Rattle.endian.proofs.Lists.{mem-has, sum-append}
+use Rattle.endian.proofs.Search.{has-mem}
 use Rattle.voice.specs.Voice.{letterCount, states}
 use Rattle.voice.proofs.Letters.{states-range, states-there}
 use Rattle.voice.proofs.Scores.{letters-few}
@@ -31,7 +32,6 @@ use Rattle.ranking.specs.Hits.{Hit}
 use Rattle.passing.specs.Best.{shift}
 use Rattle.passing.specs.Tokens.{bestTokens, lastState, finalScore, carried, ending}
 use Rattle.passing.proofs.Bounds.{arc-count}
-use Rattle.passing.proofs.Members.{has-mem}
 use Rattle.decoding.specs.Slots.{slots, offered, Room, Falling, Offer}
 use Rattle.decoding.specs.Held.{raised, held, Storable, upOf, downOf}
 use Rattle.decoding.specs.Places.{firstPlace}

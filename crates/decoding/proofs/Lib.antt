@@ -10,7 +10,6 @@ pub mod Kept
 pub mod Numbering
 pub mod Gaining
 pub mod Listing
-pub mod Search
 pub mod Storing
 pub mod Carrying
 pub mod Filling

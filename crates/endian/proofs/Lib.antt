@@ -1,6 +1,7 @@
 pub mod Open
 pub mod Booleans
 pub mod Lists
+pub mod Search
 pub mod Pairs
 pub mod Pigeonhole
 pub mod Ranges

@@ -8,13 +8,14 @@ use native.Mathlib.Omega.{arith}
 use lib.IntN.{ℤ, pos, _+ℤ_, +ℤ-idr}
 use Rattle.endian.specs.Lists.{has}
 use Rattle.endian.proofs.Lists.{mem-has, mem-flatMap, of-flatMap, when-out}
+use Rattle.endian.proofs.Search.{has-mem}
 use Rattle.voice.specs.Voice.{loopScore, stepScore, linkScore, emission}
 use Rattle.graph.specs.Graph.{Graph, sink, increment}
 use Rattle.ranking.specs.Hits.{Hit}
 use Rattle.decoder.specs.Score.{possible, plus}
 use Rattle.passing.specs.Tokens.{Store, carried, downFrom, stateOf, lastState, heard, entryScore, finalScore, renewed, entering, enteringFrom, arrivals, ending, arrived}
 use Rattle.passing.proofs.Order.{_∈_}
-use Rattle.passing.proofs.Members.{has-mem, down-in, down-out}
+use Rattle.passing.proofs.Members.{down-in, down-out}
 use Rattle.passing.proofs.Moves.{Moved, moved-out, moved-in, carried-out, carried-in}
 
 module _ (v : List ℕ) (g : Graph) (P : Store) (k : ℕ) where

@@ -1,23 +1,13 @@
--- Members of lists: what the test says, where a member stands, and lists made from others. Assumes nothing.
+-- Members of lists: where a member stands, and lists made from others. Assumes nothing.
 use Prim.Native.Nat.{ℕ, zero, suc, _≤_, _<_}
 use mathlib.Core.Path.{_≡_, refl, sym, _∙_, ap}
-use mathlib.Core.Bool.{true, false≢true}
 use mathlib.Core.Logic.{⊎-elim}
 use mathlib.Core.List.{List, [], _∷_, _++_, flatMap, append-assoc, Memᴰ·append-right, List·Memᴰ·head as here, List·Memᴰ·tail as there, List·Memᴰ·cases-cons as cases, List·Memᴰ·not-nil as not-nil}
 use native.Mathlib.Omega.{arith}
 use native.Mathlib.Decide.{ℕ-discrete}
-use borrow.Author.Tests.{eqb-true}
-use lib.Dec.{eqb}
-use Rattle.endian.specs.Lists.{has}
-use Rattle.endian.proofs.Booleans.{or-cases}
 use Rattle.endian.proofs.Pairs.{Pairs, none, next}
 use Rattle.passing.specs.Tokens.{downFrom}
 use Rattle.passing.proofs.Order.{_∈_}
-
-pub has-mem : {a : ℕ} (l : List ℕ) → has a l ≡ true → a ∈ l
-unfolding has
-has-mem [] h = absurd (false≢true h)
-has-mem {a} (b ∷ l) h = ⊎-elim (λ e. here (eqb-true a b e)) (λ e. there (has-mem l e)) (or-cases (eqb a b) (has a l) h)
 
 module _ {A : Type 0} where
   -- what stands before a member, and what behind it

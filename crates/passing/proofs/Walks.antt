@@ -9,6 +9,7 @@ use lib.IntN.{ℤ}
 use lib.ListN.{getD}
 use Rattle.endian.specs.Lists.{has}
 use Rattle.endian.proofs.Lists.{mem-has, when-out}
+use Rattle.endian.proofs.Search.{has-mem}
 use Rattle.voice.specs.Voice.{states, firstState, emission}
 use Rattle.graph.specs.Graph.{Graph, increment}
 use Rattle.graph.proofs.Sound.{Sound}
@@ -16,7 +17,6 @@ use Rattle.ranking.specs.Hits.{Hit, hit}
 use Rattle.decoder.proofs.Runs.{Run, begin, loop, step, link, latest, some-letter}
 use Rattle.passing.specs.Tokens.{stateOf, lastState, heard, initialScore, begun}
 use Rattle.passing.proofs.Order.{_∈_}
-use Rattle.passing.proofs.Members.{has-mem}
 use Rattle.passing.proofs.Chains.{Chain, first, next, chain-above}
 use Rattle.passing.proofs.Uncut.{paths}
 use Rattle.passing.proofs.Moves.{root-out, root-in}

@@ -7,7 +7,7 @@ use borrow.Author.Tests.{le-leb, lt-leb}
 use lib.ListN.{length, drop}
 use Rattle.endian.specs.Lists.{any}
 use Rattle.call.specs.Limits.{badCode}
-use Rattle.packing.proofs.Laws.Search.{any-found, any-next, any-none}
+use Rattle.endian.proofs.Search.{any-found, any-next, any-none}
 use Rattle.packing.proofs.has_bad_code.Statement.{statement}
 use Rattle.packing.proofs.has_bad_code.Tie as tie
 

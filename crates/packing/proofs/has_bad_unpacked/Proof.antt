@@ -8,7 +8,7 @@ use lib.ListN.{length, getD, drop}
 use Rattle.endian.specs.Lists.{any}
 use Rattle.call.specs.Limits.{badCode}
 use Rattle.packing.specs.Packing.{unpacked}
-use Rattle.packing.proofs.Laws.Search.{any-found, any-next, any-none}
+use Rattle.endian.proofs.Search.{any-found, any-next, any-none}
 use Rattle.packing.proofs.Laws.Packing.{held, length-unpacked, unpacked-at}
 use Rattle.packing.proofs.has_bad_unpacked.Statement.{statement}
 use Rattle.packing.proofs.has_bad_unpacked.Tie as tie

@@ -7,7 +7,7 @@ use borrow.Author.Tests.{le-leb, lt-leb}
 use lib.Dec.{leb}
 use lib.ListN.{length, drop}
 use Rattle.endian.specs.Lists.{any}
-use Rattle.decoding.proofs.Search.{any-found, any-next, any-none}
+use Rattle.endian.proofs.Search.{any-found, any-next, any-none}
 use Rattle.decoding.proofs.judge.has_bad_symbol.Statement.{statement}
 use Rattle.decoding.proofs.judge.has_bad_symbol.Tie as tie
 
