@@ -26,9 +26,13 @@ returns c =
     let u = sym (out-refused _ _ _ _ _ _ q) in
     (e ∙ sym q, (o .«open» .ensures .1 .0, (u, left-meets _ _ _ _ _ _ _ _ (e ∙ sym q) u)))
 
+-- where the call began
+abbrev begin : tie.After-enum-told → tie.Start
+begin c = c .before .before .before .before .before .before .before .before .before .before .before .before .before
+
 -- checking has answered W
 passes : (c : tie.After-enum-told) →
-    let a = c .before .before .before .before .before .before .before .before .before .before .before .before .before .args in
+    let a = begin c .args in
     Passed (a .voice .now) (a .lexicon .now) (a .work .now)
 passes c =
     let o = c .before .before .before .before in
@@ -47,7 +51,7 @@ returns-2 c =
 -- no row applies
 clear-call : (c : tie.After-enum-told3) →
     let k = c .before .before .before .before in
-    let a = k .before .before .before .before .before .before .before .before .before .before .before .before .before .args in
+    let a = begin k .args in
     Clear (a .voice .now) (a .lexicon .now) (a .work .now) (a .frames .now) (a .n) (a .out .now)
 clear-call c =
     let j = c .before .before in
@@ -73,7 +77,7 @@ abbrev checked : tie.After-find-places → tie.After-enum-told
 checked c = told c .before .before .before .before
 
 abbrev start : tie.After-find-places → tie.Start
-start c = checked c .before .before .before .before .before .before .before .before .before .before .before .before .before
+start c = begin (checked c)
 
 counted : (c : tie.After-find-places) → c .find-places .result ≡ placeCount (start c .args .voice .now) (graphOf (start c .args .lexicon .now))
 counted c = c .find-places .ensures .1

@@ -24,10 +24,13 @@ frame-gains-requires c κs =
     let p = s .pre .1 .1 in
     ((symbol s, c .before .before .before .symbols-at .ensures, omega arith), (p .0 .1, p .1))
 
+abbrev start : tie.After-frame-gains → tie.Start
+start c = c .before .before .before .before .before .before .before .before .before .before
+
 gains : (c : tie.After-frame-gains) →
-    let a = c .before .before .before .before .before .before .before .before .before .before .args in
+    let a = start c .args in
     EntryGains (a .voice .now) (a .lexicon .now) (getD (a .frames .now) 0 0) (some (pos 0)) (c .frame-gains .last .1 .1 .1 .1 .1 .1 .1 .1 .1 .1 .1 .0)
-gains c = root-gains (c .before .before .before .before .before .before .before .before .before .before .pre .1 .1 .0 .0) (c .frame-gains .ensures)
+gains c = root-gains (start c .pre .1 .1 .0 .0) (c .frame-gains .ensures)
 
 root-list : 576460756598390783 ∷ 0 ∷ 0 ∷ 0 ∷ 0 ∷ 0 ∷ 0 ∷ 0 ∷ [] ≡ held 8 (hit (pos 0) 0 ∷ [])
 unfolding raised tokenOf pad
@@ -36,14 +39,14 @@ root-list = refl
 pass-on-requires : tie.Need-pass-on-requires
 pass-on-requires c κs =
     let g = c .before .before .before in
-    let p = g .before .before .before .before .before .before .before .before .before .before .pre in
+    let p = start g .pre in
     root-handing (p .0) (p .1 .0) (gains g) root-list
 
 returns : tie.Need-returns
 returns c =
     let m = c .before .before in
     let g = m .before .before .before .before in
-    let p = g .before .before .before .before .before .before .before .before .before .before .pre in
+    let p = start g .pre in
     (root-stored (p .0) (p .1 .0) (gains g) root-list (m .pass-on .ensures (root-handing (p .0) (p .1 .0) (gains g) root-list)), gained-long (g .frame-gains .ensures))
 
 shared-slice-read-symbol : tie.Need-shared-slice-read-symbol

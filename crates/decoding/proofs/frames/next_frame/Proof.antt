@@ -38,21 +38,24 @@ hear-requires c κs =
     let f = symbols-few _ (symbol s .well-formed) in
     ((symbol s, p .1 .0 .1, link-below _ (s .pre .1 .0 .0)), (p .0 .1, (p .1 .0 .0, λ e. p .1 .1 _ e (omega (arith, k, f)))))
 
+abbrev start : tie.After-hear Inv-loop μ-loop → tie.Start Inv-loop μ-loop
+start c = c .before .before .before .before .before .before .before .before .before
+
 moves : (c : tie.After-hear Inv-loop μ-loop) →
-    let a = c .before .before .before .before .before .before .before .before .before .args in
+    let a = start c .args in
     MoveGains (a .voice .now) (a .lexicon .now) (getD (a .frames .now) (suc (a .t)) 0)
     (c .hear .last .1 .1 .1 .1 .1 .1 .1 .1 .1 .1 .0)
     (c .hear .last .1 .1 .1 .1 .1 .1 .1 .1 .1 .1 .1 .0)
 moves c =
-    let s = c .before .before .before .before .before .before .before .before .before in
+    let s = start c in
     rw add-one at (move-gains (s .pre .1 .1 .1 .0 .0) (c .hear .ensures))
 
 links : (c : tie.After-hear Inv-loop μ-loop) →
-    let a = c .before .before .before .before .before .before .before .before .before .args in
+    let a = start c .args in
     EntryGains (a .voice .now) (a .lexicon .now) (getD (a .frames .now) (suc (a .t)) 0) (possible (linkScore (a .voice .now) 0))
     (c .hear .last .1 .1 .1 .1 .1 .1 .1 .1 .1 .1 .1 .1 .0)
 links c =
-    let s = c .before .before .before .before .before .before .before .before .before in
+    let s = start c in
     rw add-one at (link-gains (s .pre .1 .1 .1 .0 .0) (c .hear .ensures) (s .pre .1 .0 .0))
 
 loop-holds : tie.Need-loop-holds Inv-loop μ-loop
@@ -65,7 +68,7 @@ pass-node-requires : tie.Need-pass-node-requires Inv-loop μ-loop
 pass-node-requires c κs =
     let l = c .before .before .before .before in
     let g = l .before .before .before in
-    let s = g .before .before .before .before .before .before .before .before .before in
+    let s = start g in
     turn-next (s .pre .0) (s .args .t) (s .pre .1 .0 .1) (moves g) (links g) (l .loop-test .taken) (l .before .loop .inv)
 
 loop-again : tie.Need-loop-again Inv-loop μ-loop
@@ -73,7 +76,7 @@ loop-again c =
     let m = c .before .before in
     let l = m .before .before .before .before .before in
     let g = l .before .before .before in
-    let s = g .before .before .before .before .before .before .before .before .before in
+    let s = start g in
     turns-next (s .pre .0) (s .args .t) (s .pre .1 .0 .1) (moves g) (links g) (l .loop-test .taken) (l .before .loop .inv)
     (m .pass-node .ensures (turn-next (s .pre .0) (s .args .t) (s .pre .1 .0 .1) (moves g) (links g) (l .loop-test .taken) (l .before .loop .inv)))
 
@@ -83,7 +86,7 @@ loop-less c = let h = c .before .before .before .before .before .before .before 
 returns : tie.Need-returns Inv-loop μ-loop
 returns c =
     let g = c .before .before .before in
-    let s = g .before .before .before .before .before .before .before .before .before in
+    let s = start g in
     (turns-done (s .pre .0) (s .args .t) (c .loop-test .left) (c .before .loop .inv), g .hear .ensures)
 
 add-symbol : tie.Need-add-symbol Inv-loop μ-loop
