@@ -9,10 +9,11 @@ use native.Mathlib.Omega.{arith}
 use lib.Arith.{digits-mod}
 use lib.Bits.{bitOr, or-step, or-shr, shifted-even}
 use lib.Pow.{pow-pos, pow-lt, pow-add, shl-shr}
-use lib.ListN.{length, getD, set, replicate, length-set}
+use lib.ListN.{length, getD, set, drop, replicate, length-set, length-replicate, List·getD-append}
 use lib.Seq.{getD-set-same, getD-set-other}
 use lib.Dec.{eqb, ltb}
 use borrow.Author.Tests.{eq-eqb, ne-eqb, lt-ltb, le-ltb}
+use Rattle.call.specs.Buffers.{zeroed}
 use Rattle.checking.specs.Bits.{bit, BitSet, Joined}
 use Rattle.checking.proofs.Booleans.{or-swap, below-next}
 
@@ -125,3 +126,9 @@ unfolding bit
 bit-zero n i =
     let e : getD (replicate {A = ℕ} n 0) (i / 8) 0 ≡ 0 = zeros n (i / 8) in
     rw (e, div-eq-of-lt (pow-pos (i % 8)))
+
+-- nor, where the first n bytes are zero, in them
+pub bit-zeroed : (n i : ℕ) (b : List ℕ) → i < 8 * n → bit (zeroed n b) i ≡ false
+unfolding bit zeroed
+bit-zeroed n i b h =
+    rw (List·getD-append (replicate n 0) (drop n b) 0 (i / 8) (omega (arith, length-replicate {A = ℕ} n 0))) (bit-zero n i)

@@ -5,11 +5,12 @@ use mathlib.Core.Bool.{Bool, true, false, _&&_, _||_}
 use mathlib.Core.List.{List}
 use native.Mathlib.Decide.{ℕ-discrete}
 use native.Mathlib.Omega.{arith}
-use lib.ListN.{length, replicate}
+use lib.ListN.{length}
 use lib.Dec.{eqb, leb, ltb}
 use borrow.Author.Tests.{eq-eqb, ne-eqb, lt-ltb, le-ltb, le-leb, lt-leb}
 use Rattle.endian.specs.Lists.{any, from}
 use Rattle.endian.proofs.Booleans.{or-right}
+use Rattle.call.specs.Buffers.{zeroed}
 use Rattle.lexicon.specs.Lexicon.{nodeCount}
 use Rattle.graph.specs.Graph.{Graph, graphOf, sink}
 use Rattle.graph.proofs.Sound.{Sound}
@@ -19,7 +20,7 @@ use Rattle.checking.specs.Pairs.{common, meets, clashAt, clash}
 use Rattle.checking.specs.PairTable.{pairBit, Marked, MaskOf, Gathered, maskTells, PairSet, RowDone}
 use Rattle.checking.proofs.Booleans.{or-false, and-false, below-next, any-same, any-last}
 use Rattle.checking.proofs.Common.{common-self, common-sym, common-below, common-sink}
-use Rattle.checking.proofs.Bits.{bit-zero}
+use Rattle.checking.proofs.Bits.{bit-zeroed}
 use Rattle.checking.proofs.Masks.{few-vertices}
 
 -- ---- the row of a vertex
@@ -56,11 +57,12 @@ pub record RowMarked (g : Graph) (u v : ℕ) (b : List ℕ) : Type 0 where
 
 module _ (g : Graph) (few : sink g < 402) where
   -- the pair of the sink with itself
-  pub table-start : (n : ℕ) {after : List ℕ} → length after ≡ 20502 → BitSet (sink g * 408 + sink g) (replicate n 0) after → Marked g (sink g) after
+  pub table-start : (b : List ℕ) {after : List ℕ} → length after ≡ 20502 → BitSet (sink g * 408 + sink g) (zeroed (51 * (sink g + 1)) b) after
+      → Marked g (sink g) after
   unfolding pairBit
-  table-start n {after} l d = record {
+  table-start b l d = record {
     long = l;
-    bits = λ s t h k. d .bits (s * 408 + t) ∙ rw (bit-zero n (s * 408 + t)) (go s t h k);
+    bits = λ s t h k. d .bits (s * 408 + t) ∙ rw (bit-zeroed (51 * (sink g + 1)) (s * 408 + t) b (omega arith)) (go s t h k);
   }
     where
       go : (s t : ℕ) → s ≤ sink g → t ≤ sink g → eqb (sink g * 408 + sink g) (s * 408 + t) || false ≡ leb (sink g) (min s t) && common g s t
@@ -188,11 +190,11 @@ pub record Rows (x : List ℕ) (u : ℕ) (b : List ℕ) : Type 0 where
   pub clashes : clash (graphOf x) ≡ any (clashAt (graphOf x)) (from 0 (suc u))
 
 module _ {x : List ℕ} where
-  pub rows-start : {lists after : List ℕ} {u k : ℕ} (n : ℕ) → Listed x lists → u ≡ nodeCount x → k ≡ sink (graphOf x) → length after ≡ 20502
-      → BitSet (k * 408 + k) (replicate n 0) after → Rows x u after
+  pub rows-start : {lists after : List ℕ} {u k : ℕ} (b : List ℕ) → Listed x lists → u ≡ nodeCount x → k ≡ sink (graphOf x) → length after ≡ 20502
+      → BitSet (k * 408 + k) (zeroed (51 * (k + 1)) b) after → Rows x u after
   unfolding clash sink
-  rows-start {after = after} {u} n l e f h d =
-      let m : Marked (graphOf x) (sink (graphOf x)) after = table-start (graphOf x) (few-vertices l) n h (rw f at d) in
+  rows-start {after = after} {u} b l e f h d =
+      let m : Marked (graphOf x) (sink (graphOf x)) after = table-start (graphOf x) (few-vertices l) b h (rw f at d) in
       record { below = omega arith; marked = rw e m; clashes = rw e }
 
   pub rows-found : {u : ℕ} {b after : List ℕ} {answer : Bool} → Rows x u b → RowDone (graphOf x) u after answer → answer ≡ true

@@ -15,7 +15,7 @@ use Rattle.checking.specs.Pairs.{common, meets, clashAt}
 unfoldable pub pairBit : List ℕ → ℕ → ℕ → Bool
 pairBit b s t = bit b (s * 408 + t)
 
--- the pairs of vertices from k on are marked, and no others
+-- the pairs of vertices from k on are marked, and no others; a row after the sink's may hold anything
 pub record Marked (g : Graph) (k : ℕ) (b : List ℕ) : Type 0 where
   pub long : length b ≡ 20502
   pub bits : (s t : ℕ) → s ≤ sink g → t ≤ sink g → pairBit b s t ≡ leb k (min s t) && common g s t

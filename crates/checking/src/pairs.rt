@@ -5,6 +5,7 @@ ghost use mathlib.Core.Bool.{false};
 ghost use Prim.Native.Nat.{suc, _+_, _*_, _≤_, _<_};
 ghost use lib.ListN.{length, replicate};
 ghost use Rattle.endian.specs.Lists.{any};
+ghost use Rattle.call.specs.Buffers.{zeroed};
 ghost use Rattle.lexicon.specs.Lexicon.{nodeCount, successors};
 ghost use Rattle.graph.specs.Graph.{graphOf};
 ghost use Rattle.graph.specs.Conditions.{orphan, sameLetters};
@@ -20,7 +21,7 @@ const ROW: usize = 51;
 // Its bits.
 const ROW_BITS: usize = 408;
 
-// The bytes of the table: a row for each vertex.
+// The most bytes of the table: a row for each vertex.
 pub(crate) const PAIR_BYTES: usize = 20502;
 
 fn has_bit(mask: &[u8; 51], i: usize) -> bool
@@ -136,12 +137,12 @@ fn add_row(lexicon: &[u8], lists: &[u16; 402], u: usize, pairs: &mut [u8]) -> bo
     false
 }
 
-// The pair of the sink with itself alone is marked.
+// The pair of the sink with itself alone is marked. No row after the sink's is ever read, so only those up to it are made zero.
 fn begin_table(sink: usize, pairs: &mut [u8])
     requires { ⌜ (sink < 402) × (length (now pairs) ≡ 20502) ⌝ }
-    ensures { λ _. ⌜ BitSet (sink * 408 + sink) (replicate (length (now (pairs .entry))) 0) (now (pairs .exit)) ⌝ }
+    ensures { λ _. ⌜ BitSet (sink * 408 + sink) (zeroed (51 * (sink + 1)) (now (pairs .entry))) (now (pairs .exit)) ⌝ }
 {
-    zero(pairs);
+    zero(&mut pairs[0..ROW * (sink + 1)]);
     set_bit(pairs, sink * ROW_BITS + sink);
 }
 

@@ -8,8 +8,8 @@ use mathlib.Core.Option.{Option, none, some}
 use native.Mathlib.Omega.{arith}
 use lib.IntN.{ℤ, pos, negsuc, _+ℤ_, natAbs}
 use lib.Signed.{mag}
-use lib.Dec.{ltb}
-use lib.ListN.{length, take, replicate}
+use lib.Dec.{ltb, eqb}
+use lib.ListN.{length, getD, take, replicate}
 use lib.Seq.{take-nil}
 use Rattle.endian.specs.Integers.{eqZ}
 use Rattle.endian.specs.Bytes.{i16}
@@ -17,16 +17,18 @@ use Rattle.endian.proofs.Booleans.{cond-cases}
 use Rattle.endian.proofs.Bytes.{i16-range}
 use Rattle.endian.proofs.Integers.{size-sum}
 use Rattle.voice.specs.Voice.{symbolCount, symbolsAt, impossible, emission}
-use Rattle.ranking.specs.Hits.{Hit}
+use Rattle.ranking.specs.Hits.{Hit, hit}
 use Rattle.decoder.specs.Score.{possible, plus}
 use Rattle.passing.specs.Best.{rowOf, best, byCode, shift}
 use Rattle.passing.specs.Tokens.{carried}
-use Rattle.decoding.specs.Slots.{slots, offered, shifted, Movable, Offer, Changed}
+use Rattle.decoding.specs.Slots.{tokenAt, slots, offered, shifted, Movable, Offer, Changed}
 use Rattle.decoding.specs.Held.{raised, tokenOf, held, pad, upOf, downOf}
 use Rattle.decoding.specs.Gains.{gainOf}
+use Rattle.decoding.specs.Stored.{source}
 use Rattle.decoding.specs.Carrying.{Worth, Movers, Staying, Offering, stayed, joined}
 use Rattle.decoding.proofs.Gaining.{gain-none}
 use Rattle.decoding.proofs.Held.{held-none, length-held, Moves, held-movable}
+use Rattle.decoding.proofs.Lending.{take-slots}
 use Rattle.decoding.proofs.Kept.{shifted-best, offered-best, offer-ready}
 
 -- ---- gains
@@ -140,7 +142,18 @@ module _ {n slot gain : ℕ} {b : List ℕ} (t : Staying n slot gain b) where
       ∙ shifted-best n (a .0) 0 (t .l) (moves-of (t .worth) (t .movers) (a .1)) in
       record { inside = rw (a .1) (c .inside ∙ rw (up-is (t .worth) (a .1), t .holds) sum); outside = c .outside }
 
--- ---- a copy
+-- ---- lists of tokens
+
+-- the root has a token, and a node's first is that of its first slot
+pub root-some : (n k : ℕ) (b : List ℕ) → 0 < n → eqb (getD (source true n k b) 0 0) 0 ≡ false
+unfolding source raised tokenOf pad
+root-some zero k b h = absurd (omega arith)
+root-some (suc n) k b h = refl
+
+pub node-first : (n k : ℕ) (b : List ℕ) → 0 < n → getD (source false n k b) 0 0 ≡ tokenAt b k
+unfolding source slots
+node-first zero k b l = absurd (omega arith)
+node-first (suc n) k b l = refl
 
 held-take-more : (n m : ℕ) (l : List Hit) → n ≤ m → take n (held m l) ≡ held n l
 unfolding pad
@@ -149,10 +162,46 @@ held-take-more (suc n) zero l h = absurd (omega arith)
 held-take-more (suc n) (suc m) [] h = ap (λ r. 0 ∷ r) (held-take-more n m [] (omega arith))
 held-take-more (suc n) (suc m) (x ∷ l) h = ap (λ r. tokenOf x ∷ r) (held-take-more n m l (omega arith))
 
--- tokens handed on as a copy of 8
-module _ {n : ℕ} (l : List Hit) {from : List ℕ} (e : from ≡ held 8 l) (few : n ≤ 8) where
+-- tokens handed on as a list of m
+module _ {n m : ℕ} (l : List Hit) {from : List ℕ} (e : from ≡ held m l) (few : n ≤ m) where
   pub handed-long : n ≤ length from
   handed-long = rw (e, length-held) few
 
   pub handed-take : take n from ≡ held n l
-  handed-take = rw e (held-take-more n 8 l few)
+  handed-take = rw e (held-take-more n m l few)
+
+-- ---- what a vertex hands on
+
+root-list : 576460756598390783 ∷ 0 ∷ 0 ∷ 0 ∷ 0 ∷ 0 ∷ 0 ∷ 0 ∷ [] ≡ held 8 (hit (pos 0) 0 ∷ [])
+unfolding raised tokenOf pad
+root-list = refl
+
+module _ {n slot gain down : ℕ} {root : Bool} (k : ℕ) {b : List ℕ} (t : Offering n slot gain down (source root n k b) b) (z : ¬ (gain ≡ 0)) where
+  -- the root's token, as a list of 8
+  module _ (e : root ≡ true) where
+    same-tokens : take n (576460756598390783 ∷ 0 ∷ 0 ∷ 0 ∷ 0 ∷ 0 ∷ 0 ∷ 0 ∷ []) ≡ take n (source root n k b)
+    unfolding source
+    same-tokens = handed-take (hit (pos 0) 0 ∷ []) root-list (t .room .few) ∙ rw e (sym (held-take-more n n (hit (pos 0) 0 ∷ []) (omega arith)))
+
+    pub root-ready : Offer n slot (gain * 4294967296) down (576460756598390783 ∷ 0 ∷ 0 ∷ 0 ∷ 0 ∷ 0 ∷ 0 ∷ 0 ∷ []) b
+    root-ready =
+        let o = hand-ready t z in
+        record { room = o .room; long = t .room .few; bears = rw same-tokens (o .bears); source = rw same-tokens (o .source); target = o .target }
+
+    pub root-done : {b′ : List ℕ}
+        → Changed slot n (offered (gain * 4294967296) down (take n (576460756598390783 ∷ 0 ∷ 0 ∷ 0 ∷ 0 ∷ 0 ∷ 0 ∷ 0 ∷ [])) (slots n slot b)) b b′
+        → Changed slot n (held n (joined t)) b b′
+    root-done c = hand-done t z (rw same-tokens at c)
+
+  -- the tokens of a node
+  module _ (e : root ≡ false) where
+    own-tokens : source root n k b ≡ slots n k b
+    unfolding source
+    own-tokens = rw e
+
+    pub node-ready : Offer n slot (gain * 4294967296) down (slots n k b) b
+    node-ready = rw own-tokens at (hand-ready t z)
+
+    pub node-done : {b′ : List ℕ} → Changed slot n (offered (gain * 4294967296) down (slots n k b) (slots n slot b)) b b′
+        → Changed slot n (held n (joined t)) b b′
+    node-done c = hand-done t z (rw (own-tokens, take-slots) c)

@@ -8,7 +8,7 @@ use native.Mathlib.Omega.{arith}
 use native.Mathlib.Nat.{add-zero}
 use native.Mathlib.Numerals.{add-one}
 use borrow.Author.Tests.{lt-ltb, le-ltb, ltb-true, ltb-false, eq-eqb, ne-eqb}
-use lib.Dec.{ltb}
+use lib.Dec.{ltb, eqb}
 use lib.IntN.{ℤ, pos, negsuc, subℕ, _+ℤ_}
 use lib.Signed.{mag}
 use mir.Syntax.{w16}
@@ -32,19 +32,14 @@ use Rattle.decoding.specs.Gains.{raisedOf, gainOf, raisedGain, letterPai
 
 -- ---- the sum of two scores
 
--- a biased score that stands for a stored one
-module _ (s : Score) (z : ℤ) (e : meaning s ≡ possible z) where
-  pub stored-none : s .0 ≡ 0 → possible z ≡ none
-  unfolding meaning
-  stored-none h = sym e ∙ rw (eq-eqb (s .0) 0 h)
-
-  pub stored-some : ¬ (s .0 ≡ 0) → (possible z ≡ some z) × (subℕ (s .0) 134217728 ≡ z)
-  unfolding meaning possible
-  stored-some h = go (eqZ z impossible) (sym (rw (ne-eqb (s .0) 0 h)) ∙ e)
-    where
-      go : (b : Bool) → some (subℕ (s .0) 134217728) ≡ cond b none (some z) → (cond b none (some z) ≡ some z) × (subℕ (s .0) 134217728 ≡ z)
-      go true q = let n : _≡_ {A = ℕ} 0 1 = cc in absurd (omega arith)
-      go false q = let r : subℕ (s .0) 134217728 ≡ z = cc in (refl, r)
+-- a biased score that stands for a stored one, which is possible
+pub stored-some : (s : Score) (z : ℤ) → meaning s ≡ some z → subℕ (s .0) 134217728 ≡ z
+unfolding meaning
+stored-some s z e = go (eqb (s .0) 0) e
+  where
+    go : (b : Bool) → cond b none (some (subℕ (s .0) 134217728)) ≡ some z → subℕ (s .0) 134217728 ≡ z
+    go true q = let n : _≡_ {A = ℕ} 0 1 = cc in absurd (omega arith)
+    go false q = cc
 
 -- a number whose difference to k is small
 near : (n k h : ℕ) (z : ℤ) → subℕ n k ≡ z → mag z < h → (k ≤ n + h) × (n < k + h)

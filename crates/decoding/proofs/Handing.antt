@@ -1,8 +1,9 @@
 -- Tokens handed on along the arcs of a vertex: one arc, and the loop over all. What is left to pass on from the store so far is what was to be
 -- passed on from the store at the beginning; the increment of the next arc is the sum of the counts before it. Assumes nothing.
-use Prim.Native.Nat.{ℕ, _+_, _*_, _^_, _≤_, _<_}
+use Prim.Native.Nat.{ℕ, zero, suc, _+_, _*_, _^_, _≤_, _<_}
 use mathlib.Core.Path.{_≡_, refl, sym, ap, _∙_}
-use mathlib.Core.Logic.{⊎-elim}
+use mathlib.Core.Bool.{Bool, true, false}
+use mathlib.Core.Logic.{inl, ⊎-elim}
 use mathlib.Core.List.{List, [], _∷_, _++_, map, map-append, append-assoc, List·Memᴰ, List·Memᴰ·head as here, List·Memᴰ·tail as there, List·Memᴰ·append-cases as append-cases}
 use native.Mathlib.Omega.{arith}
 use native.Mathlib.Nat.{add-zero}
@@ -33,9 +34,10 @@ use Rattle.decoding.specs.Slots.{Changed}
 use Rattle.decoding.specs.Held.{held, pad, downOf}
 use Rattle.decoding.specs.Gains.{entryGain}
 use Rattle.decoding.specs.Places.{firstPlace}
-use Rattle.decoding.specs.Stored.{Ready, Bound, Place, Stored, Handing, Handed, handedOn}
+use Rattle.decoding.specs.Stored.{Ready, Bound, Place, Stored, source, Handing, Handed, handedOn}
 use Rattle.decoding.specs.Carrying.{Worth, Offering, joined, Arc, overOne}
 use Rattle.decoding.proofs.Numbers.{token-some}
+use Rattle.decoding.proofs.Lending.{changed-apart}
 use Rattle.decoding.proofs.Storing.{PutAt, same, other, put-at, stored-put, stored-ext, pass-nothing, places-few, words-few, place-there, place-room, slot-small, carried-bound, bound-storable, movers}
 use Rattle.decoding.proofs.Carrying.{emission-range, worth-by, handed-long, handed-take}
 
@@ -77,21 +79,30 @@ pub record ArcRead (x : List ℕ) (n : ℕ) (firsts entries : List ℕ) (u : ℕ
   pub first : getD firsts u 0 ≤ 1000
   pub slot : n * getD firsts u 0 ≤ 8000
 
-module _ {x : List ℕ} {n nodes : ℕ} {firsts entries from : List ℕ} {u down : ℕ} {b : List ℕ} (t : Arc x n nodes firsts entries from u down b) where
-  abbrev h : Handing x n (t .lists) (t .counts) firsts entries (t .w) from b
+-- what is handed on stays where another place changes
+source-apart : (root : Bool) (n k : ℕ) {slot : ℕ} {l b b′ : List ℕ} → (root ≡ false → k + n ≤ slot) → Changed slot n l b b′ → source root n k b′ ≡ source root n k b
+unfolding source
+source-apart true n k a c = refl
+source-apart false n k a c = changed-apart c n k (inl (a refl))
+
+module _ {x : List ℕ} {n nodes : ℕ} {firsts entries : List ℕ} {root : Bool} {from u down : ℕ} {b : List ℕ} (t : Arc x n nodes firsts entries root from u down b) where
+  abbrev w : ℕ
+  w = t .w
+
+  abbrev h : Handing x n (t .lists) (t .counts) firsts entries w root from b
   h = t .handing
 
   abbrev g : Graph
   g = graphOf x
 
-  vertex : t .w < sink g
+  vertex : w < sink g
   unfolding sink
   vertex = omega (arith, h .vertex)
 
-  rises : (t .w < u) × (u ≤ sink g)
+  rises : (w < u) × (u ≤ sink g)
   rises = sound-of (lexicon-formed (h .ready)) .rises vertex (t .arc)
 
-  gap : increment g (t .w) u + pathCount g u ≤ pathCount g (t .w)
+  gap : increment g (w) u + pathCount g u ≤ pathCount g (w)
   gap = arc-count (sound-of (lexicon-formed (h .ready))) vertex (t .arc)
 
   words : wordCount g < 2 ^ 32
@@ -125,22 +136,28 @@ module _ {x : List ℕ} {n nodes : ℕ} {firsts entries from : List ℕ} {u down
       slot = rw slot-is (slot-small (h .v) x (h .ready .accepted) (h .roomy) (omega (arith, place-there (h .v) x place)));
     }
 
-    pub arc-offering : Offering n (n * getD firsts u 0) (getD entries (getD x (1 + u) 0) 0) down from b
+    pub arc-offering : Offering n (n * getD firsts u 0) (getD entries (getD x (1 + u) 0) 0) down (source root n from b) b
     arc-offering = record {
       score = plus (h .score) (heard (h .v) g (h .k) u 0);
-      d = increment g (t .w) u;
+      d = increment g (w) u;
       l = h .l;
       s = h .Q u 0;
       worth = worth k;
       down-is = t .down-is;
       room = rw slot-is (place-room (h .v) x (h .roomy) place);
-      long = handed-long (h .l) (h .handed) (h .roomy .few);
-      handed = handed-take (h .l) (h .handed) (h .roomy .few);
-      movers = movers n (h .M) (t .w) u _ _ (h .l) words (h .fits) (h .best) (λ a e. worth k .small e) (λ y i. h .bound i) gap;
+      long = handed-long (h .l) (h .handed) (omega arith);
+      handed = handed-take (h .l) (h .handed) (omega arith);
+      movers = movers n (h .M) (w) u _ _ (h .l) words (h .fits) (h .best) (λ a e. worth k .small e) (λ y i. h .bound i) gap;
       holds = rw slot-is (h .stored .holds place);
       best = h .stored .kept place;
       storable = λ z i. bound-storable words (h .fits) (h .above place (rises .0) i);
     }
+
+    pub arc-apart : root ≡ false → from + n ≤ n * getD firsts u 0
+    arc-apart z = rw (first-at (h .ready) k) (h .apart z (rises .0) k)
+
+    pub arc-source : {l b′ : List ℕ} → Changed (n * getD firsts u 0) n l b b′ → source root n from b′ ≡ source root n from b
+    arc-source c = source-apart root n from arc-apart c
 
     pub arc-done : {b′ : List ℕ} → Changed (n * getD firsts u 0) n (held n (joined arc-offering)) b b′ → Stored (h .v) g n (overOne t) b′
     unfolding joined overOne arc-offering
@@ -151,12 +168,12 @@ module _ {x : List ℕ} {n nodes : ℕ} {firsts entries from : List ℕ} {u down
   unfolding overOne sink
   arc-sink k = stored-ext (h .stored) (λ z s p. put-node (h .Q) u 0 _ (λ e. omega (arith, p .high, t .nodes-is)))
 
-  pub arc-above : {z s : ℕ} {y : Hit} → Place (h .v) g z s → t .w < z → List·Memᴰ y (overOne t z s) → Bound g (h .M + 65536) z y
+  pub arc-above : {z s : ℕ} {y : Hit} → Place (h .v) g z s → w < z → List·Memᴰ y (overOne t z s) → Bound g (h .M + 65536) z y
   unfolding overOne sink
   arc-above {z} {s} {y} p l i = go (put-at (h .Q) u 0 _ z s)
     where
       new : List Hit
-      new = overArc (h .v) g (h .k) (h .score) (t .w) u (h .l)
+      new = overArc (h .v) g (h .k) (h .score) (w) u (h .l)
 
       go : PutAt (h .Q) u 0 (bestTokens n (h .Q u 0 ++ new)) z s → Bound g (h .M + 65536) z y
       go (other d q) = h .above p l (rw q at i)
@@ -164,7 +181,7 @@ module _ {x : List ℕ} {n nodes : ℕ} {firsts entries from : List ℕ} {u down
           let k : u ≤ nodeCount x = omega (arith, p .high) in
           rw e (⊎-elim
           (λ j. h .above (place k) (rises .0) j)
-          (λ j. carried-bound (h .M) (t .w) u _ _ (h .l) (λ a e. worth k .small e) (λ y i. h .bound i) gap j)
+          (λ j. carried-bound (h .M) (w) u _ _ (h .l) (λ a e. worth k .small e) (λ y i. h .bound i) gap j)
           (append-cases (h .Q u 0) (best-from hits-strict n (h .Q u 0 ++ new) y (rw q at i))))
 
 -- ---- all arcs
@@ -173,7 +190,7 @@ mem-middle : (l : List ℕ) {u : ℕ} (m : List ℕ) → List·Memᴰ u (l ++ u 
 mem-middle [] m = here refl
 mem-middle (x ∷ l) m = there (mem-middle l m)
 
-module _ {x : List ℕ} {n : ℕ} {lists counts firsts entries : List ℕ} {w : ℕ} {from b₀ : List ℕ} (t : Handing x n lists counts firsts entries w from b₀) where
+module _ {x : List ℕ} {n : ℕ} {lists counts firsts entries : List ℕ} {w : ℕ} {root : Bool} {from : ℕ} {b₀ : List ℕ} (t : Handing x n lists counts firsts entries w root from b₀) where
   -- Q is the store when the arcs to the earlier successors are done
   pub record HandingLeft (at stop down : ℕ) (b : List ℕ) : Type 0 where
     pub Q : Store
@@ -185,16 +202,22 @@ module _ {x : List ℕ} {n : ℕ} {lists counts firsts entries : List ℕ} {w : 
     pub stored : Stored (t .v) (graphOf x) n Q b
     pub above : {u s : ℕ} {y : Hit} → Place (t .v) (graphOf x) u s → w < u → List·Memᴰ y (Q u s) → Bound (graphOf x) (t .M + 65536) u y
     pub long : length b ≡ length b₀
+    pub source-kept : source root n from b ≡ source root n from b₀
     pub passed : passOn (t .v) (graphOf x) n (t .k) (λ u. t .score) w (t .l) left Q ≡ handedOn t
 
   -- some token is handed on, so that the paths from w are among all
-  some-words : ¬ (getD from 0 0 ≡ 0) → pathCount (graphOf x) w ≤ wordCount (graphOf x)
+  some-words : ¬ (getD (source root n from b₀) 0 0 ≡ 0) → pathCount (graphOf x) w ≤ wordCount (graphOf x)
   unfolding pad
-  some-words z = go (t .l) (t .handed) (λ y i. t .bound i)
+  some-words z = go n (t .l) (t .handed) (λ y i. t .bound i)
     where
-      go : (l : List Hit) → from ≡ held 8 l → ((y : Hit) → List·Memᴰ y l → Bound (graphOf x) (t .M) w y) → pathCount (graphOf x) w ≤ wordCount (graphOf x)
-      go [] e f = absurd (z (rw e refl))
-      go (y ∷ l) e f = omega (arith, f y (here refl) .code)
+      go : (m : ℕ) (l : List Hit) → source root n from b₀ ≡ held m l → ((y : Hit) → List·Memᴰ y l → Bound (graphOf x) (t .M) w y) → pathCount (graphOf x) w ≤ wordCount (graphOf x)
+      go zero [] e f = absurd (z (rw e refl))
+      go (suc m) [] e f = absurd (z (rw e refl))
+      go m (y ∷ l) e f = omega (arith, f y (here refl) .code)
+
+  -- a node's first slot is inside
+  pub source-room : root ≡ false → 8 * from + 8 ≤ length b₀
+  source-room z = let r = t .inside z in omega (arith, r .room, r .some)
 
   list-at : getD lists w 0 ≡ arcsAt x w
   unfolding sinkOf
@@ -218,11 +241,12 @@ module _ {x : List ℕ} {n : ℕ} {lists counts firsts entries : List ℕ} {w : 
     stored = t .stored;
     above = t .above;
     long = refl;
+    source-kept = refl;
     passed = refl;
   }
 
   module _ {at stop down : ℕ} {b : List ℕ} (L : HandingLeft at stop down b) where
-    so-far : Handing x n lists counts firsts entries w from b
+    so-far : Handing x n lists counts firsts entries w root from b
     so-far = record {
       v = t .v;
       k = t .k;
@@ -237,7 +261,9 @@ module _ {x : List ℕ} {n : ℕ} {lists counts firsts entries : List ℕ} {w : 
       moved = t .moved;
       score-is = t .score-is;
       small = t .small;
-      handed = t .handed;
+      handed = L .source-kept ∙ t .handed;
+      inside = λ z. let r = t .inside z in record { some = r .some; few = r .few; room = rw (L .long) (r .room) };
+      apart = t .apart;
       best = t .best;
       bound = t .bound;
       fits = t .fits;
@@ -265,7 +291,7 @@ module _ {x : List ℕ} {n : ℕ} {lists counts firsts entries : List ℕ} {w : 
       increment-is : increment (graphOf x) w u ≡ sum (map (pathCount (graphOf x)) (L .earlier))
       increment-is = increment-at (sound-of (lexicon-formed (t .ready))) below (L .earlier) (next .others) u split-is
 
-      pub left-arc : {nodes : ℕ} → nodes ≡ nodeCount x → Arc x n nodes firsts entries from u down b
+      pub left-arc : {nodes : ℕ} → nodes ≡ nodeCount x → Arc x n nodes firsts entries root from u down b
       left-arc q = record {
         w = w;
         lists = lists;
@@ -284,14 +310,14 @@ module _ {x : List ℕ} {n : ℕ} {lists counts firsts entries : List ℕ} {w : 
       count-is = entry (t .ready .counts-of) (omega (arith, next .bounded))
 
       -- the counts don't overflow where there are tokens
-      pub down-few : ¬ (getD from 0 0 ≡ 0) → down + getD counts u 0 < 281474976710656 + 4294967296
+      pub down-few : ¬ (getD (source root n from b₀) 0 0 ≡ 0) → down + getD counts u 0 < 281474976710656 + 4294967296
       unfolding downOf
       down-few z = omega (arith, L .counted, increment-is, count-is, arc-count (sound-of (lexicon-formed (t .ready))) below in-list, some-words z, words-few (t .v) x (t .ready .accepted))
 
-      pub handing-next : {nodes : ℕ} (q : nodes ≡ nodeCount x) {b′ : List ℕ} → Stored (left-arc q .handing .v) (graphOf x) n (overOne (left-arc q)) b′ → length b′ ≡ length b
+      pub handing-next : {nodes : ℕ} (q : nodes ≡ nodeCount x) {b′ : List ℕ} → Stored (left-arc q .handing .v) (graphOf x) n (overOne (left-arc q)) b′ → source root n from b′ ≡ source root n from b → length b′ ≡ length b
           → HandingLeft (at + 2) stop (down + getD counts u 0) b′
       unfolding passOn overOne downOf sum left-arc so-far
-      handing-next q S l = record {
+      handing-next q S e l = record {
         Q = overOne (left-arc q);
         earlier = L .earlier ++ (u ∷ []);
         left = next .others;
@@ -301,6 +327,7 @@ module _ {x : List ℕ} {n : ℕ} {lists counts firsts entries : List ℕ} {w : 
         stored = S;
         above = arc-above (left-arc q);
         long = l ∙ L .long;
+        source-kept = e ∙ L .source-kept;
         passed = rw left-is at (L .passed);
       }
         where
@@ -313,16 +340,18 @@ module _ {x : List ℕ} {n : ℕ} {lists counts firsts entries : List ℕ} {w : 
         let e : L .Q ≡ handedOn t = rw (arcs-done (L .arcs) end) at (L .passed) in
         record { stored = rw e at (L .stored); above = λ {u} {s} p l i. L .above p l (rw (sym (ap (λ (P : Store). P u s) e)) at i); long = L .long }
 
-  no-tokens : (l : List Hit) → from ≡ held 8 l → ((y : Hit) → List·Memᴰ y l → Bound (graphOf x) (t .M) w y) → getD from 0 0 ≡ 0 → l ≡ []
+  no-tokens : (m : ℕ) (l : List Hit) → 1 ≤ m → source root n from b₀ ≡ held m l → ((y : Hit) → List·Memᴰ y l → Bound (graphOf x) (t .M) w y)
+      → getD (source root n from b₀) 0 0 ≡ 0 → l ≡ []
   unfolding pad
-  no-tokens [] e f z = refl
-  no-tokens (y ∷ l) e f z =
+  no-tokens m [] h e f z = refl
+  no-tokens zero (y ∷ l) h e f z = absurd (omega arith)
+  no-tokens (suc m) (y ∷ l) h e f z =
       let s = bound-storable (words-few (t .v) x (t .ready .accepted)) (omega (arith, t .fits)) (f y (here refl)) in
       let z′ = rw e at z in
       absurd (omega (arith, token-some y s))
 
   -- nothing is passed on
-  pub handing-nothing : getD from 0 0 ≡ 0 → Handed t b₀
+  pub handing-nothing : getD (source root n from b₀) 0 0 ≡ 0 → Handed t b₀
   unfolding handedOn
   handing-nothing z = record {
     stored = stored-ext (t .stored) (λ u s p. nothing p);
@@ -331,7 +360,7 @@ module _ {x : List ℕ} {n : ℕ} {lists counts firsts entries : List ℕ} {w : 
   }
     where
       e : t .l ≡ []
-      e = no-tokens (t .l) (t .handed) (λ y i. t .bound i) z
+      e = no-tokens n (t .l) (t .roomy .some) (t .handed) (λ y i. t .bound i) z
 
       nothing : {u s : ℕ} → Place (t .v) (graphOf x) u s → passOn (t .v) (graphOf x) n (t .k) (λ u. t .score) w (t .l) (successors x w) (t .Q) u s ≡ t .Q u s
       nothing p = rw e (pass-nothing n (t .k) (λ u. t .score) w (successors x w) (t .Q) (λ u s q. t .stored .kept q) p)

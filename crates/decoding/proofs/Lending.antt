@@ -120,55 +120,55 @@ pub changed-apart : {k n : ℕ} {l b b′ : List ℕ} → Changed k n l b b′ �
 changed-apart {b} {b′} c m j h =
     slots-ext m j j b′ b (λ i g. c .outside (j + i) (⊎-elim (λ p. inl (omega arith)) (λ p. inr (omega arith)) h))
 
--- ---- tokens of the place before
+-- ---- tokens of an earlier place
 
 -- before token i of it: what is left to offer makes the whole offer, and no other place has changed
-pub record BeforeLeft (n k up down : ℕ) (b₀ : List ℕ) (i : ℕ) (b : List ℕ) : Type 0 where
+pub record FromLeft (n f k up down : ℕ) (b₀ : List ℕ) (i : ℕ) (b : List ℕ) : Type 0 where
   pub few : i ≤ n
   pub long : length b ≡ length b₀
   pub target : Falling (slots n k b)
   pub outside : (j : ℕ) → (j < k) ⊎ (k + n ≤ j) → tokenAt b j ≡ tokenAt b₀ j
-  pub left : offered up down (drop i (take n (slots n (k - n) b₀))) (slots n k b) ≡ offered up down (slots n (k - n) b₀) (slots n k b₀)
+  pub left : offered up down (drop i (take n (slots n f b₀))) (slots n k b) ≡ offered up down (slots n f b₀) (slots n k b₀)
 
 pub take-slots : (n k : ℕ) (b : List ℕ) → take n (slots n k b) ≡ slots n k b
 take-slots n k b = take-all n (slots n k b) (omega (arith, length-slots n k b))
 
-module _ {n k up down : ℕ} {b₀ : List ℕ} (below : n ≤ k) (o : Offer n k up down (slots n (k - n) b₀) b₀) where
-  pub before-start : BeforeLeft n k up down b₀ 0 b₀
-  before-start = record {
+module _ {n f k up down : ℕ} {b₀ : List ℕ} (below : f + n ≤ k) (o : Offer n k up down (slots n f b₀) b₀) where
+  pub from-start : FromLeft n f k up down b₀ 0 b₀
+  from-start = record {
     few = omega arith;
     long = refl;
     target = o .target;
     outside = λ j h. refl;
-    left = ap (λ l. offered up down l (slots n k b₀)) (take-slots n (k - n) b₀);
+    left = ap (λ l. offered up down l (slots n k b₀)) (take-slots n f b₀);
   }
 
-  module _ {i : ℕ} {b : List ℕ} (L : BeforeLeft n k up down b₀ i b) where
+  module _ {i : ℕ} {b : List ℕ} (L : FromLeft n f k up down b₀ i b) where
     -- the offer ends where nothing more enters
-    before-ends : offered up down (drop i (take n (slots n (k - n) b₀))) (slots n k b) ≡ slots n k b
-        → Changed k n (offered up down (slots n (k - n) b₀) (slots n k b₀)) b₀ b
-    before-ends e = record { inside = sym e ∙ L .left; outside = L .outside }
+    from-ends : offered up down (drop i (take n (slots n f b₀))) (slots n k b) ≡ slots n k b
+        → Changed k n (offered up down (slots n f b₀) (slots n k b₀)) b₀ b
+    from-ends e = record { inside = sym e ∙ L .left; outside = L .outside }
 
-    pub before-done : n ≤ i → Changed k n (offered up down (slots n (k - n) b₀) (slots n k b₀)) b₀ b
-    before-done h = before-ends (offered-done up down n i (slots n (k - n) b₀) (slots n k b) h)
+    pub from-done : n ≤ i → Changed k n (offered up down (slots n f b₀) (slots n k b₀)) b₀ b
+    from-done h = from-ends (offered-done up down n i (slots n f b₀) (slots n k b) h)
 
-    module _ (h : i < n) {token : ℕ} (read : token ≡ tokenAt b (k - n + i)) where
+    module _ (h : i < n) {token : ℕ} (read : token ≡ tokenAt b (f + i)) where
       -- the token that is read is still the one at the beginning
-      old : token ≡ getD (slots n (k - n) b₀) i 0
-      old = read ∙ L .outside (k - n + i) (inl (omega arith)) ∙ sym (slots-get n (k - n) i b₀ 0 h)
+      old : token ≡ getD (slots n f b₀) i 0
+      old = read ∙ L .outside (f + i) (inl (omega arith)) ∙ sym (slots-get n f i b₀ 0 h)
 
-      pub before-none : token ≡ 0 → Changed k n (offered up down (slots n (k - n) b₀) (slots n k b₀)) b₀ b
-      before-none z = before-ends (offered-ends up down n i _ (slots n k b) h (o .long) (sym old ∙ z))
+      pub from-none : token ≡ 0 → Changed k n (offered up down (slots n f b₀) (slots n k b₀)) b₀ b
+      from-none z = from-ends (offered-ends up down n i _ (slots n k b) h (o .long) (sym old ∙ z))
 
-      pub before-bears : ¬ (token ≡ 0) → Bears up down token
-      before-bears z = rw old (o .bears _ (from-holds n i _ h (o .long)) (λ e. z (old ∙ e)))
+      pub from-bears : ¬ (token ≡ 0) → Bears up down token
+      from-bears z = rw old (o .bears _ (from-holds n i _ h (o .long)) (λ e. z (old ∙ e)))
 
-      pub before-late : token + up - down < tokenAt b (k + n - 1) → Changed k n (offered up down (slots n (k - n) b₀) (slots n k b₀)) b₀ b
-      before-late l = before-ends (offered-late up down n i k (k + n - 1) _ b (omega arith) h (o .long) (o .source) (L .target) (rw old at l))
+      pub from-late : token + up - down < tokenAt b (k + n - 1) → Changed k n (offered up down (slots n f b₀) (slots n k b₀)) b₀ b
+      from-late l = from-ends (offered-late up down n i k (k + n - 1) _ b (omega arith) h (o .long) (o .source) (L .target) (rw old at l))
 
-      pub before-next : ¬ (token ≡ 0) → {b′ : List ℕ} → length b′ ≡ length b → Changed k n (enter (token + up - down) (slots n k b)) b b′
-          → BeforeLeft n k up down b₀ (i + 1) b′
-      before-next z {b′} long c = record {
+      pub from-next : ¬ (token ≡ 0) → {b′ : List ℕ} → length b′ ≡ length b → Changed k n (enter (token + up - down) (slots n k b)) b b′
+          → FromLeft n f k up down b₀ (i + 1) b′
+      from-next z {b′} long c = record {
         few = omega arith;
         long = long ∙ L .long;
         target = rw (c .inside) (falling-enter (L .target) (token + up - down));

@@ -6,9 +6,9 @@ use Rattle.decoding.specs.Places.{firstPlace}
 use Rattle.decoding.specs.Gains.{raisedOf, gainOf, raisedGain, pairOf, letterPairs, pairScore, loopRaised, stepRaised, loopGain, stepGain, entryGain, linkGain}
 use Rattle.decoding.specs.Listing.{hitOf, hitsOf}
 use Rattle.decoding.specs.Calling.{callRows}
-use Rattle.decoding.specs.Stored.{handedOn, turned}
+use Rattle.decoding.specs.Stored.{source, handedOn, turned}
 use Rattle.decoding.specs.Carrying.{stayed, joined, overOne, renewedOne, renewedAll, renewal}
 
 unfoldable pub everything : Unit {0}
-unfolding tokenAt slots codePart position push enter offered shifted raised tokenOf pad upOf downOf firstPlace raisedOf gainOf raisedGain pairOf letterPairs pairScore loopRaised stepRaised loopGain stepGain entryGain linkGain hitOf hitsOf callRows handedOn turned stayed joined overOne renewedOne renewedAll renewal
+unfolding tokenAt slots codePart position push enter offered shifted raised tokenOf pad upOf downOf firstPlace raisedOf gainOf raisedGain pairOf letterPairs pairScore loopRaised stepRaised loopGain stepGain entryGain linkGain hitOf hitsOf callRows source handedOn turned stayed joined overOne renewedOne renewedAll renewal
 everything = tt

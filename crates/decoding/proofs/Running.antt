@@ -2,7 +2,7 @@
 -- By the theorems of token passing in one store. Assumes nothing.
 use Prim.Native.Nat.{ℕ, zero, suc, _+_, _-_, _*_, _≤_, _<_}
 use mathlib.Core.Path.{_≡_, refl, sym, ap, _∙_}
-use mathlib.Core.Bool.{false}
+use mathlib.Core.Bool.{true, false, true≢false}
 use mathlib.Core.List.{List, [], _∷_, List·Memᴰ, List·Memᴰ·not-nil as not-nil, List·Memᴰ·eq-of-singleton as only}
 use mathlib.Core.Option.{some}
 use native.Mathlib.Omega.{arith}
@@ -34,7 +34,7 @@ use Rattle.passing.proofs.Bounds.{token-bounded}
 use Rattle.decoding.specs.Slots.{slots}
 use Rattle.decoding.specs.Held.{held}
 use Rattle.decoding.specs.Gains.{MoveGains, EntryGains, Hearing}
-use Rattle.decoding.specs.Stored.{Roomy, Bound, Place, Stored, Within, Handing, handedOn, Handed, Turn, turned, TurnDone}
+use Rattle.decoding.specs.Stored.{Roomy, Bound, Place, Stored, Within, source, Handing, handedOn, Handed, Turn, turned, TurnDone}
 use Rattle.decoding.specs.Running.{Empty, Run, StoredAt}
 use Rattle.decoding.proofs.Held.{held-none}
 
@@ -88,7 +88,7 @@ module _ {v x frames : List ℕ} {n : ℕ} {lists counts firsts b : List ℕ} (r
 
   -- ---- the first frame
 
-  module _ (e : Empty b) {entries from : List ℕ} (gains : EntryGains v x (getD frames 0 0) (some (pos 0)) entries) (f : from ≡ held 8 (hit (pos 0) 0 ∷ [])) where
+  module _ (e : Empty b) {entries : List ℕ} (gains : EntryGains v x (getD frames 0 0) (some (pos 0)) entries) where
     pub one-best : (n : ℕ) → 1 ≤ n → bestTokens n (hit (pos 0) 0 ∷ []) ≡ hit (pos 0) 0 ∷ []
     unfolding rowOf insert
     one-best zero h = absurd (omega arith)
@@ -98,8 +98,8 @@ module _ {v x frames : List ℕ} {n : ℕ} {lists counts firsts b : List ℕ} (r
     unfolding wordCount
     root-bound i = rw (only i) (record { score = omega arith; code = omega arith })
 
-    unfoldable pub root-handing : Handing x n lists counts firsts entries 0 from b
-    unfolding possible impossible eqZ
+    unfoldable pub root-handing : Handing x n lists counts firsts entries 0 true 0 b
+    unfolding possible impossible eqZ source
     root-handing = record {
       v = v;
       k = getD frames 0 0;
@@ -114,7 +114,9 @@ module _ {v x frames : List ℕ} {n : ℕ} {lists counts firsts b : List ℕ} (r
       score-is = refl;
       small = omega arith;
       gains = gains;
-      handed = f;
+      handed = refl;
+      inside = λ z. absurd (true≢false z);
+      apart = λ z. absurd (true≢false z);
       best = one-best n (r .roomy .some);
       bound = root-bound;
       fits = omega arith;

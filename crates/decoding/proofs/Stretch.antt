@@ -17,7 +17,7 @@ use Rattle.graph.specs.Conditions.{placeCount}
 use Rattle.graph.proofs.Accepted.{AcceptedImages, accepted}
 use Rattle.passing.specs.Tokens.{Store, bestTokens}
 use Rattle.passing.specs.InPlace.{renewDown}
-use Rattle.passing.proofs.InPlace.{put-node}
+use Rattle.passing.proofs.InPlace.{renew-apart}
 use Rattle.decoding.specs.Slots.{tokenAt, slots, Changed}
 use Rattle.decoding.specs.Held.{held}
 use Rattle.decoding.specs.Places.{firstPlace}
@@ -27,13 +27,6 @@ use Rattle.decoding.proofs.Slots.{slots-ext, slots-get}
 use Rattle.decoding.proofs.Lending.{part-slots, part-back, changed-apart}
 use Rattle.decoding.proofs.Numbering.{places-all, place-end}
 use Rattle.decoding.proofs.Storing.{block, places-few}
-
--- ---- other nodes keep what they hold
-
-pub renew-apart : (v : List ℕ) (g : Graph) (n k u s : ℕ) (P : Store) {w r : ℕ} → ¬ (w ≡ u) → renewDown v g n k u s P w r ≡ P w r
-unfolding renewDown
-renew-apart v g n k u zero P d = refl
-renew-apart v g n k u (suc s) P d = renew-apart v g n k u s _ d ∙ put-node P u s _ d
 
 -- ---- slots within slots
 

@@ -1,7 +1,8 @@
--- A node's turn: its last tokens are copied, its states renewed, and the copy is passed on. What each call asks, and what is left. Bounds are
+-- A node's turn: its last tokens are passed on, and then its states are renewed. What each call asks, and what is left. Bounds are
 -- those of the definitions: renewed tokens moved once, and nodes below hold what they held. Assumes nothing.
 use Prim.Native.Nat.{ℕ, zero, suc, _+_, _-_, _*_, _≤_, _<_}
 use mathlib.Core.Path.{_≡_, refl, sym, ap, _∙_}
+use mathlib.Core.Bool.{false}
 use mathlib.Core.Logic.{⊎-elim}
 use mathlib.Core.List.{List, [], _∷_, _++_, List·Memᴰ, List·Memᴰ·append-cases as append-cases}
 use mathlib.Core.Option.{some}
@@ -12,7 +13,7 @@ use lib.ListN.{length, getD, replicate, length-take}
 use Rattle.endian.proofs.Bytes.{i16-range}
 use Rattle.voice.specs.Voice.{states, loopScore, stepScore, linkScore}
 use Rattle.voice.proofs.Letters.{states-there}
-use Rattle.lexicon.specs.Lexicon.{nodeLetter}
+use Rattle.lexicon.specs.Lexicon.{nodeCount, nodeLetter}
 use Rattle.graph.specs.Graph.{Graph, graphOf, sink}
 use Rattle.graph.proofs.Accepted.{accepted}
 use Rattle.checking.proofs.Arcs.{shape-of, sound-of, nodes-there}
@@ -23,26 +24,18 @@ use Rattle.passing.specs.Tokens.{Store, bestTokens, stateOf, heard, lastState, 
 use Rattle.passing.specs.InPlace.{passNode}
 use Rattle.passing.proofs.Order.{hits-strict}
 use Rattle.passing.proofs.Best.{best-from}
-use Rattle.passing.proofs.InPlace.{node-own, node-other}
+use Rattle.passing.proofs.InPlace.{renew-apart, pass-other, node-own, node-other}
 use Rattle.decoding.specs.Slots.{slots, Room, Falling}
 use Rattle.decoding.specs.Held.{held, pad, tokenOf}
 use Rattle.decoding.specs.Places.{firstPlace}
-use Rattle.decoding.specs.Stored.{Bound, Place, Stored, Handing, Handed, handedOn, Turn, TurnDone, turned}
+use Rattle.decoding.specs.Stored.{Bound, Place, Stored, source, Handing, Handed, handedOn, Turn, TurnDone, turned}
 use Rattle.decoding.specs.Carrying.{Renewal, renewal}
 use Rattle.decoding.proofs.Held.{held-none}
 use Rattle.decoding.proofs.Kept.{best-falling}
-use Rattle.decoding.proofs.Storing.{places-few, words-few, place-there, place-room, slot-small, carried-bound, bound-storable}
+use Rattle.decoding.proofs.Numbering.{place-end}
+use Rattle.decoding.proofs.Storing.{block, places-few, words-few, place-there, place-room, slot-small, carried-bound, bound-storable}
 use Rattle.decoding.proofs.Carrying.{emission-range, move-small}
-use Rattle.decoding.proofs.Stretch.{renew-apart}
 use Rattle.decoding.proofs.Handing.{lexicon-formed, known, letter-few, state-range, place-of, first-at}
-
--- a copy holds what 8 slots would
-held-more : (n m : ℕ) (l : List Hit) → length l ≤ n → held n l ++ replicate m 0 ≡ held (n + m) l
-unfolding pad
-held-more zero m [] h = let e : 0 + m ≡ m = omega arith in rw e (held-none m)
-held-more zero m (y ∷ l) h = absurd (omega arith)
-held-more (suc n) m [] h = let e : suc n + m ≡ suc (n + m) = omega arith in rw e (ap (λ r. 0 ∷ r) (held-more n m [] (omega arith)))
-held-more (suc n) m (y ∷ l) h = let e : suc n + m ≡ suc (n + m) = omega arith in rw e (ap (λ r. tokenOf y ∷ r) (held-more n m l (omega arith)))
 
 -- ---- bounds of a renewed state
 
@@ -117,7 +110,7 @@ module _ {v x : List ℕ} {n : ℕ} {lists counts firsts loops steps entries : L
   pub slot-few : n * (getD firsts w 0 + count - 1) ≤ 8000
   slot-few = rw slot-is (slot-small v x (t .ready .accepted) (t .roomy) (omega (arith, place-there v x last)))
 
-  -- ---- the copy
+  -- ---- passing on
 
   abbrev old : List Hit
   old = t .P w (lastState v g w)
@@ -126,86 +119,76 @@ module _ {v x : List ℕ} {n : ℕ} {lists counts firsts loops steps entries : L
   unfolding lastState
   last-is = ap (λ (c : ℕ). c - 1) count-is
 
-  old-few : length old ≤ n
-  old-few =
-      let q : length (bestTokens n old) ≤ n = omega (arith, length-take n (rowOf byCode old)) in
-      let p : Place v g w (lastState v g w) = rw last-is at last in
-      rw (t .stored .kept p) at q
-
   old-slots : slots n (n * (getD firsts w 0 + count - 1)) b ≡ held n old
   old-slots =
       let p : Place v g w (lastState v g w) = rw last-is at last in
       ap (λ (k : ℕ). slots n k b) (slot-is ∙ ap (λ (s : ℕ). n * (firstPlace v g w + s)) last-is) ∙ t .stored .holds p
 
-  pub copy-ready : Room n (n * (getD firsts w 0 + count - 1)) b × Falling (slots n (n * (getD firsts w 0 + count - 1)) b)
-  copy-ready =
-      let p : Place v g w (lastState v g w) = rw last-is at last in
-      let falls : Falling (held n (bestTokens n old)) = best-falling n old
-      (λ h i. bound-storable (words-few v x (t .ready .accepted)) (omega (arith, t .fits)) (t .within .old p (omega arith) i)) in
-      (rw slot-is (place-room v x (t .roomy) last), rw old-slots (rw (t .stored .kept p) at falls))
-
-  copy-is : {from : List ℕ} → from ≡ slots n (n * (getD firsts w 0 + count - 1)) b ++ replicate (8 - n) 0 → from ≡ held 8 old
-  copy-is e =
-      let m : n + (8 - n) ≡ 8 = omega (arith, t .roomy .few) in
-      e ∙ ap (λ l. l ++ replicate (8 - n) 0) old-slots ∙ held-more n (8 - n) old old-few ∙ ap (λ (k : ℕ). held k old) m
-
-  -- ---- renewal
-
-  pub renewing : Renewal n (4 * letter) (getD firsts w 0) count loops steps b
-  unfolding nodeLetter states
-  renewing = record {
-    v = v;
-    x = x;
-    k = t .k;
-    M = t .M;
-    P = t .P;
-    node = w;
-    accepted = t .ready .accepted;
-    roomy = t .roomy;
-    low = t .low;
-    high = t .high;
-    all = refl;
-    entry-is = refl;
-    first-is = first-is;
-    moves = t .moves;
-    stored = t .stored;
-    bound = λ h i. t .within .old (place h) (omega arith) i;
-    fits = t .fits;
-  }
-
-  -- ---- passing on
-
   below : w < sink g
   unfolding sink
   below = omega (arith, t .high)
 
-  module _ {from b′ : List ℕ} (e : from ≡ slots n (n * (getD firsts w 0 + count - 1)) b ++ replicate (8 - n) 0)
-      (S : Stored (renewing .v) (graphOf (renewing .x)) n (renewal renewing) b′) (long : length b′ ≡ length b) where
-    pub handing : Handing x n lists counts firsts entries w from b′
-    unfolding renewing renewal linkScore
-    handing = record {
+  -- a node's places end before those of a later one begin
+  last-apart : {u : ℕ} → w < u → u ≤ nodeCount x → n * (getD firsts w 0 + count - 1) + n ≤ n * firstPlace v g u
+  last-apart {u} l h = block n (omega (arith, first-is, count-is, count-range, place-end v g {u = w} {w = u} (t .low) l))
+
+  pub handing : Handing x n lists counts firsts entries w false (n * (getD firsts w 0 + count - 1)) b
+  unfolding linkScore source
+  handing = record {
+    v = v;
+    k = t .k;
+    M = t .M;
+    score = possible (linkScore v 0);
+    l = old;
+    Q = t .P;
+    ready = t .ready;
+    roomy = t .roomy;
+    vertex = t .high;
+    gains = t .links;
+    moved = linkScore v 0;
+    score-is = refl;
+    small = i16-range v _;
+    handed = old-slots;
+    inside = λ z. rw slot-is (place-room v x (t .roomy) last);
+    apart = λ z l h. last-apart l h;
+    best = t .stored .kept (rw last-is at last);
+    bound = λ i. t .within .old (rw last-is at last) (omega arith) i;
+    fits = t .fits;
+    stored = t .stored;
+    above = λ p l i. t .within .new p l i;
+  }
+
+  -- ---- renewal
+
+  module _ {b′ : List ℕ} (H : Handed handing b′) where
+    -- no arc leads back to the node
+    own-kept : {s : ℕ} → handedOn handing w s ≡ t .P w s
+    unfolding handedOn handing
+    own-kept {s} = pass-other v g n (t .k) _ w old (g .successors w) (t .P) w s (λ i. omega (arith, sound-of (lexicon-formed (t .ready)) .rises below i))
+
+    pub renewing : Renewal n (4 * letter) (getD firsts w 0) count loops steps b′
+    unfolding nodeLetter states handing
+    renewing = record {
       v = v;
+      x = x;
       k = t .k;
       M = t .M;
-      score = possible (linkScore v 0);
-      l = old;
-      Q = renewal renewing;
-      ready = t .ready;
-      roomy = record { some = t .roomy .some; few = t .roomy .few; room = rw long (t .roomy .room) };
-      vertex = t .high;
-      gains = t .links;
-      moved = linkScore v 0;
-      score-is = refl;
-      small = i16-range v _;
-      handed = copy-is e;
-      best = t .stored .kept (rw last-is at last);
-      bound = λ i. t .within .old (rw last-is at last) (omega arith) i;
+      P = handedOn handing;
+      node = w;
+      accepted = t .ready .accepted;
+      roomy = record { some = t .roomy .some; few = t .roomy .few; room = rw (H .long) (t .roomy .room) };
+      low = t .low;
+      high = t .high;
+      all = refl;
+      entry-is = refl;
+      first-is = first-is;
+      moves = t .moves;
+      stored = H .stored;
+      bound = λ {r} h i. t .within .old (place h) (omega arith) (rw (own-kept {s = r}) at i);
       fits = t .fits;
-      stored = S;
-      above = λ {u} {s} p l i. t .within .new p l (rw (renew-apart v g n (t .k) w _ (t .P) {w = u} {r = s} (λ q. omega arith)) at i);
     }
 
-    same-turn : handedOn handing ≡ turned t
+    same-turn : renewal renewing ≡ turned t
     unfolding handedOn turned handing renewing renewal passNode entryScore linkScore states nodeLetter
     same-turn = refl
 
@@ -225,16 +208,20 @@ module _ {v x : List ℕ} {n : ℕ} {lists counts firsts loops steps entries : L
         (λ r y m j. t .within .old (place (omega (arith, count-is))) (omega arith) j)
         (best-from hits-strict n _ h (rw (turned-own l) at i))
 
-    pub turn-done : {b″ : List ℕ} → Handed handing b″ → TurnDone t b″
-    unfolding handing
-    turn-done {b″} H = record {
-      stored = rw same-turn at (H .stored);
+    turned-above : {u : ℕ} (s : ℕ) → w < u → turned t u s ≡ handedOn handing u s
+    unfolding turned passNode handedOn handing entryScore linkScore
+    turned-above {u} s l = renew-apart v g n (t .k) w _ _ {w = u} {r = s} (λ q. omega arith)
+
+    pub turn-done : {b″ : List ℕ} → Stored (renewing .v) (graphOf (renewing .x)) n (renewal renewing) b″ → length b″ ≡ length b′ → TurnDone t b″
+    unfolding handing renewing
+    turn-done {b″} S long = record {
+      stored = rw same-turn at S;
       within = record {
         old = λ {u} {s} p l i. t .within .old p (omega arith) (rw (turned-below {u = u} {s = s} (omega (arith, t .low))) at i);
         new = λ {u} {s} {h} p l i. elim (ℕ-discrete u w) [
           | yes e ↦ rw e (own-bound {s = s} (rw e at (p .state)) (rw e at i))
-          | no d ↦ H .above p (omega arith) (rw (sym (ap (λ (P : Store). P u s) same-turn)) at i)
+          | no d ↦ H .above p (omega arith) (rw (turned-above {u = u} s (omega arith)) at i)
         ];
       };
-      long = H .long ∙ long;
+      long = long ∙ H .long;
     }

@@ -2,6 +2,7 @@
 -- arc or state in the store. No public contract cites this. Assumes nothing.
 use Prim.Native.Nat.{ℕ, suc, _+_, _*_, _≤_, _<_}
 use mathlib.Core.Path.{_≡_}
+use mathlib.Core.Bool.{Bool}
 use mathlib.Core.List.{List, _++_, List·Memᴰ}
 use mathlib.Core.Option.{Option, none, some}
 use lib.IntN.{ℤ, natAbs}
@@ -67,16 +68,16 @@ joined {n} t = bestTokens n (t .s ++ carried (t .score) (t .d) (t .l))
 
 -- ---- one arc: from vertex w to u, where the store is as far as the arcs before it left it
 
-pub record Arc (x : List ℕ) (n nodes : ℕ) (firsts entries from : List ℕ) (u down : ℕ) (b : List ℕ) : Type 0 where
+pub record Arc (x : List ℕ) (n nodes : ℕ) (firsts entries : List ℕ) (root : Bool) (from u down : ℕ) (b : List ℕ) : Type 0 where
   pub w : ℕ
   pub lists : List ℕ
   pub counts : List ℕ
-  pub handing : Handing x n lists counts firsts entries w from b
+  pub handing : Handing x n lists counts firsts entries w root from b
   pub nodes-is : nodes ≡ nodeCount x
   pub arc : List·Memᴰ u (successors x w)
   pub down-is : down ≡ downOf (increment (graphOf x) w u)
 
-unfoldable pub overOne : {x : List ℕ} {n nodes : ℕ} {firsts entries from : List ℕ} {u down : ℕ} {b : List ℕ} → Arc x n nodes firsts entries from u down b → Store
+unfoldable pub overOne : {x : List ℕ} {n nodes : ℕ} {firsts entries : List ℕ} {root : Bool} {from u down : ℕ} {b : List ℕ} → Arc x n nodes firsts entries root from u down b → Store
 overOne {x} {n} {u = u} t =
     let h = t .handing in
     put (h .Q) u 0 (bestTokens n (h .Q u 0 ++ overArc (h .v) (graphOf x) (h .k) (h .score) (t .w) u (h .l)))

@@ -2,9 +2,10 @@
 -- Assumes nothing.
 use Prim.Native.Nat.{ℕ, suc, _+_, _-_, _*_, _≤_, _<_}
 use mathlib.Core.Path.{_≡_}
-use mathlib.Core.List.{List, List·Memᴰ}
+use mathlib.Core.Bool.{Bool, true, false}
+use mathlib.Core.List.{List, [], _∷_, List·Memᴰ}
 use mathlib.Core.Option.{Option}
-use lib.IntN.{ℤ, natAbs}
+use lib.IntN.{ℤ, pos, natAbs}
 use lib.Signed.{mag}
 use lib.ListN.{length}
 use Rattle.voice.specs.Voice.{states, linkScore}
@@ -13,11 +14,11 @@ use Rattle.graph.specs.Graph.{Graph, graphOf, sink, pathCount, wordCount}
 use Rattle.graph.specs.Conditions.{placeCount}
 use Rattle.graph.specs.Checking.{Accepted}
 use Rattle.checking.specs.Tables.{TableOf}
-use Rattle.ranking.specs.Hits.{Hit}
+use Rattle.ranking.specs.Hits.{Hit, hit}
 use Rattle.decoder.specs.Score.{possible}
 use Rattle.passing.specs.Tokens.{Store, bestTokens}
 use Rattle.passing.specs.InPlace.{passOn, passNode}
-use Rattle.decoding.specs.Slots.{slots}
+use Rattle.decoding.specs.Slots.{slots, Room}
 use Rattle.decoding.specs.Held.{held}
 use Rattle.decoding.specs.Places.{firstPlace}
 use Rattle.decoding.specs.Gains.{MoveGains, EntryGains}
@@ -58,8 +59,13 @@ pub record Within (v : List ℕ) (g : Graph) (m M : ℕ) (P : Store) : Type 0 wh
 
 -- ---- the tokens of a vertex are passed on along its arcs
 
+-- what a vertex hands on: the root its one token, which has no place, and a node those of its n slots from k on
+unfoldable pub source : Bool → ℕ → ℕ → List ℕ → List ℕ
+source true n k b = held n (hit (pos 0) 0 ∷ [])
+source false n k b = slots n k b
+
 -- vertex w, root or node, hands on the tokens l over arcs of one score, at a frame of symbol k
-pub record Handing (x : List ℕ) (n : ℕ) (lists counts firsts entries : List ℕ) (w : ℕ) (from b : List ℕ) : Type 0 where
+pub record Handing (x : List ℕ) (n : ℕ) (lists counts firsts entries : List ℕ) (w : ℕ) (root : Bool) (from : ℕ) (b : List ℕ) : Type 0 where
   pub v : List ℕ
   pub k : ℕ
   pub M : ℕ
@@ -74,7 +80,10 @@ pub record Handing (x : List ℕ) (n : ℕ) (lists counts firsts entries : List 
   pub moved : ℤ
   pub score-is : score ≡ possible moved
   pub small : mag moved < 32768
-  pub handed : from ≡ held 8 l
+  pub handed : source root n from b ≡ held n l
+  -- a node's slots are in the store, and the places of later nodes are apart from them
+  pub inside : root ≡ false → Room n from b
+  pub apart : {u : ℕ} → root ≡ false → w < u → u ≤ nodeCount x → from + n ≤ n * firstPlace v (graphOf x) u
   pub best : bestTokens n l ≡ l
   pub bound : {h : Hit} → List·Memᴰ h l → Bound (graphOf x) M w h
   pub fits : M + 65536 ≤ 67108864
@@ -82,10 +91,10 @@ pub record Handing (x : List ℕ) (n : ℕ) (lists counts firsts entries : List 
   pub above : {u s : ℕ} {h : Hit} → Place v (graphOf x) u s → w < u → List·Memᴰ h (Q u s) → Bound (graphOf x) (M + 65536) u h
 
 -- the store after it
-unfoldable pub handedOn : {x : List ℕ} {n : ℕ} {lists counts firsts entries : List ℕ} {w : ℕ} {from b : List ℕ} → Handing x n lists counts firsts entries w from b → Store
+unfoldable pub handedOn : {x : List ℕ} {n : ℕ} {lists counts firsts entries : List ℕ} {w : ℕ} {root : Bool} {from : ℕ} {b : List ℕ} → Handing x n lists counts firsts entries w root from b → Store
 handedOn {x} {n} {w = w} t = passOn (t .v) (graphOf x) n (t .k) (λ u. t .score) w (t .l) (successors x w) (t .Q)
 
-pub record Handed {x : List ℕ} {n : ℕ} {lists counts firsts entries : List ℕ} {w : ℕ} {from b : List ℕ} (t : Handing x n lists counts firsts entries w from b) (b′ : List ℕ) : Type 0 where
+pub record Handed {x : List ℕ} {n : ℕ} {lists counts firsts entries : List ℕ} {w : ℕ} {root : Bool} {from : ℕ} {b : List ℕ} (t : Handing x n lists counts firsts entries w root from b) (b′ : List ℕ) : Type 0 where
   pub stored : Stored (t .v) (graphOf x) n (handedOn t) b′
   pub above : {u s : ℕ} {h : Hit} → Place (t .v) (graphOf x) u s → w < u → List·Memᴰ h (handedOn t u s) → Bound (graphOf x) (t .M + 65536) u h
   pub long : length b′ ≡ length b

@@ -18,9 +18,6 @@ use crate::turns::pass_node;
 use crate::turns::pass_on;
 use endian::u16_at;
 
-// The token of score 0 and code 0.
-const ROOT: u64 = 576460756598390783;
-
 // A score of 0, raised: what the root's token enters by.
 const RAISED_ZERO: u32 = 32768;
 
@@ -66,8 +63,18 @@ fn first_frame(
         steps,
         entries,
     );
-    let from = [ROOT, 0, 0, 0, 0, 0, 0, 0];
-    pass_on(lexicon, n, lists, counts, firsts, entries, 0, &from, store);
+    pass_on(
+        lexicon,
+        n,
+        lists,
+        counts,
+        firsts,
+        entries,
+        0,
+        true,
+        0,
+        store,
+    );
 }
 
 // The frame after frame t, where the tables hold the gains of symbol `heard`, or of none if that is 256. Answers its symbol.

@@ -27,11 +27,12 @@ const LIFT: u32 = 134184960;
 pub(crate) fn raise(stored: i16) -> u32
     ensures { λ r. ⌜ r ≡ raisedOf (possible stored) ⌝ }
 {
-    let score = Score::from_stored(stored);
-    let none = Score::IMPOSSIBLE;
-    if score.0 == none.0 {
-        return 0;
+    // tested first, since the compiler then sees that a sum without a test does the same
+    if stored == IMPOSSIBLE {
+        let none = Score::IMPOSSIBLE;
+        return none.0;
     }
+    let score = Score::from_stored(stored);
     score.0 - LIFT
 }
 

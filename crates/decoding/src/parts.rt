@@ -1,7 +1,7 @@
 // A place within the whole store, by the slot that it begins at: its part is lent on, and nothing else changes.
 ghost use mathlib.Core.Path.{_≡_};
 ghost use mathlib.Core.List.{_++_};
-ghost use Prim.Native.Nat.{_-_, _≤_};
+ghost use Prim.Native.Nat.{_+_, _-_, _≤_};
 ghost use lib.ListN.{take, replicate};
 ghost use Rattle.decoding.specs.Slots.{slots, offered, shifted, Room, Movable, Falling, Offer, Changed};
 use crate::store::clear_place;
@@ -48,17 +48,16 @@ pub(crate) fn offer_at(store: &mut [u8], n: usize, slot: usize, from: &[u64; 8],
     offer(&mut store[start..end], n, from, up, down);
 }
 
-// The tokens of the place before this one, moved, are candidates for it, as in `offer`. They need no copy, since only this place changes.
-pub(crate) fn offer_before(store: &mut [u8], n: usize, slot: usize, up: u64, down: u64)
-    requires { ⌜ (n ≤ slot) × Offer n slot up down (slots n (slot - n) (now store)) (now store) ⌝ }
-    ensures { λ _. ⌜ Changed slot n (offered up down (slots n (slot - n) (now (store .entry))) (slots n slot (now (store .entry)))) (now (store .entry)) (now (store .exit)) ⌝ }
+// The tokens of another place of the store, moved, are candidates for this one, as in `offer`. They need no copy, since only this place changes.
+pub(crate) fn offer_from(store: &mut [u8], n: usize, from: usize, slot: usize, up: u64, down: u64)
+    requires { ⌜ (from + n ≤ slot) × Offer n slot up down (slots n from (now store)) (now store) ⌝ }
+    ensures { λ _. ⌜ Changed slot n (offered up down (slots n from (now (store .entry))) (slots n slot (now (store .entry)))) (now (store .entry)) (now (store .exit)) ⌝ }
 {
-    let before = slot - n;
     let start = 8 * slot;
     let end = start + 8 * n;
     let mut i = 0;
     while i < n {
-        let token = token_at(store, before + i);
+        let token = token_at(store, from + i);
         if token == 0 {
             return;
         }

@@ -1,19 +1,24 @@
-// A node's turn at a frame: its own states are renewed, and what its last state held is passed on to its successors.
+// A node's turn at a frame: what its last state holds is passed on to its successors, and its own states are renewed.
 ghost use mathlib.Core.Path.{_≡_};
-ghost use Prim.Native.Nat.{suc, _+_, _≤_};
-ghost use lib.ListN.{length};
+ghost use mathlib.Core.Bool.{false};
+ghost use Prim.Native.Nat.{ℕ, suc, _+_, _*_, _≤_, _<_};
+ghost use lib.Dec.{eqb};
+ghost use lib.ListN.{length, getD};
 ghost use Rattle.endian.specs.Bytes.{u16};
 ghost use Rattle.graph.specs.Graph.{graphOf};
 ghost use Rattle.decoding.specs.Slots.{Changed};
 ghost use Rattle.decoding.specs.Held.{held};
-ghost use Rattle.decoding.specs.Stored.{Stored, Handing, Handed, Turn, TurnDone};
+ghost use Rattle.decoding.specs.Stored.{Stored, source, Handing, Handed, Turn, TurnDone};
 ghost use Rattle.decoding.specs.Carrying.{Staying, Offering, Arc, Own, Renewing, Renewal, stayed, joined, overOne, renewedOne, renewedAll, renewal};
 use crate::parts::clear_at;
-use crate::parts::copy_at;
 use crate::parts::offer_at;
-use crate::parts::offer_before;
+use crate::parts::offer_from;
 use crate::parts::shift_at;
+use crate::tokens::token_at;
 use endian::u16_of;
+
+// The root's token: score 0 and code 0.
+const ROOT: u64 = 576460756598390783;
 
 // 2^16 in the half of the score, which every gain holds above the score that it adds.
 const LIFT: u64 = 281474976710656;
@@ -26,15 +31,21 @@ fn number_at(lexicon: &[u8], at: usize) -> usize
     u16_of(lexicon[at], lexicon[at + 1]) as usize
 }
 
-// Offers tokens to a place, unless the move is impossible.
-fn hand(store: &mut [u8], n: usize, slot: usize, from: &[u64; 8], gain: u32, down: u64)
-    requires { ⌜ Offering n slot gain down (now from) (now store) ⌝ }
-    ensures { λ _. ⌜ ((t : Offering n slot gain down (now (from .entry)) (now (store .entry))) → Changed slot n (held n (joined t)) (now (store .entry)) (now (store .exit))) ⌝ }
+// Offers the tokens of a vertex to a place, unless the move is impossible: the root's, which has no place of its own, or those of an earlier place.
+fn hand(store: &mut [u8], n: usize, root: bool, from: usize, slot: usize, gain: u32, down: u64)
+    requires { ⌜ Offering n slot gain down (source root n from (now store)) (now store) × (root ≡ false → from + n ≤ slot) ⌝ }
+    ensures { λ _. ⌜ ((t : Offering n slot gain down (source root n from (now (store .entry))) (now (store .entry))) → Changed slot n (held n (joined t)) (now (store .entry)) (now (store .exit))) ⌝ }
 {
     if gain == 0 {
         return;
     }
-    offer_at(store, n, slot, from, gain as u64 * 4294967296, down);
+    let up = gain as u64 * 4294967296;
+    if root {
+        let tokens = [ROOT, 0, 0, 0, 0, 0, 0, 0];
+        offer_at(store, n, slot, &tokens, up, down);
+        return;
+    }
+    offer_from(store, n, from, slot, up, down);
 }
 
 // Hands the tokens on over one arc, to node t; the sink has no place.
@@ -44,22 +55,35 @@ fn hand_over(
     nodes: usize,
     firsts: &[u16; 402],
     entries: &[u32; 64],
-    from: &[u64; 8],
+    root: bool,
+    from: usize,
     t: usize,
     down: u64,
     store: &mut [u8],
 )
-    requires { ⌜ Arc (now lexicon) n nodes (now firsts) (now entries) (now from) t down (now store) ⌝ }
-    ensures { λ _. ⌜ ((a : Arc (now (lexicon .entry)) n nodes (now (firsts .entry)) (now (entries .entry)) (now (from .entry)) t down (now (store .entry))) → Stored (a .handing .v) (graphOf (now (lexicon .entry))) n (overOne a) (now (store .exit))) ⌝ }
+    requires { ⌜ Arc (now lexicon) n nodes (now firsts) (now entries) root from t down (now store) ⌝ }
+    ensures { λ _. ⌜ ((a : Arc (now (lexicon .entry)) n nodes (now (firsts .entry)) (now (entries .entry)) root from t down (now (store .entry))) → Stored (a .handing .v) (graphOf (now (lexicon .entry))) n (overOne a) (now (store .exit))) ⌝ }
+    ensures { λ _. ⌜ source root n from (now (store .exit)) ≡ source root n from (now (store .entry)) ⌝ }
 {
     if nodes < t {
         return;
     }
     let gain = entries[lexicon[1 + t] as usize];
-    hand(store, n, n * (firsts[t] as usize), from, gain, down);
+    hand(store, n, root, from, n * (firsts[t] as usize), gain, down);
 }
 
-// Passes the tokens of a vertex on to the first state of each node that it leads to.
+// A vertex without tokens; the root has one.
+fn is_empty(store: &[u8], root: bool, from: usize) -> bool
+    requires { ⌜ (root ≡ false → 8 * from + 8 ≤ length (now store)) ⌝ }
+    ensures { λ r. ⌜ ((n : ℕ) → 0 < n → r ≡ eqb (getD (source root n from (now (store .entry))) 0 0) 0) ⌝ }
+{
+    if root {
+        return false;
+    }
+    token_at(store, from) == 0
+}
+
+// Passes the tokens of a vertex, which a node has from a slot on, on to the first state of each node that it leads to.
 pub(crate) fn pass_on(
     lexicon: &[u8],
     n: usize,
@@ -68,13 +92,14 @@ pub(crate) fn pass_on(
     firsts: &[u16; 402],
     entries: &[u32; 64],
     vertex: usize,
-    from: &[u64; 8],
+    root: bool,
+    from: usize,
     store: &mut [u8],
 )
-    requires { ⌜ Handing (now lexicon) n (now lists) (now counts) (now firsts) (now entries) vertex (now from) (now store) ⌝ }
-    ensures { λ _. ⌜ ((t : Handing (now (lexicon .entry)) n (now (lists .entry)) (now (counts .entry)) (now (firsts .entry)) (now (entries .entry)) vertex (now (from .entry)) (now (store .entry))) → Handed t (now (store .exit))) ⌝ }
+    requires { ⌜ Handing (now lexicon) n (now lists) (now counts) (now firsts) (now entries) vertex root from (now store) ⌝ }
+    ensures { λ _. ⌜ ((t : Handing (now (lexicon .entry)) n (now (lists .entry)) (now (counts .entry)) (now (firsts .entry)) (now (entries .entry)) vertex root from (now (store .entry))) → Handed t (now (store .exit))) ⌝ }
 {
-    if from[0] == 0 {
+    if is_empty(&store[..], root, from) {
         return;
     }
     let nodes = number_at(lexicon, 0);
@@ -84,7 +109,18 @@ pub(crate) fn pass_on(
     let mut down = LIFT;
     while at < stop {
         let t = number_at(lexicon, at);
-        hand_over(lexicon, n, nodes, firsts, entries, from, t, down, store);
+        hand_over(
+            lexicon,
+            n,
+            nodes,
+            firsts,
+            entries,
+            root,
+            from,
+            t,
+            down,
+            store,
+        );
         down += counts[t] as u64;
         at += 2;
     }
@@ -123,7 +159,7 @@ fn renew_state(
     if gain == 0 {
         return;
     }
-    offer_before(part, n, slot, gain as u64 * 4294967296, LIFT);
+    offer_from(part, n, slot - n, slot, gain as u64 * 4294967296, LIFT);
 }
 
 // Renews the states in a node's part of the store, from the last to the first.
@@ -183,9 +219,8 @@ pub(crate) fn pass_node(
     let letter = lexicon[1 + node] as usize;
     let states = voice[2 + 2 * letter] as usize;
     let first = firsts[node] as usize;
-    let mut old = [0; 8];
-    copy_at(store, n, n * (first + states - 1), &mut old);
-    renew_node(store, n, 4 * letter, first, states, loops, steps);
+    // its successors get its old tokens, so it passes them on first
+    let last = n * (first + states - 1);
     pass_on(
         lexicon,
         n,
@@ -194,7 +229,9 @@ pub(crate) fn pass_node(
         firsts,
         entries,
         node,
-        &old,
+        false,
+        last,
         store,
     );
+    renew_node(store, n, 4 * letter, first, states, loops, steps);
 }

@@ -1,5 +1,5 @@
--- Token passing in one store leaves at every place what arrives there at the frame: a renewed state reads itself and the one before, which are
--- still old; arcs rise, so a node still holds its old tokens when its turn comes, and it is renewed before any is passed to it; and a
+-- Token passing in one store leaves at every place what arrives there at the frame: arcs rise, so a node still holds its old tokens when its
+-- turn comes, and it is renewed before any is passed to it; a renewed state reads itself and the one before, which are still old; and a
 -- successor is listed once. Assumes nothing.
 use Prim.Native.Nat.{ℕ, zero, suc, _≤_, _<_}
 use mathlib.Core.Path.{_≡_, refl, sym, _∙_, ap}
@@ -52,10 +52,10 @@ module _ (v : List ℕ) (g : Graph) (n k : ℕ) where
   renewed-reads P Q u zero h = rw (h 0 (omega arith))
   renewed-reads P Q u (suc s) h = rw (h s (omega arith), h (suc s) (omega arith))
 
-  renew-node : (u s : ℕ) (P : Store) {w r : ℕ} → ¬ (w ≡ u) → renewDown v g n k u s P w r ≡ P w r
+  pub renew-apart : (u s : ℕ) (P : Store) {w r : ℕ} → ¬ (w ≡ u) → renewDown v g n k u s P w r ≡ P w r
   unfolding renewDown
-  renew-node u zero P d = refl
-  renew-node u (suc s) P d = renew-node u s _ d ∙ put-node P u s _ d
+  renew-apart u zero P d = refl
+  renew-apart u (suc s) P d = renew-apart u s _ d ∙ put-node P u s _ d
 
   renew-above : (u s : ℕ) (P : Store) {r : ℕ} → s ≤ r → renewDown v g n k u s P u r ≡ P u r
   unfolding renewDown
@@ -78,7 +78,7 @@ module _ (v : List ℕ) (g : Graph) (n k : ℕ) where
     pass-later [] P u s = refl
     pass-later (x ∷ us) P u s = pass-later us _ u s ∙ put-state P x 0 _ (λ e. omega arith)
 
-    pass-other : (us : List ℕ) (P : Store) (u s : ℕ) → ¬ (u ∈ us) → passOn v g n k score w l us P u s ≡ P u s
+    pub pass-other : (us : List ℕ) (P : Store) (u s : ℕ) → ¬ (u ∈ us) → passOn v g n k score w l us P u s ≡ P u s
     unfolding passOn
     pass-other [] P u s d = refl
     pass-other (x ∷ us) P u s d = pass-other us _ u s (λ i. d (there i)) ∙ put-node P x 0 _ (λ e. d (here e))
@@ -114,21 +114,20 @@ module _ (v : List ℕ) {g : Graph} (ok : Sound g) (n k : ℕ) where
 
     pub node-own : (s : ℕ) → s < states v (g .letter w) → passNode v g n k w P w s ≡ bestTokens n (renewed v g P k w s)
     unfolding passNode
-    node-own s h = pass-other v g n k _ w _ (g .successors w) _ w s (forward (omega arith)) ∙ renew-own v g n k w _ P s h
+    node-own s h = renew-own v g n k w _ _ s h
+        ∙ ap (bestTokens n) (renewed-reads v g n k P _ w s (λ r l. pass-other v g n k _ w _ (g .successors w) P w r (forward (omega arith))))
 
     pub node-later : (u s : ℕ) → ¬ (u ≡ w) → passNode v g n k w P u (suc s) ≡ P u (suc s)
     unfolding passNode
-    node-later u s d = pass-later v g n k _ w _ (g .successors w) _ u s ∙ renew-node v g n k w _ P d
+    node-later u s d = renew-apart v g n k w _ _ d ∙ pass-later v g n k _ w _ (g .successors w) P u s
 
     pub node-other : (u s : ℕ) → ¬ (u ≡ w) → ¬ (u ∈ g .successors w) → passNode v g n k w P u s ≡ P u s
     unfolding passNode
-    node-other u s d m = pass-other v g n k _ w _ (g .successors w) _ u s m ∙ renew-node v g n k w _ P d
+    node-other u s d m = renew-apart v g n k w _ _ d ∙ pass-other v g n k _ w _ (g .successors w) P u s m
 
     pub node-arc : (u : ℕ) → ¬ (u ≡ w) → u ∈ g .successors w → passNode v g n k w P u 0 ≡ bestTokens n (P u 0 ++ entering v g P k u w)
     unfolding passNode entering
-    node-arc u d m = rw (mem-has m)
-        (pass-arc v g n k _ w _ _ (apart b) m
-        ∙ ap (λ l. bestTokens n (l ++ overArc v g k (entryScore v g w u) w u (P w (lastState v g w)))) (renew-node v g n k w _ P d))
+    node-arc u d m = rw (mem-has m) (renew-apart v g n k w _ _ d ∙ pass-arc v g n k _ w _ P (apart b) m)
 
   -- ---- all turns
 

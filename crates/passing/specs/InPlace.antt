@@ -28,9 +28,9 @@ module _ (v : List ℕ) (g : Graph) (n k : ℕ) where
   passOn score w l [] P = P
   passOn score w l (u ∷ us) P = passOn score w l us (put P u 0 (bestTokens n (P u 0 ++ overArc v g k (score u) w u l)))
 
-  -- the turn of node w: its states are renewed, and what its last state held is passed on
+  -- the turn of node w: what its last state holds is passed on, and then its states are renewed
   unfoldable pub passNode : ℕ → Store → Store
-  passNode w P = passOn (entryScore v g w) w (P w (lastState v g w)) (g .successors w) (renewDown w (states v (g .letter w)) P)
+  passNode w P = renewDown w (states v (g .letter w)) (passOn (entryScore v g w) w (P w (lastState v g w)) (g .successors w) P)
 
   -- the turns of nodes m to 1
   unfoldable pub passDown : ℕ → Store → Store

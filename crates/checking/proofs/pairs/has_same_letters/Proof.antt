@@ -45,7 +45,7 @@ loop-holds c =
     let n = d .before .before in
     let s = n .before .before .before in
     let h = s .pre in
-    rows-start (length (s .args .pairs .now)) (h .0) (n .number-at .ensures) (sink-next n)
+    rows-start (s .args .pairs .now) (h .0) (n .number-at .ensures) (sink-next n)
     (d .begin-table .kept .1 .0 ∙ h .2) (d .begin-table .ensures)
 
 add-row-requires : tie.Need-add-row-requires Inv-loop μ-loop

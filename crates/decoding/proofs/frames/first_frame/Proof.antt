@@ -32,22 +32,18 @@ gains : (c : tie.After-frame-gains) →
     EntryGains (a .voice .now) (a .lexicon .now) (getD (a .frames .now) 0 0) (some (pos 0)) (c .frame-gains .last .1 .1 .1 .1 .1 .1 .1 .1 .1 .1 .1 .0)
 gains c = root-gains (start c .pre .1 .1 .0 .0) (c .frame-gains .ensures)
 
-root-list : 576460756598390783 ∷ 0 ∷ 0 ∷ 0 ∷ 0 ∷ 0 ∷ 0 ∷ 0 ∷ [] ≡ held 8 (hit (pos 0) 0 ∷ [])
-unfolding raised tokenOf pad
-root-list = refl
-
 pass-on-requires : tie.Need-pass-on-requires
 pass-on-requires c κs =
-    let g = c .before .before .before in
+    let g = c .before .before in
     let p = start g .pre in
-    root-handing (p .0) (p .1 .0) (gains g) root-list
+    root-handing (p .0) (p .1 .0) (gains g)
 
 returns : tie.Need-returns
 returns c =
     let m = c .before .before in
-    let g = m .before .before .before .before in
+    let g = m .before .before .before in
     let p = start g .pre in
-    (root-stored (p .0) (p .1 .0) (gains g) root-list (m .pass-on .ensures (root-handing (p .0) (p .1 .0) (gains g) root-list)), gained-long (g .frame-gains .ensures))
+    (root-stored (p .0) (p .1 .0) (gains g) (m .pass-on .ensures (root-handing (p .0) (p .1 .0) (gains g))), gained-long (g .frame-gains .ensures))
 
 shared-slice-read-symbol : tie.Need-shared-slice-read-symbol
 shared-slice-read-symbol c = let h = frame-count _ _ (c .before .before .before .before .before .pre .0 .heard) in search needs

@@ -5,28 +5,27 @@ use borrow.Author.Needs.{needs}
 use lib.IntN.{subℕ}
 use mir.Facts.{toZ-ofZ}
 use Rattle.decoder.specs.Score.{meaning, possible}
+use Rattle.decoder.proofs.Biased.{not-possible, is-possible}
 use Rattle.decoding.specs.Gains.{raisedOf}
-use Rattle.decoding.proofs.Gaining.{stored-none, stored-some, raise-room, raise-is}
+use Rattle.decoding.proofs.Gaining.{stored-some, raise-room, raise-is}
 use Rattle.decoding.proofs.gains.raise.Statement.{statement}
 use Rattle.decoding.proofs.gains.raise.Tie as tie
 
-stored : (c : tie.After-from-stored) → meaning (c .from-stored .result) ≡ possible (c .before .args .stored)
-stored c = c .from-stored .ensures ∙ ap possible (toZ-ofZ (c .before .fits .stored))
-
 returns : tie.Need-returns
 unfolding raisedOf
-returns c = rw (stored-none _ _ (stored (c .before .before .before)) (c .if1 .taken))
+returns c = rw (not-possible _ (c .before .fits .stored) (c .if1 .taken))
 
--- the score is possible
-there : (c : tie.Else1) → let s = c .before .before .before in
-    (possible (s .before .args .stored) ≡ some (s .before .args .stored)) × (subℕ (s .from-stored .result .0) 134217728 ≡ s .before .args .stored)
-there c = stored-some _ _ (stored (c .before .before .before)) (c .if1 .left)
+known : (c : tie.Else1) → possible (c .before .args .stored) ≡ some (c .before .args .stored)
+known c = is-possible _ (c .before .fits .stored) (c .if1 .left)
+
+biased : (c : tie.After-from-stored) → subℕ (c .from-stored .result .0) 134217728 ≡ c .before .before .args .stored
+biased c = stored-some _ _ (c .from-stored .ensures ∙ ap possible (toZ-ofZ (c .before .before .fits .stored)) ∙ known (c .before))
 
 sub-result : tie.Need-sub-result
-sub-result c = let e = c .before in raise-room _ _ (there e .1) (e .before .before .before .before .fits .stored .sfits)
+sub-result c = let s = c .before in raise-room _ _ (biased s) (s .before .before .fits .stored .sfits)
 
 returns-2 : tie.Need-returns-2
-returns-2 c = let e = c .before in rw (there e .0) (raise-is _ _ (there e .1) (e .before .before .before .before .fits .stored .sfits))
+returns-2 c = let s = c .before in rw (known (s .before)) (raise-is _ _ (biased s) (s .before .before .fits .stored .sfits))
 
 pub raise-spec : {M : Type 1} → statement M
-raise-spec = tie.close (tie.spec (λ c κs. search needs) returns sub-result returns-2)
+raise-spec = tie.close (tie.spec returns (λ c κs. search needs) sub-result returns-2)

@@ -1,14 +1,15 @@
 -- `turns::hand_over` meets its contract. Assumes nothing.
 use Prim.Native.Nat.{_≤_}
+use mathlib.Core.Path.{refl}
 use native.Mathlib.Omega.{arith}
 use borrow.Author.Needs.{needs}
 use Rattle.lexicon.specs.Lexicon.{nodeCount}
-use Rattle.decoding.proofs.Handing.{ArcRead, arc-read, arc-offering, arc-done, arc-sink}
+use Rattle.decoding.proofs.Handing.{ArcRead, arc-read, arc-offering, arc-apart, arc-source, arc-done, arc-sink}
 use Rattle.decoding.proofs.turns.hand_over.Statement.{statement}
 use Rattle.decoding.proofs.turns.hand_over.Tie as tie
 
 returns : tie.Need-returns
-returns c = λ a. arc-sink a (c .if1 .taken)
+returns c = ((λ a. arc-sink a (c .if1 .taken)), refl)
 
 -- the arc leads to a node
 node : (c : tie.Else1) → let s = c .before .before .before in s .args .t ≤ nodeCount (s .args .lexicon .now)
@@ -18,13 +19,17 @@ read : (c : tie.Else1) → let a = c .before .before .before .args in ArcRead (a
 read c = arc-read (c .before .before .before .pre) (node c)
 
 hand-requires : tie.Need-hand-requires
-hand-requires c κs = let e = c .before .before .before .before in arc-offering (e .before .before .before .pre) (node e)
+hand-requires c κs = let e = c .before .before .before .before in
+    let a = e .before .before .before .pre in
+    (arc-offering a (node e), arc-apart a (node e))
 
 returns-2 : tie.Need-returns-2
 returns-2 c =
     let o = c .before .before in
     let e = o .before .before .before .before .before in
-    λ a. arc-done a (node e) (o .hand .ensures (arc-offering a (node e)))
+    let f = o .hand .ensures in
+    let p = e .before .before .before .pre in
+    ((λ a. arc-done a (node e) (f (arc-offering a (node e)))), arc-source p (node e) (f (arc-offering p (node e))))
 
 pub hand-over-spec : {M : Type 1} → statement M
 hand-over-spec =

@@ -1,43 +1,54 @@
 -- `turns::pass_on` meets its contract: what is left to pass on from the store so far is what was to be passed on. The measure is what is left of
 -- the list. Assumes nothing.
 use Prim.Native.Nat.{_+_, _-_, _*_, _≤_, _<_}
-use mathlib.Core.Path.{_≡_}
+use mathlib.Core.Path.{_≡_, sym, _∙_}
 use native.Mathlib.Omega.{arith}
 use borrow.Author.Needs.{needs}
+use borrow.Author.Tests.{eqb-true, eqb-false}
+use lib.Dec.{eqb}
 use lib.ListN.{getD}
 use Rattle.lexicon.specs.Lexicon.{nodeCount}
 use Rattle.checking.proofs.Arcs.{nodes-there, arc-next}
-use Rattle.decoding.specs.Stored.{Handing}
-use Rattle.decoding.proofs.Handing.{lexicon-formed, HandingLeft, vertex-few, list-of, handing-start, left-arc, successor-few, down-few, handing-next, handing-done, handing-nothing}
+use Rattle.decoding.specs.Stored.{source, Handing}
+use Rattle.decoding.proofs.Handing.{lexicon-formed, HandingLeft, source-room, vertex-few, list-of, handing-start, left-arc, successor-few, down-few, handing-next, handing-done, handing-nothing}
 use Rattle.decoding.proofs.turns.pass_on.Statement.{statement}
 use Rattle.decoding.proofs.turns.pass_on.Tie as tie
 
 abbrev Inv-loop : tie.InvT-loop
-Inv-loop lexicon n lists counts firsts entries vertex from store₀ nodes start stop at₀ down₀ store at down =
-    (t : Handing lexicon n lists counts firsts entries vertex from store₀) → HandingLeft t at stop down store
+Inv-loop lexicon n lists counts firsts entries vertex root from store₀ nodes start stop at₀ down₀ store at down =
+    (t : Handing lexicon n lists counts firsts entries vertex root from store₀) → HandingLeft t at stop down store
 
 abbrev μ-loop : tie.MeasureT-loop
-μ-loop lexicon n lists counts firsts entries vertex from store₀ nodes start stop at₀ down₀ store at down = stop - at
+μ-loop lexicon n lists counts firsts entries vertex root from store₀ nodes start stop at₀ down₀ store at down = stop - at
+
+abbrev begin : tie.After-is-empty Inv-loop μ-loop → tie.Start Inv-loop μ-loop
+begin c = c .before .before .before .before
+
+-- whether the vertex has tokens
+tested : (c : tie.After-is-empty Inv-loop μ-loop) →
+    let a = begin c .args in c .is-empty .result ≡ eqb (getD (source (a .root) (a .n) (a .from) (a .store .now)) 0 0) 0
+tested c = c .is-empty .ensures (begin c .args .n) (begin c .pre .roomy .some)
 
 returns : tie.Need-returns Inv-loop μ-loop
-returns c = λ t. handing-nothing t (c .if1 .taken)
+returns c = λ t. handing-nothing t (eqb-true _ _ (sym (tested (c .before)) ∙ c .if1 .taken))
 
 -- the number that is read first
-counted : (c : tie.After-number-at Inv-loop μ-loop) → c .number-at .result ≡ nodeCount (c .before .before .before .before .before .args .lexicon .now)
+counted : (c : tie.After-number-at Inv-loop μ-loop) → c .number-at .result ≡ nodeCount (begin (c .before .before) .args .lexicon .now)
 unfolding nodeCount
 counted c = c .number-at .ensures
 
 loop-holds : tie.Need-loop-holds Inv-loop μ-loop
 loop-holds c = λ t. rw (c .number-at2 .ensures) (handing-start t)
 
+abbrev at-list : tie.After-number-at2 Inv-loop μ-loop → tie.Start Inv-loop μ-loop
+at-list c = begin (c .before .before .before .before)
+
 -- where the list ends
-small : (c : tie.After-number-at2 Inv-loop μ-loop) →
-    getD (c .before .before .before .before .before .before .before .args .lists .now) (c .before .before .before .before .before .before .before .args .vertex) 0
-    + 2 + 2 * c .number-at2 .result ≤ 9204
-small c = rw (c .number-at2 .ensures) (list-of (c .before .before .before .before .before .before .before .pre) .small)
+small : (c : tie.After-number-at2 Inv-loop μ-loop) → getD (at-list c .args .lists .now) (at-list c .args .vertex) 0 + 2 + 2 * c .number-at2 .result ≤ 9204
+small c = rw (c .number-at2 .ensures) (list-of (at-list c .pre) .small)
 
 abbrev start : tie.At-loop Inv-loop μ-loop → tie.Start Inv-loop μ-loop
-start l = l .before .before .before .before .before .before .before .before
+start l = at-list (l .before)
 
 number-at-requires-3 : tie.Need-number-at-requires-3 Inv-loop μ-loop
 number-at-requires-3 c κs =
@@ -64,7 +75,10 @@ sum : (c : tie.After-number-at3 Inv-loop μ-loop) →
 sum c =
     let l = c .before .before in
     let t = start l .pre in
-    down-few t (l .loop .inv t) (c .before .loop-test .taken) (c .number-at3 .ensures) (l .before .before .before .before .if1 .left)
+    let e = l .before .before .before .before in
+    let f = e .if1 .left in
+    let e = e .before in
+    down-few t (l .loop .inv t) (c .before .loop-test .taken) (c .number-at3 .ensures) (eqb-false _ _ (sym (tested e) ∙ f))
 
 add-at-2 : tie.Need-add-at-2 Inv-loop μ-loop
 add-at-2 c =
@@ -82,10 +96,10 @@ loop-again c =
     let h = m .before .loop-test .taken in
     let e = m .number-at3 .ensures in
     let q = counted (l .before .before .before) in
-    λ t. let i = l .loop .inv t in handing-next t i h e q (o .hand-over .ensures (left-arc t i h e q)) (o .hand-over .kept .1 .1 .1 .1 .1 .1 .1 .1 .0)
+    λ t. let i = l .loop .inv t in handing-next t i h e q (o .hand-over .ensures .0 (left-arc t i h e q)) (o .hand-over .ensures .1) (o .hand-over .kept .1 .1 .1 .1 .1 .1 .1 .1 .1 .0)
 
-same-length : tie.Need-same-length Inv-loop μ-loop
-same-length c = c .before .loop .inv (start (c .before) .pre) .long
+same-length-2 : tie.Need-same-length-2 Inv-loop μ-loop
+same-length-2 c = c .before .loop .inv (start (c .before) .pre) .long
 
 returns-2 : tie.Need-returns-2 Inv-loop μ-loop
 returns-2 c = λ t. handing-done t (c .before .loop .inv t) (c .loop-test .left)
@@ -96,14 +110,15 @@ pass-on-spec =
     (tie.spec
     Inv-loop
     μ-loop
+    (λ c κs z. let t = c .before .before .before .pre in source-room t z)
     (λ c. search needs)
     returns
-    (λ c κs. omega (arith, nodes-there (lexicon-formed (c .before .before .before .before .pre .ready))))
-    (λ c. let h = vertex-few (c .before .before .before .before .before .pre) in search needs)
-    (λ c. let h = vertex-few (c .before .before .before .before .before .pre) in search needs)
-    (λ c. let h = list-of (c .before .before .before .before .before .before .pre) .small in search needs)
-    (λ c. let h = list-of (c .before .before .before .before .before .before .pre) .small in search needs)
-    (λ c κs. let h = list-of (c .before .before .before .before .before .before .pre) .there in omega (arith, h))
+    (λ c κs. omega (arith, nodes-there (lexicon-formed (begin (c .before) .pre .ready))))
+    (λ c. let h = vertex-few (begin (c .before .before) .pre) in search needs)
+    (λ c. let h = vertex-few (begin (c .before .before) .pre) in search needs)
+    (λ c. let h = list-of (begin (c .before .before .before) .pre) .small in search needs)
+    (λ c. let h = list-of (begin (c .before .before .before) .pre) .small in search needs)
+    (λ c κs. let h = list-of (begin (c .before .before .before) .pre) .there in omega (arith, h))
     (λ c. let h = small c in search needs)
     (λ c. let h = small c in search needs)
     (λ c. let h = small c in search needs)
@@ -117,5 +132,5 @@ pass-on-spec =
     add-at-2
     (search needs)
     loop-again
-    same-length
+    same-length-2
     returns-2)

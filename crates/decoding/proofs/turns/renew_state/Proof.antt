@@ -26,13 +26,13 @@ returns-2 c =
     let o = e .before .before .before in
     λ t. loop-done t _ (later e) (c .if2 .taken) (o .stay .ensures (staying t))
 
-offer-before-requires : tie.Need-offer-before-requires
-offer-before-requires c κs =
+offer-from-requires : tie.Need-offer-from-requires
+offer-from-requires c κs =
     let q = c .before in
     let e = q .before .before in
     let o = e .before .before .before in
     let t = start e .pre in
-    (slot-covers t _ (later e), step-ready t _ (later e) (o .stay .kept .0) (o .stay .ensures (staying t)) (q .if2 .left))
+    (omega (arith, slot-covers t _ (later e)), step-ready t _ (later e) (o .stay .kept .0) (o .stay .ensures (staying t)) (q .if2 .left))
 
 returns-3 : tie.Need-returns-3
 returns-3 c =
@@ -40,7 +40,7 @@ returns-3 c =
     let q = h .before .before in
     let e = q .before .before in
     let o = e .before .before .before in
-    λ t. step-done t _ (later e) (o .stay .kept .0) (o .stay .ensures (staying t)) (q .if2 .left) (h .offer-before .ensures)
+    λ t. step-done t _ (later e) (o .stay .kept .0) (o .stay .ensures (staying t)) (q .if2 .left) (h .offer-from .ensures)
 
 pub renew-state-spec : {M : Type 1} → statement M
 renew-state-spec =
@@ -58,8 +58,9 @@ renew-state-spec =
     (λ c. let h = entry-few (start c .pre) in search needs)
     (search needs)
     returns-2
+    (λ c. let e = c .before .before .before in slot-covers (start e .pre) _ (later e))
     (λ c. let e = c .before .before .before in let h = step-few (start e .pre) _ (later e) in search needs)
     (λ c. let e = c .before .before .before in let h = step-few (start e .pre) _ (later e) in search needs)
-    offer-before-requires
+    offer-from-requires
     (search needs)
     returns-3)

@@ -1,4 +1,4 @@
--- `offer_before` lets the tokens of the place before enter one after another, each by lending the part of this place. The measure is what is left
+-- `offer_from` lets the tokens of the earlier place enter one after another, each by lending the part of this place. The measure is what is left
 -- of the tokens. Assumes nothing.
 use Prim.Native.Nat.{_+_, _-_, _*_}
 use mathlib.Core.Path.{ap, _∙_}
@@ -6,18 +6,18 @@ use native.Mathlib.Omega.{arith}
 use borrow.Author.Needs.{needs}
 use borrow.Rule.Slice.PartMut.{same-len-mid, mid-len}
 use Rattle.decoding.specs.Slots.{enter, Room, Bears}
-use Rattle.decoding.proofs.Lending.{part-size, part-slots, part-room, part-back, BeforeLeft, before-start, before-none, before-bears, before-late, before-next, before-done}
-use Rattle.decoding.proofs.parts.offer_before.Statement.{statement}
-use Rattle.decoding.proofs.parts.offer_before.Tie as tie
+use Rattle.decoding.proofs.Lending.{part-size, part-slots, part-room, part-back, FromLeft, from-start, from-none, from-bears, from-late, from-next, from-done}
+use Rattle.decoding.proofs.parts.offer_from.Statement.{statement}
+use Rattle.decoding.proofs.parts.offer_from.Tie as tie
 
 abbrev Inv-loop : tie.InvT-loop
-Inv-loop store₀ n slot up down before start end i₀ store i = BeforeLeft n slot up down store₀ i store
+Inv-loop store₀ n from slot up down start end i₀ store i = FromLeft n from slot up down store₀ i store
 
 abbrev μ-loop : tie.MeasureT-loop
-μ-loop store₀ n slot up down before start end i₀ store i = n - i
+μ-loop store₀ n from slot up down start end i₀ store i = n - i
 
 loop-holds : tie.Need-loop-holds Inv-loop μ-loop
-loop-holds c = let p = c .before .pre in before-start (p .0) (p .1)
+loop-holds c = let p = c .before .pre in from-start (p .0) (p .1)
 
 returns : tie.Need-returns Inv-loop μ-loop
 returns c =
@@ -25,7 +25,7 @@ returns c =
     let e = t .before .before in
     let l = e .before .loop in
     let p = e .before .before .before .pre in
-    before-none (p .0) (p .1) (l .inv) (e .loop-test .taken) (t .token-at .ensures) (c .if1 .taken)
+    from-none (p .0) (p .1) (l .inv) (e .loop-test .taken) (t .token-at .ensures) (c .if1 .taken)
 
 -- a token that is there bears the move
 bears : (c : tie.Else1 Inv-loop μ-loop)
@@ -34,7 +34,7 @@ bears c =
     let t = c .before in
     let e = t .before .before in
     let p = e .before .before .before .pre in
-    before-bears (p .0) (p .1) (e .before .loop .inv) (e .loop-test .taken) (t .token-at .ensures) (c .if1 .left)
+    from-bears (p .0) (p .1) (e .before .loop .inv) (e .loop-test .taken) (t .token-at .ensures) (c .if1 .left)
 
 -- the place is still there
 there : (c : tie.In-loop Inv-loop μ-loop) → let a = c .before .before .before .args in Room (a .n) (a .slot) (c .before .loop .store)
@@ -48,7 +48,7 @@ returns-2 c =
     let e = t .before .before in
     let l = e .before .loop in
     let p = e .before .before .before .pre in
-    before-late (p .0) (p .1) (l .inv) (e .loop-test .taken) (t .token-at .ensures) (rw (c .before .token-at2 .ensures) at (c .if2 .taken))
+    from-late (p .0) (p .1) (l .inv) (e .loop-test .taken) (t .token-at .ensures) (rw (c .before .token-at2 .ensures) at (c .if2 .taken))
 
 insert-requires : tie.Need-insert-requires Inv-loop μ-loop
 insert-requires c κs =
@@ -69,7 +69,7 @@ loop-again c =
     let room = there e .room in
     let long = w .insert .kept .0 in
     let size = part-size (a .slot) (a .n) in
-    before-next (s .pre .0) (s .pre .1) (l .inv) (e .loop-test .taken) (t .token-at .ensures) (q .if1 .left)
+    from-next (s .pre .0) (s .pre .1) (l .inv) (e .loop-test .taken) (t .token-at .ensures) (q .if1 .left)
     (same-len-mid (8 * a .slot) (8 * a .slot + 8 * a .n - 8 * a .slot) (l .store) (w .insert .last .0) long)
     (part-back (l .store) _ (a .slot) (a .n) _ _ size room
     (long ∙ mid-len (8 * a .slot) (8 * a .slot + 8 * a .n) (l .store) room)
@@ -79,15 +79,14 @@ returns-3 : tie.Need-returns-3 Inv-loop μ-loop
 returns-3 c =
     let l = c .before .loop in
     let p = c .before .before .before .pre in
-    before-done (p .0) (p .1) (l .inv) (c .loop-test .left)
+    from-done (p .0) (p .1) (l .inv) (c .loop-test .left)
 
-pub offer-before-spec : {M : Type 1} → statement M
-offer-before-spec =
+pub offer-from-spec : {M : Type 1} → statement M
+offer-from-spec =
     tie.close
     (tie.spec
     Inv-loop
     μ-loop
-    (λ c. c .before .pre .0)
     (λ c. search needs)
     (λ c. search needs)
     (λ c. search needs)
