@@ -8,12 +8,12 @@ ghost use Rattle.decoding.specs.Gains.{raisedOf, InUse, Scored, Long, Ga
 ghost use Rattle.decoding.specs.Running.{Empty, Run, StoredAt};
 use crate::gains::frame_gains;
 use crate::gains::hear;
-use crate::gains::letter_begins;
-use crate::gains::letters_in_use;
-use crate::gains::link_score;
-use crate::gains::raise;
-use crate::gains::raised_scores;
-use crate::gains::symbols_at;
+use crate::scores::letter_begins;
+use crate::scores::letters_in_use;
+use crate::scores::link_score;
+use crate::scores::raise;
+use crate::scores::raised_scores;
+use crate::scores::symbols_at;
 use crate::turns::pass_node;
 use crate::turns::pass_on;
 use endian::u16_at;

@@ -7,7 +7,7 @@ ghost use Rattle.call.specs.Table.{answerOf, unless};
 ghost use Rattle.voice.specs.Fields.{wellFormed};
 ghost use Rattle.voice.specs.Voice.{voiceVerdict};
 ghost use Rattle.decoding.specs.Calling.{callRows};
-use crate::gains::symbols_at;
+use crate::scores::symbols_at;
 use call::Answer;
 use call::Refusal;
 

@@ -18,6 +18,7 @@ mod hits;
 mod judge;
 mod parts;
 mod places;
+mod scores;
 mod store;
 mod tokens;
 mod turns;

@@ -1,4 +1,4 @@
--- `gains::mark_letters` meets its contract: before each turn the letters of the nodes up to this number have a mark. The measure is the nodes
+-- `scores::mark_letters` meets its contract: before each turn the letters of the nodes up to this number have a mark. The measure is the nodes
 -- left. Assumes nothing.
 use Prim.Native.Nat.{_+_, _-_, _≤_, _<_}
 use mathlib.Core.Path.{_≡_}
@@ -9,8 +9,8 @@ use Rattle.lexicon.specs.Lexicon.{nodeCount, nodeLetter}
 use Rattle.checking.proofs.Arcs.{shape-of, nodes-there}
 use Rattle.decoding.specs.Gains.{Marked}
 use Rattle.decoding.proofs.Filling.{marks-next}
-use Rattle.decoding.proofs.gains.mark_letters.Statement.{statement}
-use Rattle.decoding.proofs.gains.mark_letters.Tie as tie
+use Rattle.decoding.proofs.scores.mark_letters.Statement.{statement}
+use Rattle.decoding.proofs.scores.mark_letters.Tie as tie
 
 abbrev Inv-loop : tie.InvT-loop
 Inv-loop lexicon marks₀ nodes node₀ marks node = Marked lexicon node marks × (node ≤ nodes)

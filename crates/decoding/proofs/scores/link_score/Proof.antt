@@ -1,4 +1,4 @@
--- `gains::link_score` meets its contract: the link score stands just before the section Symbols. Assumes nothing.
+-- `scores::link_score` meets its contract: the link score stands just before the section Symbols. Assumes nothing.
 use Prim.Native.Nat.{_+_, _-_}
 use mathlib.Core.Path.{_≡_, ap, _∙_}
 use native.Mathlib.Omega.{arith}
@@ -7,8 +7,8 @@ use Rattle.endian.specs.Bytes.{i16}
 use Rattle.voice.specs.Voice.{linksAt, linkScore}
 use Rattle.voice.proofs.Scores.{symbols-at, symbols-there}
 use Rattle.decoding.proofs.Gaining.{back}
-use Rattle.decoding.proofs.gains.link_score.Statement.{statement}
-use Rattle.decoding.proofs.gains.link_score.Tie as tie
+use Rattle.decoding.proofs.scores.link_score.Statement.{statement}
+use Rattle.decoding.proofs.scores.link_score.Tie as tie
 
 sub-score-at : tie.Need-sub-score-at
 sub-score-at c = omega (arith, c .symbols-at .ensures, symbols-at _ (c .before .before .pre))

@@ -1,4 +1,4 @@
--- `gains::raised_scores` meets its contract: before each turn the entries of the letters before this one are filled. The measure is the letters
+-- `scores::raised_scores` meets its contract: before each turn the entries of the letters before this one are filled. The measure is the letters
 -- left. Assumes nothing.
 use Prim.Native.Nat.{_-_, _<_}
 use native.Mathlib.Omega.{arith}
@@ -7,8 +7,8 @@ use lib.ListN.{getD}
 use Rattle.decoding.specs.Gains.{loopRaised, stepRaised, Entries, AtLetter}
 use Rattle.decoding.proofs.Gaining.{letter-small, first-small}
 use Rattle.decoding.proofs.Filling.{fills-start, fills-next, fills-done, begins-at}
-use Rattle.decoding.proofs.gains.raised_scores.Statement.{statement}
-use Rattle.decoding.proofs.gains.raised_scores.Tie as tie
+use Rattle.decoding.proofs.scores.raised_scores.Statement.{statement}
+use Rattle.decoding.proofs.scores.raised_scores.Tie as tie
 
 abbrev Inv-loop : tie.InvT-loop
 Inv-loop voice letters used begins looping₀ stepping₀ i₀ looping stepping i = Entries voice (loopRaised voice) (stepRaised voice) letters i looping stepping

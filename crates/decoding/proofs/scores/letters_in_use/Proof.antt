@@ -1,4 +1,4 @@
--- `gains::letters_in_use` meets its contract: before each turn the marked letters below this one are found. The measure is the letters left.
+-- `scores::letters_in_use` meets its contract: before each turn the marked letters below this one are found. The measure is the letters left.
 -- Assumes nothing.
 use Prim.Native.Nat.{_-_, _<_}
 use mathlib.Core.Path.{refl}
@@ -8,8 +8,8 @@ use borrow.Author.Needs.{needs}
 use Rattle.voice.proofs.Scores.{letters-few, symbols-there}
 use Rattle.lexicon.proofs.WellFormed.{letter-known}
 use Rattle.decoding.proofs.Filling.{marks-start, Found, found-start, found-take, found-skip, found-done}
-use Rattle.decoding.proofs.gains.letters_in_use.Statement.{statement}
-use Rattle.decoding.proofs.gains.letters_in_use.Tie as tie
+use Rattle.decoding.proofs.scores.letters_in_use.Statement.{statement}
+use Rattle.decoding.proofs.scores.letters_in_use.Tie as tie
 
 abbrev Inv-loop : tie.InvT-loop
 Inv-loop voice lexicon letters₀ marks count used₀ letter₀ letters used letter = Found voice marks letter letters used

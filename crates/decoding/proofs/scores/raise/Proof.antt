@@ -1,4 +1,4 @@
--- `gains::raise` meets its contract: a biased score less its bias is the score, and 2^15 stay. Assumes nothing.
+-- `scores::raise` meets its contract: a biased score less its bias is the score, and 2^15 stay. Assumes nothing.
 use mathlib.Core.Path.{_≡_, ap, _∙_}
 use mathlib.Core.Option.{some}
 use borrow.Author.Needs.{needs}
@@ -8,8 +8,8 @@ use Rattle.decoder.specs.Score.{meaning, possible}
 use Rattle.decoder.proofs.Biased.{not-possible, is-possible}
 use Rattle.decoding.specs.Gains.{raisedOf}
 use Rattle.decoding.proofs.Gaining.{stored-some, raise-room, raise-is}
-use Rattle.decoding.proofs.gains.raise.Statement.{statement}
-use Rattle.decoding.proofs.gains.raise.Tie as tie
+use Rattle.decoding.proofs.scores.raise.Statement.{statement}
+use Rattle.decoding.proofs.scores.raise.Tie as tie
 
 returns : tie.Need-returns
 unfolding raisedOf

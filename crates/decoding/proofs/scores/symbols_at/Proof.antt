@@ -1,12 +1,12 @@
--- `gains::symbols_at` meets its contract: the offset is the sum of what stands before it. Assumes nothing.
+-- `scores::symbols_at` meets its contract: the offset is the sum of what stands before it. Assumes nothing.
 use Prim.Native.Nat.{_<_, _≤_}
 use native.Mathlib.Omega.{arith}
 use borrow.Author.Needs.{needs}
 use lib.ListN.{length}
 use Rattle.voice.specs.Voice.{letterCount, statesAt, stateCount, linksAt, symbolsAt}
 use Rattle.voice.proofs.Scores.{letters-few, symbols-at, symbols-there}
-use Rattle.decoding.proofs.gains.symbols_at.Statement.{statement}
-use Rattle.decoding.proofs.gains.symbols_at.Tie as tie
+use Rattle.decoding.proofs.scores.symbols_at.Statement.{statement}
+use Rattle.decoding.proofs.scores.symbols_at.Tie as tie
 
 -- the first byte is there
 begins : (c : tie.After-shared-slice-known2) → 0 < length (c .before .before .args .voice .now)

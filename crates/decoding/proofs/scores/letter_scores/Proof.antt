@@ -1,4 +1,4 @@
--- `gains::letter_scores` meets its contract: before each state the entries of those before it are filled. The measure is the states left.
+-- `scores::letter_scores` meets its contract: before each state the entries of those before it are filled. The measure is the states left.
 -- Assumes nothing.
 use Prim.Native.Nat.{_-_, _<_}
 use native.Mathlib.Omega.{arith}
@@ -7,8 +7,8 @@ use Rattle.voice.specs.Voice.{states}
 use Rattle.decoding.specs.Gains.{loopRaised, stepRaised}
 use Rattle.decoding.proofs.Gaining.{letter-small, letter-few, letter-byte, letter-there, letter-inside, pairs-stored}
 use Rattle.decoding.proofs.Filling.{Filling, fill-start, fill-done, scores-next}
-use Rattle.decoding.proofs.gains.letter_scores.Statement.{statement}
-use Rattle.decoding.proofs.gains.letter_scores.Tie as tie
+use Rattle.decoding.proofs.scores.letter_scores.Statement.{statement}
+use Rattle.decoding.proofs.scores.letter_scores.Tie as tie
 
 abbrev Inv-loop : tie.InvT-loop
 Inv-loop voice letter first looping₀ stepping₀ states pairs s₀ looping stepping s =

@@ -1,12 +1,12 @@
--- `gains::state_scores` meets its contract. Assumes nothing.
+-- `scores::state_scores` meets its contract. Assumes nothing.
 use Prim.Native.Nat.{_-_}
 use mathlib.Core.Path.{_≡_, refl, ap, _∙_}
 use native.Mathlib.Omega.{arith}
 use borrow.Author.Needs.{needs}
 use lib.ListN.{set}
 use Rattle.decoding.specs.Gains.{pairScore}
-use Rattle.decoding.proofs.gains.state_scores.Statement.{statement}
-use Rattle.decoding.proofs.gains.state_scores.Tie as tie
+use Rattle.decoding.proofs.scores.state_scores.Statement.{statement}
+use Rattle.decoding.proofs.scores.state_scores.Tie as tie
 
 returns : tie.Need-returns
 returns c =

@@ -1,4 +1,4 @@
--- `gains::letter_pairs` meets its contract: the pairs follow each other, four bytes each. Assumes nothing.
+-- `scores::letter_pairs` meets its contract: the pairs follow each other, four bytes each. Assumes nothing.
 use Prim.Native.Nat.{ℕ, _+_, _*_, _<_, _≤_}
 use mathlib.Core.Path.{_∙_}
 use native.Mathlib.Omega.{arith}
@@ -10,8 +10,8 @@ use Rattle.voice.specs.Voice.{statesAt, linksAt}
 use Rattle.voice.proofs.Scores.{letters-few, symbols-at, symbols-there, pair-there}
 use Rattle.decoding.specs.Gains.{letterPairs}
 use Rattle.decoding.proofs.Gaining.{pair-read}
-use Rattle.decoding.proofs.gains.letter_pairs.Statement.{statement}
-use Rattle.decoding.proofs.gains.letter_pairs.Tie as tie
+use Rattle.decoding.proofs.scores.letter_pairs.Statement.{statement}
+use Rattle.decoding.proofs.scores.letter_pairs.Tie as tie
 
 -- the offset of the first pair
 offset : (c : tie.Start) → 3 + 2 * getD (c .args .voice .now) 0 0 + 4 * c .args .first ≤ length (c .args .voice .now)

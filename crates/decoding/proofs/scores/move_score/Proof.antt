@@ -1,12 +1,12 @@
--- `gains::move_score` meets its contract: the pair's score goes to `raise`. Assumes nothing.
+-- `scores::move_score` meets its contract: the pair's score goes to `raise`. Assumes nothing.
 use mathlib.Core.List.{[]}
 use borrow.Author.Needs.{needs}
 use lib.IntN.{pos}
 use lib.ListN.{getD}
 use Rattle.decoding.specs.Gains.{pairScore}
 use Rattle.decoding.proofs.Gaining.{back}
-use Rattle.decoding.proofs.gains.move_score.Statement.{statement}
-use Rattle.decoding.proofs.gains.move_score.Tie as tie
+use Rattle.decoding.proofs.scores.move_score.Statement.{statement}
+use Rattle.decoding.proofs.scores.move_score.Tie as tie
 
 returns : tie.Need-returns
 unfolding pairScore

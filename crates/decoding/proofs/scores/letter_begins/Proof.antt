@@ -1,4 +1,4 @@
--- `gains::letter_begins` meets its contract: before each letter the entries of those before it are filled. The measure is the letters left.
+-- `scores::letter_begins` meets its contract: before each letter the entries of those before it are filled. The measure is the letters left.
 -- Assumes nothing.
 use Prim.Native.Nat.{ℕ, _-_}
 use mathlib.Core.List.{List}
@@ -8,8 +8,8 @@ use Rattle.voice.proofs.Scores.{letters-few, symbols-there}
 use Rattle.decoding.specs.Gains.{AtLetter}
 use Rattle.decoding.proofs.Gaining.{LettersPassed, letters-start, letters-next, at-letter, letter-small, letter-byte, letter-there}
 use Rattle.decoding.proofs.Filling.{Beginning, begins-start, begins-next, begins-done}
-use Rattle.decoding.proofs.gains.letter_begins.Statement.{statement}
-use Rattle.decoding.proofs.gains.letter_begins.Tie as tie
+use Rattle.decoding.proofs.scores.letter_begins.Statement.{statement}
+use Rattle.decoding.proofs.scores.letter_begins.Tie as tie
 
 record Turn (v : List ℕ) (first letter : ℕ) (begins : List ℕ) : Type 0 where
   passed : LettersPassed v first letter

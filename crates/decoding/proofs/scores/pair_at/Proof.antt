@@ -1,4 +1,4 @@
--- `gains::pair_at` meets its contract. Assumes nothing.
+-- `scores::pair_at` meets its contract. Assumes nothing.
 use Prim.Native.Nat.{_+_, _≤_}
 use mathlib.Core.Path.{ap₂, _∙_}
 use mathlib.Core.List.{[], _∷_}
@@ -8,8 +8,8 @@ use lib.IntN.{ℤ}
 use lib.ListN.{length}
 use Rattle.voice.specs.Voice.{impossible}
 use Rattle.decoding.proofs.Gaining.{back}
-use Rattle.decoding.proofs.gains.pair_at.Statement.{statement}
-use Rattle.decoding.proofs.gains.pair_at.Tie as tie
+use Rattle.decoding.proofs.scores.pair_at.Statement.{statement}
+use Rattle.decoding.proofs.scores.pair_at.Tie as tie
 
 inside : (c : tie.Then1) → c .before .before .args .at + 4 ≤ length (c .before .before .args .voice .now)
 inside c = c .before .before .pre (c .if1 .taken)

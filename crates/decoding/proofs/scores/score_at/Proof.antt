@@ -1,10 +1,10 @@
--- `gains::score_at` meets its contract. Assumes nothing.
+-- `scores::score_at` meets its contract. Assumes nothing.
 use mathlib.Core.Path.{_∙_}
 use borrow.Author.Needs.{needs}
 use Rattle.endian.specs.Bytes.{u16, i16}
 use Rattle.decoding.proofs.Gaining.{back}
-use Rattle.decoding.proofs.gains.score_at.Statement.{statement}
-use Rattle.decoding.proofs.gains.score_at.Tie as tie
+use Rattle.decoding.proofs.scores.score_at.Statement.{statement}
+use Rattle.decoding.proofs.scores.score_at.Tie as tie
 
 returns : tie.Need-returns
 unfolding i16 u16
