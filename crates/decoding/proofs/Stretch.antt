@@ -1,6 +1,6 @@
 -- A node's stretch of the store, lent on to the token update and back: its states hold there what they hold in the whole store, and no place of
 -- another node changes. By the numbers of the places. Assumes nothing.
-use Prim.Native.Nat.{ℕ, zero, suc, _+_, _*_, _≤_, _<_}
+use Prim.Native.Nat.{ℕ, _+_, _*_, _≤_, _<_}
 use mathlib.Core.Path.{_≡_, refl, sym, ap, ap₂, _∙_}
 use mathlib.Core.Logic.{_⊎_, inl, inr}
 use mathlib.Core.List.{List}
@@ -15,8 +15,7 @@ use Rattle.lexicon.proofs.WellFormed.{letter-known}
 use Rattle.graph.specs.Graph.{Graph, graphOf, sink}
 use Rattle.graph.specs.Conditions.{placeCount}
 use Rattle.graph.proofs.Accepted.{AcceptedImages, accepted}
-use Rattle.passing.specs.Tokens.{Store, bestTokens}
-use Rattle.passing.specs.InPlace.{renewDown}
+use Rattle.passing.specs.Tokens.{bestTokens}
 use Rattle.passing.proofs.InPlace.{renew-apart}
 use Rattle.decoding.specs.Slots.{tokenAt, slots, Changed}
 use Rattle.decoding.specs.Held.{held}

@@ -1,15 +1,15 @@
 -- A node's turn: its last tokens are passed on, and then its states are renewed. What each call asks, and what is left. Bounds are
 -- those of the definitions: renewed tokens moved once, and nodes below hold what they held. Assumes nothing.
 use Prim.Native.Nat.{ℕ, zero, suc, _+_, _-_, _*_, _≤_, _<_}
-use mathlib.Core.Path.{_≡_, refl, sym, ap, _∙_}
+use mathlib.Core.Path.{_≡_, refl, ap, _∙_}
 use mathlib.Core.Bool.{false}
 use mathlib.Core.Logic.{⊎-elim}
-use mathlib.Core.List.{List, [], _∷_, _++_, List·Memᴰ, List·Memᴰ·append-cases as append-cases}
+use mathlib.Core.List.{List, List·Memᴰ, List·Memᴰ·append-cases as append-cases}
 use mathlib.Core.Option.{some}
 use native.Mathlib.Omega.{arith}
 use native.Mathlib.Decide.{ℕ-discrete}
 use lib.IntN.{ℤ, natAbs}
-use lib.ListN.{length, getD, replicate, length-take}
+use lib.ListN.{length, getD}
 use Rattle.endian.proofs.Bytes.{i16-range}
 use Rattle.voice.specs.Voice.{states, loopScore, stepScore, linkScore}
 use Rattle.voice.proofs.Letters.{states-there}
@@ -19,21 +19,18 @@ use Rattle.graph.proofs.Accepted.{accepted}
 use Rattle.checking.proofs.Arcs.{shape-of, sound-of, nodes-there}
 use Rattle.ranking.specs.Hits.{Hit}
 use Rattle.decoder.specs.Score.{possible, plus}
-use Rattle.passing.specs.Best.{rowOf, byCode}
 use Rattle.passing.specs.Tokens.{Store, bestTokens, stateOf, heard, lastState, entryScore, renewed}
 use Rattle.passing.specs.InPlace.{passNode}
 use Rattle.passing.proofs.Order.{hits-strict}
 use Rattle.passing.proofs.Best.{best-from}
 use Rattle.passing.proofs.InPlace.{renew-apart, pass-other, node-own, node-other}
-use Rattle.decoding.specs.Slots.{slots, Room, Falling}
-use Rattle.decoding.specs.Held.{held, pad, tokenOf}
+use Rattle.decoding.specs.Slots.{slots}
+use Rattle.decoding.specs.Held.{held}
 use Rattle.decoding.specs.Places.{firstPlace}
 use Rattle.decoding.specs.Stored.{Bound, Place, Stored, source, Handing, Handed, handedOn, Turn, TurnDone, turned}
 use Rattle.decoding.specs.Carrying.{Renewal, renewal}
-use Rattle.decoding.proofs.Held.{held-none}
-use Rattle.decoding.proofs.Kept.{best-falling}
 use Rattle.decoding.proofs.Numbering.{place-end}
-use Rattle.decoding.proofs.Storing.{block, places-few, words-few, place-there, place-room, slot-small, carried-bound, bound-storable}
+use Rattle.decoding.proofs.Storing.{block, places-few, place-there, place-room, slot-small, carried-bound}
 use Rattle.decoding.proofs.Carrying.{emission-range, move-small}
 use Rattle.decoding.proofs.Handing.{lexicon-formed, known, letter-few, state-range, place-of, first-at}
 

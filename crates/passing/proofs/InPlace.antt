@@ -22,7 +22,7 @@ use Rattle.graph.specs.Graph.{Graph, sink}
 use Rattle.graph.proofs.Sound.{Sound}
 use Rattle.ranking.specs.Hits.{Hit, hit}
 use Rattle.passing.specs.Best.{rowOf}
-use Rattle.passing.specs.Tokens.{bestTokens, Store, downFrom, lastState, initialScore, entryScore, overArc, begun, renewed, entering, enteringFrom, arrivals, tokens}
+use Rattle.passing.specs.Tokens.{bestTokens, Store, downFrom, lastState, initialScore, overArc, begun, renewed, entering, enteringFrom, arrivals, tokens}
 use Rattle.passing.specs.InPlace.{put, renewDown, passOn, passNode, passDown, passRoot}
 use Rattle.passing.proofs.Order.{_∈_, by-test, never, hits-strict}
 use Rattle.passing.proofs.Best.{best-left}

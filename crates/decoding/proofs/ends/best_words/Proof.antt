@@ -1,7 +1,6 @@
 -- `ends::best_words` meets its contract: after all frames, the ends that are left give what all give. The measure is the nodes left.
 -- Assumes nothing.
 use mathlib.Core.Path.{refl}
-use Prim.Native.Nat.{_-_}
 use native.Mathlib.Omega.{arith}
 use borrow.Author.Needs.{needs}
 use Rattle.lexicon.specs.Lexicon.{nodeCount}

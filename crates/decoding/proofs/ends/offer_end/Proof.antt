@@ -1,5 +1,4 @@
 -- `ends::offer_end` meets its contract: without an arc to the sink the list stays, and with one it takes what the last state holds. Assumes nothing.
-use Prim.Native.Nat.{_-_}
 use mathlib.Core.Path.{refl}
 use native.Mathlib.Omega.{arith}
 use borrow.Author.Needs.{needs}

@@ -1,14 +1,10 @@
 -- `frames::first_frame` meets its contract: the root's token is passed on into an empty store. Assumes nothing.
-use mathlib.Core.Path.{_≡_, refl}
-use mathlib.Core.List.{[], _∷_}
 use mathlib.Core.Option.{some}
 use native.Mathlib.Omega.{arith}
 use borrow.Author.Needs.{needs}
 use lib.IntN.{pos}
 use lib.ListN.{getD}
 use Rattle.voice.proofs.Scores.{symbols-few}
-use Rattle.ranking.specs.Hits.{hit}
-use Rattle.decoding.specs.Held.{raised, tokenOf, pad, held}
 use Rattle.decoding.specs.Gains.{EntryGains, Hearing}
 use Rattle.decoding.proofs.Filling.{gained-long, root-gains}
 use Rattle.decoding.proofs.Running.{frame-count, hearing, root-handing, root-stored}

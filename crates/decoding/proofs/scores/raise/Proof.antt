@@ -4,7 +4,7 @@ use mathlib.Core.Option.{some}
 use borrow.Author.Needs.{needs}
 use lib.IntN.{subℕ}
 use mir.Facts.{toZ-ofZ}
-use Rattle.decoder.specs.Score.{meaning, possible}
+use Rattle.decoder.specs.Score.{possible}
 use Rattle.decoder.proofs.Biased.{not-possible, is-possible}
 use Rattle.decoding.specs.Gains.{raisedOf}
 use Rattle.decoding.proofs.Gaining.{stored-some, raise-room, raise-is}

@@ -1,6 +1,5 @@
 -- `turns::is_empty` meets its contract. Assumes nothing.
 use mathlib.Core.Path.{sym}
-use borrow.Author.Needs.{needs}
 use Rattle.decoding.proofs.Carrying.{root-some, node-first}
 use Rattle.decoding.proofs.turns.is_empty.Statement.{statement}
 use Rattle.decoding.proofs.turns.is_empty.Tie as tie
