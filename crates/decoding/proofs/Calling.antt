@@ -27,7 +27,7 @@ use Rattle.decoder.specs.Decoding.{AcceptedFrames, frameRows, row, hits, decode
 use Rattle.decoding.specs.Held.{held, Storable}
 use Rattle.decoding.specs.Listing.{hitsOf, Listable}
 use Rattle.decoding.specs.Calling.{callRows}
-use Rattle.decoding.specs.Places.{firstPlace}
+use Rattle.decoding.specs.Places.{firstSlot}
 use Rattle.decoding.specs.Running.{Empty, Run}
 use Rattle.decoding.proofs.Held.{length-held}
 use Rattle.decoding.proofs.Listing.{hits-held, held-small}
@@ -128,7 +128,7 @@ module _ (v x work : List ℕ) where
 
     -- a store of n tokens a place
     pub call-run : {W : ℕ} {lists counts firsts b : List ℕ} → Passed v x work → Clear → Opened (value W) x lists counts
-        → TableOf (sinkOf x) (firstPlace v (graphOf x)) firsts → length b ≡ 8 * (n * placeCount v (graphOf x)) → Run v x frames n lists counts firsts b
+        → TableOf (sinkOf x) (firstSlot v (graphOf x) n) firsts → length b ≡ 8 * (n * placeCount v (graphOf x)) → Run v x frames n lists counts firsts b
     unfolding filled
     call-run p c o t l = record {
       ready = record { accepted = p .images; lists-of = o .listed; counts-of = o .counted; firsts-of = t };

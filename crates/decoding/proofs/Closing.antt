@@ -5,7 +5,7 @@ use mathlib.Core.Path.{_≡_, refl, sym, ap, ap₂, _∙_}
 use mathlib.Core.Bool.{Bool, true, false, _||_, true≢false}
 use mathlib.Core.List.{List, [], _∷_, _++_, map, map-append, append-nil, append-assoc, List·Memᴰ, List·Memᴰ·head as here, Memᴰ·append-right as in-right, Memᴰ·of-map, List·Memᴰ·not-nil as not-nil}
 use native.Mathlib.Omega.{arith}
-use native.Mathlib.Nat.{add-zero, mul-le-mul, mul-suc}
+use native.Mathlib.Nat.{add-zero, mul-add}
 use borrow.Author.Tests.{ne-eqb, ltb-false}
 use lib.Dec.{eqb}
 use lib.IntN.{pos}
@@ -21,7 +21,7 @@ use Rattle.voice.proofs.Scores.{letters-few}
 use Rattle.lexicon.specs.Lexicon.{nodeCount, nodeLetter, sinkOf, arcsAt, successors}
 use Rattle.lexicon.proofs.WellFormed.{letter-known}
 use Rattle.graph.specs.Graph.{graphOf, sink, pathCount, wordCount, increment}
-use Rattle.graph.specs.Conditions.{placeCount, manyPlaces, manyWords}
+use Rattle.graph.specs.Conditions.{manyWords}
 use Rattle.graph.proofs.Sound.{Sound, sound}
 use Rattle.graph.proofs.Accepted.{AcceptedImages, accepted}
 use Rattle.graph.proofs.Codes.{pathCount-sink, pathCount-below, increment-at}
@@ -40,7 +40,7 @@ use Rattle.decoding.specs.Running.{Arcs, LastArc, Ending, Ended}
 use Rattle.decoding.proofs.Lending.{copied, length-copied}
 use Rattle.decoding.proofs.Held.{Moves}
 use Rattle.decoding.proofs.Kept.{best-falling, offered-best, offer-ready}
-use Rattle.decoding.proofs.Numbering.{place-below}
+use Rattle.decoding.proofs.Storing.{place-there, place-room, slot-small}
 
 -- ---- the arc to the sink
 
@@ -149,7 +149,7 @@ module _ {x lists counts : List ℕ} (a : Arcs x lists counts) {w : ℕ} (h : w 
 
 -- ---- a node's last state
 
-module _ {v x : List ℕ} {lists counts firsts : List ℕ} (r : Ready v x lists counts firsts) where
+module _ {v x : List ℕ} {n : ℕ} {lists counts firsts : List ℕ} (r : Ready v x n lists counts firsts) where
   pub images : AcceptedImages v x
   images = accepted (r .accepted)
 
@@ -159,10 +159,6 @@ module _ {v x : List ℕ} {lists counts firsts : List ℕ} (r : Ready v x lists 
   pub few-words : wordCount (graphOf x) ≤ 1048576
   unfolding manyWords
   few-words = ltb-false _ (wordCount (graphOf x)) (images .few-words)
-
-  pub few-places : placeCount v (graphOf x) ≤ 1000
-  unfolding manyPlaces
-  few-places = ltb-false _ (placeCount v (graphOf x)) (images .few-places)
 
   pub arcs-of : Arcs x lists counts
   unfolding sink
@@ -183,35 +179,24 @@ pub record EndPlace (v x : List ℕ) (n : ℕ) (firsts : List ℕ) (w : ℕ) (b 
   pub letter-small : getD x (1 + w) 0 < 64
   pub some : 1 ≤ getD v (2 + 2 * getD x (1 + w) 0) 0
   pub few : getD v (2 + 2 * getD x (1 + w) 0) 0 ≤ 4
-  pub place-small : getD firsts w 0 + lastAt v x w < 1000
-  pub slot-small : n * (getD firsts w 0 + lastAt v x w) ≤ 8000
-  pub room : Room n (n * (getD firsts w 0 + lastAt v x w)) b
+  pub slot-small : getD firsts w 0 + n * lastAt v x w ≤ 8000
+  pub room : Room n (getD firsts w 0 + n * lastAt v x w) b
   pub place : Place v (graphOf x) w (lastState v (graphOf x) w)
-  pub slot : slots n (n * (getD firsts w 0 + lastAt v x w)) b ≡ slots n (n * (firstPlace v (graphOf x) w + lastState v (graphOf x) w)) b
+  pub slot : slots n (getD firsts w 0 + n * lastAt v x w) b ≡ slots n (n * (firstPlace v (graphOf x) w + lastState v (graphOf x) w)) b
 
-module _ {v x : List ℕ} {n : ℕ} {lists counts firsts : List ℕ} {w : ℕ} {b : List ℕ} (r : Ready v x lists counts firsts) (m : Roomy v x n b) (low : 1 ≤ w) (high : w ≤ nodeCount x) where
+module _ {v x : List ℕ} {n : ℕ} {lists counts firsts : List ℕ} {w : ℕ} {b : List ℕ} (r : Ready v x n lists counts firsts) (m : Roomy v x n b) (low : 1 ≤ w) (high : w ≤ nodeCount x) where
   known : nodeLetter x w < letterCount v
   known = letter-known (letterCount v) x (images r .lexicon) w low high
 
-  first : getD firsts w 0 ≡ firstPlace v (graphOf x) w
+  slot-is : getD firsts w 0 + n * lastAt v x w ≡ n * (firstPlace v (graphOf x) w + lastAt v x w)
   unfolding sinkOf
-  first = entry (r .firsts-of) {u = w} (omega arith)
-
-  number : getD firsts w 0 + lastAt v x w < placeCount v (graphOf x)
-  unfolding nodeLetter states
-  number =
-      let s = states-range v (images r .voice) known in
-      rw first (place-below v (graphOf x) {u = w} {s = lastAt v x w} low high (omega (arith, s)))
+  slot-is = ap (λ (a : ℕ). a + n * lastAt v x w) (entry (r .firsts-of) {u = w} (omega arith)) ∙ sym (mul-add n _ _)
 
   pub end-place : EndPlace v x n firsts w b
   unfolding nodeLetter states lastState sink
   end-place =
       let s = states-range v (images r .voice) known in
-      let p = getD firsts w 0 + lastAt v x w in
-      let q = placeCount v (graphOf x) in
-      let small : n * p ≤ 8 * 1000 = mul-le-mul {n₂ = 8} {m₂ = 1000} (m .few) (omega (arith, number, few-places r)) in
-      let within : n * suc p ≤ n * q = mul-le-mul {n₂ = n} {m₂ = q} (omega arith) number in
-      let step : n * suc p ≡ n * p + n = omega (arith, mul-suc n p) in
+      let p : Place v (graphOf x) w (lastAt v x w) = record { low = low; high = omega arith; state = omega (arith, s) } in
       record {
         vertex = omega (arith, shape-of (arcs-of r .listed .well-formed) .few);
         node-there = omega (arith, nodes-there (arcs-of r .listed .well-formed));
@@ -219,11 +204,10 @@ module _ {v x : List ℕ} {n : ℕ} {lists counts firsts : List ℕ} {w : ℕ} {
         letter-small = omega (arith, known, letters-few v (images r .voice));
         some = s .0;
         few = s .1;
-        place-small = omega (arith, number, few-places r);
-        slot-small = small;
-        room = record { some = m .some; few = m .few; room = omega (arith, within, step, m .room) };
-        place = record { low = low; high = omega arith; state = omega (arith, s) };
-        slot = rw first refl;
+        slot-small = rw slot-is (slot-small v x (r .accepted) m (omega (arith, place-there v x p)));
+        room = rw slot-is (place-room v x m p);
+        place = p;
+        slot = ap (λ (k : ℕ). slots n k b) slot-is;
       }
 
 -- ---- its tokens are candidates for the list
@@ -280,7 +264,7 @@ module _ {v x : List ℕ} {n : ℕ} {lists counts firsts : List ℕ} {w : ℕ} {
   keeps : bestTokens n last-tokens ≡ last-tokens
   keeps = e .stored .kept (end-at .place)
 
-  pub end-falls : Falling (slots n (n * (getD firsts w 0 + lastAt v x w)) b)
+  pub end-falls : Falling (slots n (getD firsts w 0 + n * lastAt v x w) b)
   end-falls = rw (end-at .slot ∙ e .stored .holds (end-at .place)) (rw keeps at (best-falling n last-tokens end-from))
 
   module _ (t : has (sink (graphOf x)) (successors x w) ≡ true) {d : ℕ} (q : d ≡ increment (graphOf x) w (sink (graphOf x))) where
@@ -301,7 +285,7 @@ module _ {v x : List ℕ} {n : ℕ} {lists counts firsts : List ℕ} {w : ℕ} {
     unfolding ending carried finalScore
     ends-so = rw (t, q) refl
 
-    module _ {tokens : List ℕ} (c : tokens ≡ slots n (n * (getD firsts w 0 + lastAt v x w)) b ++ replicate (8 - n) 0) where
+    module _ {tokens : List ℕ} (c : tokens ≡ slots n (getD firsts w 0 + n * lastAt v x w) b ++ replicate (8 - n) 0) where
       copied-tokens : take n tokens ≡ held n (bestTokens n last-tokens)
       copied-tokens = rw (c, keeps) (copied n _ b ∙ end-at .slot ∙ e .stored .holds (end-at .place))
 
@@ -310,7 +294,7 @@ module _ {v x : List ℕ} {n : ℕ} {lists counts firsts : List ℕ} {w : ℕ} {
           rw (level-up, level-down d) at
           (offer-ready n (pos 0) d last-tokens end-moves {k = 0} {from = tokens} {b = list} {s = e .s}
           (record { some = e .roomy .some; few = e .roomy .few; room = omega (arith, e .long, e .roomy .few) })
-          (rw (c, length-copied n (n * (getD firsts w 0 + lastAt v x w)) b (e .roomy .few)) (e .roomy .few))
+          (rw (c, length-copied n (getD firsts w 0 + n * lastAt v x w) b (e .roomy .few)) (e .roomy .few))
           copied-tokens (e .holds) (e .storable))
 
       pub end-offered : {list′ : List ℕ} → slots n 0 list′ ≡ offered 281474976710656 (281474976710656 + d) (take n tokens) (slots n 0 list) → Ended e list′

@@ -33,17 +33,17 @@ use Rattle.passing.proofs.Bounds.{arc-count}
 use Rattle.decoding.specs.Slots.{Changed}
 use Rattle.decoding.specs.Held.{held, pad, downOf}
 use Rattle.decoding.specs.Gains.{entryGain}
-use Rattle.decoding.specs.Places.{firstPlace}
+use Rattle.decoding.specs.Places.{firstPlace, firstSlot}
 use Rattle.decoding.specs.Stored.{Ready, Bound, Place, Stored, source, Handing, Handed, handedOn}
 use Rattle.decoding.specs.Carrying.{Worth, Offering, joined, Arc, overOne}
 use Rattle.decoding.proofs.Numbers.{token-some}
 use Rattle.decoding.proofs.Lending.{changed-apart}
-use Rattle.decoding.proofs.Storing.{PutAt, same, other, put-at, stored-put, stored-ext, pass-nothing, places-few, words-few, place-there, place-room, slot-small, carried-bound, bound-storable, movers}
+use Rattle.decoding.proofs.Storing.{PutAt, same, other, put-at, stored-put, stored-ext, pass-nothing, words-few, place-there, place-room, slot-small, carried-bound, bound-storable, movers}
 use Rattle.decoding.proofs.Carrying.{emission-range, worth-by, handed-long, handed-take}
 
 -- ---- what is accepted
 
-module _ {v x lists counts firsts : List ℕ} (r : Ready v x lists counts firsts) where
+module _ {v x : List ℕ} {n : ℕ} {lists counts firsts : List ℕ} (r : Ready v x n lists counts firsts) where
   images : AcceptedImages v x
   images = accepted (r .accepted)
 
@@ -63,21 +63,20 @@ module _ {v x lists counts firsts : List ℕ} (r : Ready v x lists counts firsts
   unfolding sink
   place-of h k l = record { low = h; high = omega arith; state = l }
 
-  pub first-at : {u : ℕ} → u ≤ nodeCount x → getD firsts u 0 ≡ firstPlace v (graphOf x) u
+  pub first-at : {u : ℕ} → u ≤ nodeCount x → getD firsts u 0 ≡ firstSlot v (graphOf x) n u
   unfolding sinkOf
   first-at h = entry (r .firsts-of) (omega arith)
 
 -- ---- one arc
 
 -- the bytes and entries that are read for it
-pub record ArcRead (x : List ℕ) (n : ℕ) (firsts entries : List ℕ) (u : ℕ) : Type 0 where
+pub record ArcRead (x firsts entries : List ℕ) (u : ℕ) : Type 0 where
   pub there : 1 + u < length x
   pub letter : getD x (1 + u) 0 < 64
   pub long-entries : length entries ≡ 64
   pub long-firsts : length firsts ≡ 402
   pub few : u ≤ 400
-  pub first : getD firsts u 0 ≤ 1000
-  pub slot : n * getD firsts u 0 ≤ 8000
+  pub slot : getD firsts u 0 ≤ 8000
 
 -- what is handed on stays where another place changes
 source-apart : (root : Bool) (n k : ℕ) {slot : ℕ} {l b b′ : List ℕ} → (root ≡ false → k + n ≤ slot) → Changed slot n l b b′ → source root n k b′ ≡ source root n k b
@@ -121,10 +120,10 @@ module _ {x : List ℕ} {n nodes : ℕ} {firsts entries : List ℕ} {root : Bool
     place : Place (h .v) g u 0
     place = place-of (h .ready) one k (state-range (h .ready) one k .0)
 
-    slot-is : n * getD firsts u 0 ≡ n * (firstPlace (h .v) g u + 0)
-    slot-is = rw (first-at (h .ready) k, add-zero)
+    slot-is : getD firsts u 0 ≡ n * (firstPlace (h .v) g u + 0)
+    slot-is = rw add-zero (first-at (h .ready) k)
 
-    pub arc-read : ArcRead x n firsts entries u
+    pub arc-read : ArcRead x firsts entries u
     unfolding nodeLetter
     arc-read = record {
       there = omega (arith, nodes-there (lexicon-formed (h .ready)));
@@ -132,11 +131,10 @@ module _ {x : List ℕ} {n nodes : ℕ} {firsts entries : List ℕ} {root : Bool
       long-entries = h .gains .long;
       long-firsts = h .ready .firsts-of .long;
       few = omega (arith, shape-of (lexicon-formed (h .ready)) .few);
-      first = omega (arith, first-at (h .ready) k, place-there (h .v) x place, places-few (h .v) x (h .ready .accepted));
       slot = rw slot-is (slot-small (h .v) x (h .ready .accepted) (h .roomy) (omega (arith, place-there (h .v) x place)));
     }
 
-    pub arc-offering : Offering n (n * getD firsts u 0) (getD entries (getD x (1 + u) 0) 0) down (source root n from b) b
+    pub arc-offering : Offering n (getD firsts u 0) (getD entries (getD x (1 + u) 0) 0) down (source root n from b) b
     arc-offering = record {
       score = plus (h .score) (heard (h .v) g (h .k) u 0);
       d = increment g (w) u;
@@ -153,13 +151,13 @@ module _ {x : List ℕ} {n nodes : ℕ} {firsts entries : List ℕ} {root : Bool
       storable = λ z i. bound-storable words (h .fits) (h .above place (rises .0) i);
     }
 
-    pub arc-apart : root ≡ false → from + n ≤ n * getD firsts u 0
+    pub arc-apart : root ≡ false → from + n ≤ getD firsts u 0
     arc-apart z = rw (first-at (h .ready) k) (h .apart z (rises .0) k)
 
-    pub arc-source : {l b′ : List ℕ} → Changed (n * getD firsts u 0) n l b b′ → source root n from b′ ≡ source root n from b
+    pub arc-source : {l b′ : List ℕ} → Changed (getD firsts u 0) n l b b′ → source root n from b′ ≡ source root n from b
     arc-source c = source-apart root n from arc-apart c
 
-    pub arc-done : {b′ : List ℕ} → Changed (n * getD firsts u 0) n (held n (joined arc-offering)) b b′ → Stored (h .v) g n (overOne t) b′
+    pub arc-done : {b′ : List ℕ} → Changed (getD firsts u 0) n (held n (joined arc-offering)) b b′ → Stored (h .v) g n (overOne t) b′
     unfolding joined overOne arc-offering
     arc-done c = stored-put place (h .stored) (rw slot-is at c) (best-best hits-strict n _)
 

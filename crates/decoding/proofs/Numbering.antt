@@ -1,10 +1,10 @@
 -- The numbers of the places: each node's stretch begins where that of the node below it ends, so that no two places have the same number and
--- all are below their count. And the table of the first places while it is filled, node by node. Assumes nothing.
+-- all are below their count. And the table of the first slots while it is filled, node by node. Assumes nothing.
 use mathlib.Core.Path.{_≡_, refl, sym, ap, _∙_}
 use mathlib.Core.Bool.{cond}
 use mathlib.Core.List.{List, map, map-append}
 use Prim.Native.Nat.{ℕ, zero, suc, _+_, _*_, _≤_, _<_}
-use native.Mathlib.Nat.{add-zero}
+use native.Mathlib.Nat.{add-zero, mul-zero, mul-add, mul-le-mul}
 use native.Mathlib.Omega.{arith}
 use native.Mathlib.Numerals.{add-one}
 use native.Mathlib.Decide.{decLt}
@@ -23,7 +23,7 @@ use Rattle.checking.specs.Tables.{TableOf}
 use Rattle.checking.proofs.Tables.{table-start, table-next}
 use Rattle.checking.proofs.Arcs.{nodes-there, shape-of}
 use Rattle.checking.proofs.Counting.{Images, well-formed}
-use Rattle.decoding.specs.Places.{firstPlace}
+use Rattle.decoding.specs.Places.{firstPlace, firstSlot}
 
 module _ (v : List ℕ) (g : Graph) where
   -- after a node's places come those of the next
@@ -68,51 +68,53 @@ module _ (v : List ℕ) (g : Graph) where
 -- ---- the table
 
 -- the nodes below this one have their entry, and its own is known
-pub record PlacesFound (v x : List ℕ) (node place : ℕ) (firsts : List ℕ) : Type 0 where
-  pub table : TableOf node (firstPlace v (graphOf x)) firsts
-  pub here : place ≡ firstPlace v (graphOf x) node
+pub record SlotsFound (v x : List ℕ) (n node slot : ℕ) (firsts : List ℕ) : Type 0 where
+  pub table : TableOf node (firstSlot v (graphOf x) n) firsts
+  pub here : slot ≡ firstSlot v (graphOf x) n node
   pub first : 1 ≤ node
   pub last : node ≤ sinkOf x
-  pub few : place ≤ 4 * node
+  pub few : slot ≤ 32 * node
 
-pub places-start : (v x : List ℕ) {firsts : List ℕ} → firsts ≡ replicate 402 0 → PlacesFound v x 1 0 firsts
+pub slots-start : (v x : List ℕ) (n : ℕ) {firsts : List ℕ} → firsts ≡ replicate 402 0 → SlotsFound v x n 1 0 firsts
 unfolding firstPlace sinkOf from sum
-places-start v x h = rw h (record {
+slots-start v x n h = rw h (record {
   table = record { long = refl; holds = λ u. table-start first .holds u ∙ root u };
-  here = refl;
+  here = sym (mul-zero n);
   first = omega arith;
   last = omega arith;
   few = omega arith;
 })
   where
     first : ℕ → ℕ
-    first = firstPlace v (graphOf x)
+    first = firstSlot v (graphOf x) n
 
     -- the root has no place, and 0 stands there
     root : (u : ℕ) → cond (ltb u 0) (first u) 0 ≡ cond (ltb u 1) (first u) 0
-    root zero = refl
+    root zero = sym (mul-zero n)
     root (suc u) = rw (le-ltb (suc u) 0 (omega arith), le-ltb (suc u) 1 (omega arith))
 
 -- the bytes that are read for a node
-pub record PlaceRead (v x : List ℕ) (node place : ℕ) (firsts : List ℕ) : Type 0 where
+pub record NodeRead (v x : List ℕ) (n node slot : ℕ) (firsts : List ℕ) : Type 0 where
   pub node-there : 1 + node < length x
   pub states-there : 2 + 2 * getD x (1 + node) 0 < length v
   pub few : getD v (2 + 2 * getD x (1 + node) 0) 0 ≤ 4
-  pub after : PlacesFound v x (node + 1) (place + getD v (2 + 2 * getD x (1 + node) 0) 0) (set firsts node place)
+  pub slots-few : n * getD v (2 + 2 * getD x (1 + node) 0) 0 ≤ 32
+  pub after : SlotsFound v x n (node + 1) (slot + n * getD v (2 + 2 * getD x (1 + node) 0) 0) (set firsts node slot)
 
-pub place-read : {v x : List ℕ} {node place : ℕ} {firsts : List ℕ} → Images v x → PlacesFound v x node place firsts → node ≤ nodeCount x
-    → PlaceRead v x node place firsts
+pub node-read : {v x : List ℕ} {n node slot : ℕ} {firsts : List ℕ} → Images v x → n ≤ 8 → SlotsFound v x n node slot firsts → node ≤ nodeCount x
+    → NodeRead v x n node slot firsts
 unfolding nodeLetter states sinkOf
-place-read {v} {x} {node} {place} {firsts} i p h = record {
+node-read {v} {x} {n} {node} {slot} {firsts} i e p h = record {
   node-there = omega (arith, nodes-there (well-formed i));
   states-there = states-there v (i .voice) known;
   few = few;
+  slots-few = slots-few;
   after = rw add-one (record {
     table = table-next (p .table) (omega (arith, shape-of (well-formed i) .few)) (p .here);
     here = next node (p .first) (p .here);
     first = omega arith;
     last = omega arith;
-    few = omega (arith, p .few, few);
+    few = omega (arith, p .few, slots-few);
   });
 }
   where
@@ -122,13 +124,16 @@ place-read {v} {x} {node} {place} {firsts} i p h = record {
     few : states v (nodeLetter x node) ≤ 4
     few = states-range v (i .voice) known .1
 
-    next : (n : ℕ) → 1 ≤ n → place ≡ firstPlace v (graphOf x) n → place + states v (nodeLetter x n) ≡ firstPlace v (graphOf x) (suc n)
-    next zero l e = absurd (omega arith)
-    next (suc m) l e = rw e (sym (place-next v (graphOf x) m))
+    slots-few : n * states v (nodeLetter x node) ≤ 32
+    slots-few = mul-le-mul {n₂ = 8} {m₂ = 4} e few
 
-pub places-done : {v x : List ℕ} {node place : ℕ} {firsts : List ℕ} → PlacesFound v x node place firsts → nodeCount x < node
-    → TableOf (sinkOf x) (firstPlace v (graphOf x)) firsts × (place ≡ placeCount v (graphOf x))
+    next : (u : ℕ) → 1 ≤ u → slot ≡ firstSlot v (graphOf x) n u → slot + n * states v (nodeLetter x u) ≡ firstSlot v (graphOf x) n (suc u)
+    next zero l q = absurd (omega arith)
+    next (suc m) l q = rw (q, place-next v (graphOf x) m) (sym (mul-add n _ _))
+
+pub slots-done : {v x : List ℕ} {n node slot : ℕ} {firsts : List ℕ} → SlotsFound v x n node slot firsts → nodeCount x < node
+    → TableOf (sinkOf x) (firstSlot v (graphOf x) n) firsts × (slot ≡ n * placeCount v (graphOf x))
 unfolding sinkOf sink
-places-done {v} {x} {node} p h =
+slots-done {v} {x} {n} {node} p h =
     let e : node ≡ suc (nodeCount x) = omega (arith, p .last) in
-    (rw e at (p .table), p .here ∙ ap (firstPlace v (graphOf x)) e ∙ places-all v (graphOf x))
+    (rw e at (p .table), p .here ∙ ap (firstSlot v (graphOf x) n) e ∙ ap (λ (a : ℕ). n * a) (places-all v (graphOf x)))

@@ -1,11 +1,11 @@
 -- A node's stretch of the store, lent on to the token update and back: its states hold there what they hold in the whole store, and no place of
 -- another node changes. By the numbers of the places. Assumes nothing.
 use Prim.Native.Nat.{ℕ, _+_, _*_, _≤_, _<_}
-use mathlib.Core.Path.{_≡_, refl, sym, ap, ap₂, _∙_}
+use mathlib.Core.Path.{_≡_, refl, sym, ap, _∙_}
 use mathlib.Core.Logic.{_⊎_, inl, inr}
 use mathlib.Core.List.{List}
 use native.Mathlib.Omega.{arith}
-use native.Mathlib.Nat.{mul-le-mul, mul-le-mul-right, mul-comm, add-mul}
+use native.Mathlib.Nat.{mul-le-mul, mul-le-mul-left, mul-add}
 use native.Mathlib.Decide.{ℕ-discrete, decLt}
 use lib.ListN.{length, getD, take, drop, length-take, length-drop}
 use borrow.Rule.Slice.PartMut.{putMid}
@@ -42,12 +42,6 @@ sub-slots N k m a b e n j h = slots-ext n (k + j) (m + j) a b one
         ∙ slots-get N m (j + i) b 0 (omega arith)
         ∙ ap (tokenAt b) q
 
-mul-sum : (n a b : ℕ) → n * (a + b) ≡ n * a + n * b
-mul-sum n a b = mul-comm n (a + b) ∙ add-mul a b n ∙ ap₂ _+_ (mul-comm a n) (mul-comm b n)
-
-scale : (n : ℕ) {a b : ℕ} → a ≤ b → n * a ≤ n * b
-scale n {a} {b} h = rw (mul-comm n a, mul-comm n b) (mul-le-mul-right n h)
-
 module _ {n entry first s : ℕ} {loops steps b : List ℕ} (t : Renewal n entry first s loops steps b) where
   abbrev g : Graph
   g = graphOf (t .x)
@@ -77,29 +71,27 @@ module _ {n entry first s : ℕ} {loops steps b : List ℕ} (t : Renewal n entry
         (letter-known (letterCount (t .v)) (t .x) (images .lexicon) (t .node) (t .low) (t .high)),
   )
 
-  pub start-few : n * first ≤ 8000
-  start-few = mul-le-mul {n₂ = 8} {m₂ = 1000} (t .roomy .few) (omega (arith, t .first-is, ends, places-few (t .v) (t .x) (t .accepted)))
+  pub start-few : first ≤ 8000
+  start-few = rw (t .first-is) (mul-le-mul {n₂ = 8} {m₂ = 1000} (t .roomy .few) (omega (arith, ends, places-few (t .v) (t .x) (t .accepted))))
 
   pub stretch-few : n * s ≤ 32
   stretch-few = mul-le-mul {n₂ = 8} {m₂ = 4} (t .roomy .few) states-few
 
-  pub stretch-there : 8 * (n * first) + 8 * (n * s) ≤ length b
-  stretch-there =
-      let e : n * first ≡ n * F = ap (λ (a : ℕ). n * a) (t .first-is) in
-      omega (arith, scale n ends, mul-sum n F s, t .roomy .room)
+  slot-is : (r : ℕ) → first + n * r ≡ n * (F + r)
+  slot-is r = ap (λ (a : ℕ). a + n * r) (t .first-is) ∙ sym (mul-add n F r)
 
-  slot-is : (r : ℕ) → n * first + n * r ≡ n * (F + r)
-  slot-is r = ap (λ (a : ℕ). n * a + n * r) (t .first-is) ∙ sym (mul-sum n F r)
+  pub stretch-there : 8 * first + 8 * (n * s) ≤ length b
+  stretch-there = omega (arith, slot-is s, mul-le-mul-left n ends, t .roomy .room)
 
   module _ (size : ℕ) (e : size ≡ 8 * (n * s)) where
-    own-slots : {r : ℕ} → r < s → slots n (n * r) (take size (drop (8 * (n * first)) b)) ≡ held n (t .P (t .node) r)
+    own-slots : {r : ℕ} → r < s → slots n (n * r) (take size (drop (8 * first) b)) ≡ held n (t .P (t .node) r)
     own-slots {r} h =
         let z : 0 + n * r ≡ n * r = omega arith in
-        rw z at (sub-slots (n * s) 0 (n * first) _ b (part-slots b (n * first) (n * s) size e) n (n * r) (block n h))
+        rw z at (sub-slots (n * s) 0 first _ b (part-slots b first (n * s) size e) n (n * r) (block n h))
         ∙ ap (λ (k : ℕ). slots n k b) (slot-is r)
         ∙ t .stored .holds (place h)
 
-    pub part-renewing : Renewing n entry s loops steps (take size (drop (8 * (n * first)) b))
+    pub part-renewing : Renewing n entry s loops steps (take size (drop (8 * first) b))
     part-renewing = record {
       v = t .v;
       x = t .x;
@@ -125,10 +117,10 @@ module _ {n entry first s : ℕ} {loops steps b : List ℕ} (t : Renewal n entry
 
     module _ {ys : List ℕ} (long : length ys ≡ size) (O : Own n (part-renewing .S) (renewedAll part-renewing (part-renewing .node)) ys) where
       abbrev b′ : List ℕ
-      b′ = putMid (8 * (n * first)) size b ys
+      b′ = putMid (8 * first) size b ys
 
-      changed : Changed (n * first) (n * s) (slots (n * s) 0 ys) b b′
-      changed = part-back b ys (n * first) (n * s) size _ e stretch-there long refl
+      changed : Changed first (n * s) (slots (n * s) 0 ys) b b′
+      changed = part-back b ys first (n * s) size _ e stretch-there long refl
 
       own : Own n s (renewal t (t .node)) ys
       unfolding part-renewing renewedAll renewal
@@ -136,12 +128,12 @@ module _ {n entry first s : ℕ} {loops steps b : List ℕ} (t : Renewal n entry
 
       -- a place of another node lies outside
       outside : {u r : ℕ} → Place (t .v) g u r → ¬ (u ≡ t .node)
-          → (n * (firstPlace (t .v) g u + r) + n ≤ n * first) ⊎ (n * first + n * s ≤ n * (firstPlace (t .v) g u + r))
+          → (n * (firstPlace (t .v) g u + r) + n ≤ first) ⊎ (first + n * s ≤ n * (firstPlace (t .v) g u + r))
       outside {u} {r} p d = elim (decLt u (t .node)) [
-        | yes l ↦ inl (block n (omega (arith, place-end (t .v) g {u = u} {w = t .node} (p .low) l, p .state, t .first-is)))
+        | yes l ↦ inl (rw (t .first-is) (block n (omega (arith, place-end (t .v) g {u = u} {w = t .node} (p .low) l, p .state))))
         | no m ↦ let after : F + s ≤ firstPlace (t .v) g u + r =
             omega (arith, t .all, place-end (t .v) g {u = t .node} {w = u} (t .low) (omega arith)) in
-            inr (omega (arith, slot-is s, scale n after))
+            inr (omega (arith, slot-is s, mul-le-mul-left n after))
       ]
 
       renewal-apart : {u r : ℕ} → ¬ (u ≡ t .node) → renewal t u r ≡ t .P u r
@@ -152,7 +144,7 @@ module _ {n entry first s : ℕ} {loops steps b : List ℕ} (t : Renewal n entry
       own-back {r} h =
           let z : 0 + n * r ≡ n * r = omega arith in
           ap (λ (k : ℕ). slots n k b′) (sym (slot-is r))
-          ∙ rw z at (sub-slots (n * s) (n * first) 0 b′ ys (changed .inside) n (n * r) (block n h))
+          ∙ rw z at (sub-slots (n * s) first 0 b′ ys (changed .inside) n (n * r) (block n h))
           ∙ own .holds h
 
       holds-at : {u r : ℕ} → Place (t .v) g u r → slots n (n * (firstPlace (t .v) g u + r)) b′ ≡ held n (renewal t u r)

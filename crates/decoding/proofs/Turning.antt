@@ -1,12 +1,13 @@
 -- A node's turn: its last tokens are passed on, and then its states are renewed. What each call asks, and what is left. Bounds are
 -- those of the definitions: renewed tokens moved once, and nodes below hold what they held. Assumes nothing.
 use Prim.Native.Nat.{ℕ, zero, suc, _+_, _-_, _*_, _≤_, _<_}
-use mathlib.Core.Path.{_≡_, refl, ap, _∙_}
+use mathlib.Core.Path.{_≡_, refl, sym, ap, _∙_}
 use mathlib.Core.Bool.{false}
 use mathlib.Core.Logic.{⊎-elim}
 use mathlib.Core.List.{List, List·Memᴰ, List·Memᴰ·append-cases as append-cases}
 use mathlib.Core.Option.{some}
 use native.Mathlib.Omega.{arith}
+use native.Mathlib.Nat.{mul-add}
 use native.Mathlib.Decide.{ℕ-discrete}
 use lib.IntN.{ℤ, natAbs}
 use lib.ListN.{length, getD}
@@ -26,11 +27,11 @@ use Rattle.passing.proofs.Best.{best-from}
 use Rattle.passing.proofs.InPlace.{renew-apart, pass-other, node-own, node-other}
 use Rattle.decoding.specs.Slots.{slots}
 use Rattle.decoding.specs.Held.{held}
-use Rattle.decoding.specs.Places.{firstPlace}
+use Rattle.decoding.specs.Places.{firstPlace, firstSlot}
 use Rattle.decoding.specs.Stored.{Bound, Place, Stored, source, Handing, Handed, handedOn, Turn, TurnDone, turned}
 use Rattle.decoding.specs.Carrying.{Renewal, renewal}
 use Rattle.decoding.proofs.Numbering.{place-end}
-use Rattle.decoding.proofs.Storing.{block, places-few, place-there, place-room, slot-small, carried-bound}
+use Rattle.decoding.proofs.Storing.{block, place-there, place-room, slot-small, carried-bound}
 use Rattle.decoding.proofs.Carrying.{emission-range, move-small}
 use Rattle.decoding.proofs.Handing.{lexicon-formed, known, letter-few, state-range, place-of, first-at}
 
@@ -89,7 +90,7 @@ module _ {v x : List ℕ} {n : ℕ} {lists counts firsts loops steps entries : L
   unfolding nodeLetter states
   count-range = state-range (t .ready) (t .low) (t .high)
 
-  first-is : getD firsts w 0 ≡ firstPlace v g w
+  first-is : getD firsts w 0 ≡ firstSlot v g n w
   first-is = first-at (t .ready) (t .high)
 
   place : {s : ℕ} → s < count → Place v g w s
@@ -98,13 +99,10 @@ module _ {v x : List ℕ} {n : ℕ} {lists counts firsts loops steps entries : L
   last : Place v g w (count - 1)
   last = place (omega (arith, count-range))
 
-  pub first-few : getD firsts w 0 + count ≤ 1000
-  first-few = omega (arith, first-is, count-range, place-there v x last, places-few v x (t .ready .accepted))
+  slot-is : getD firsts w 0 + n * (count - 1) ≡ n * (firstPlace v g w + (count - 1))
+  slot-is = ap (λ (a : ℕ). a + n * (count - 1)) first-is ∙ sym (mul-add n _ _)
 
-  slot-is : n * (getD firsts w 0 + count - 1) ≡ n * (firstPlace v g w + (count - 1))
-  slot-is = ap (λ (a : ℕ). n * a) (omega (arith, first-is, count-range))
-
-  pub slot-few : n * (getD firsts w 0 + count - 1) ≤ 8000
+  pub slot-few : getD firsts w 0 + n * (count - 1) ≤ 8000
   slot-few = rw slot-is (slot-small v x (t .ready .accepted) (t .roomy) (omega (arith, place-there v x last)))
 
   -- ---- passing on
@@ -116,7 +114,7 @@ module _ {v x : List ℕ} {n : ℕ} {lists counts firsts loops steps entries : L
   unfolding lastState
   last-is = ap (λ (c : ℕ). c - 1) count-is
 
-  old-slots : slots n (n * (getD firsts w 0 + count - 1)) b ≡ held n old
+  old-slots : slots n (getD firsts w 0 + n * (count - 1)) b ≡ held n old
   old-slots =
       let p : Place v g w (lastState v g w) = rw last-is at last in
       ap (λ (k : ℕ). slots n k b) (slot-is ∙ ap (λ (s : ℕ). n * (firstPlace v g w + s)) last-is) ∙ t .stored .holds p
@@ -126,10 +124,10 @@ module _ {v x : List ℕ} {n : ℕ} {lists counts firsts loops steps entries : L
   below = omega (arith, t .high)
 
   -- a node's places end before those of a later one begin
-  last-apart : {u : ℕ} → w < u → u ≤ nodeCount x → n * (getD firsts w 0 + count - 1) + n ≤ n * firstPlace v g u
-  last-apart {u} l h = block n (omega (arith, first-is, count-is, count-range, place-end v g {u = w} {w = u} (t .low) l))
+  last-apart : {u : ℕ} → w < u → u ≤ nodeCount x → getD firsts w 0 + n * (count - 1) + n ≤ firstSlot v g n u
+  last-apart {u} l h = rw slot-is (block n (omega (arith, count-is, count-range, place-end v g {u = w} {w = u} (t .low) l)))
 
-  pub handing : Handing x n lists counts firsts entries w false (n * (getD firsts w 0 + count - 1)) b
+  pub handing : Handing x n lists counts firsts entries w false (getD firsts w 0 + n * (count - 1)) b
   unfolding linkScore source
   handing = record {
     v = v;

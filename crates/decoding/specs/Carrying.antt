@@ -17,7 +17,7 @@ use Rattle.passing.specs.Tokens.{Store, bestTokens, carried, overArc, renewed}
 use Rattle.passing.specs.InPlace.{put, renewDown}
 use Rattle.decoding.specs.Slots.{slots, Room}
 use Rattle.decoding.specs.Held.{held, downOf, Storable}
-use Rattle.decoding.specs.Places.{firstPlace}
+use Rattle.decoding.specs.Places.{firstSlot}
 use Rattle.decoding.specs.Gains.{gainOf, MoveGains}
 use Rattle.decoding.specs.Stored.{Roomy, Bound, Stored, Handing}
 
@@ -133,7 +133,7 @@ pub record Renewal (n entry first s : ℕ) (loops steps b : List ℕ) : Type 0 w
   pub high : node ≤ nodeCount x
   pub all : s ≡ states v (nodeLetter x node)
   pub entry-is : entry ≡ 4 * nodeLetter x node
-  pub first-is : first ≡ firstPlace v (graphOf x) node
+  pub first-is : first ≡ firstSlot v (graphOf x) n node
   pub moves : MoveGains v x k loops steps
   pub stored : Stored v (graphOf x) n P b
   pub bound : {r : ℕ} {h : Hit} → r < s → List·Memᴰ h (P node r) → Bound (graphOf x) M node h

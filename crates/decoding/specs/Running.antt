@@ -22,7 +22,7 @@ Empty b = (j : ℕ) → tokenAt b j ≡ 0
 
 -- accepted images and frames, the tables, and a store with room
 pub record Run (v x frames : List ℕ) (n : ℕ) (lists counts firsts b : List ℕ) : Type 0 where
-  pub ready : Ready v x lists counts firsts
+  pub ready : Ready v x n lists counts firsts
   pub roomy : Roomy v x n b
   pub heard : AcceptedFrames v frames
 
@@ -47,7 +47,7 @@ pub record LastArc (g : Graph) (w r : ℕ) : Type 0 where
 pub record Ending (v x : List ℕ) (n : ℕ) (lists counts firsts : List ℕ) (w : ℕ) (b list : List ℕ) : Type 0 where
   pub P : Store
   pub s : List Hit
-  pub ready : Ready v x lists counts firsts
+  pub ready : Ready v x n lists counts firsts
   pub roomy : Roomy v x n b
   pub low : 1 ≤ w
   pub high : w ≤ nodeCount x

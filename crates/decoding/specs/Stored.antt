@@ -20,15 +20,15 @@ use Rattle.passing.specs.Tokens.{Store, bestTokens}
 use Rattle.passing.specs.InPlace.{passOn, passNode}
 use Rattle.decoding.specs.Slots.{slots, Room}
 use Rattle.decoding.specs.Held.{held}
-use Rattle.decoding.specs.Places.{firstPlace}
+use Rattle.decoding.specs.Places.{firstPlace, firstSlot}
 use Rattle.decoding.specs.Gains.{MoveGains, EntryGains}
 
--- accepted images, and the tables of their vertices
-pub record Ready (v x lists counts firsts : List ℕ) : Type 0 where
+-- accepted images, and the tables of their vertices; the first slots are those of n tokens a place
+pub record Ready (v x : List ℕ) (n : ℕ) (lists counts firsts : List ℕ) : Type 0 where
   pub accepted : Accepted v x
   pub lists-of : TableOf (sinkOf x) (arcsAt x) lists
   pub counts-of : TableOf (suc (sinkOf x)) (pathCount (graphOf x)) counts
-  pub firsts-of : TableOf (sinkOf x) (firstPlace v (graphOf x)) firsts
+  pub firsts-of : TableOf (sinkOf x) (firstSlot v (graphOf x) n) firsts
 
 -- n tokens a place, 1 to 8, and room for every place
 pub record Roomy (v x : List ℕ) (n : ℕ) (b : List ℕ) : Type 0 where
@@ -72,7 +72,7 @@ pub record Handing (x : List ℕ) (n : ℕ) (lists counts firsts entries : List 
   pub score : Option ℤ
   pub l : List Hit
   pub Q : Store
-  pub ready : Ready v x lists counts firsts
+  pub ready : Ready v x n lists counts firsts
   pub roomy : Roomy v x n b
   pub vertex : w ≤ nodeCount x
   pub gains : EntryGains v x k score entries
@@ -83,7 +83,7 @@ pub record Handing (x : List ℕ) (n : ℕ) (lists counts firsts entries : List 
   pub handed : source root n from b ≡ held n l
   -- a node's slots are in the store, and the places of later nodes are apart from them
   pub inside : root ≡ false → Room n from b
-  pub apart : {u : ℕ} → root ≡ false → w < u → u ≤ nodeCount x → from + n ≤ n * firstPlace v (graphOf x) u
+  pub apart : {u : ℕ} → root ≡ false → w < u → u ≤ nodeCount x → from + n ≤ firstSlot v (graphOf x) n u
   pub best : bestTokens n l ≡ l
   pub bound : {h : Hit} → List·Memᴰ h l → Bound (graphOf x) M w h
   pub fits : M + 65536 ≤ 67108864
@@ -105,7 +105,7 @@ pub record Turn (v x : List ℕ) (n : ℕ) (lists counts firsts loops steps entr
   pub k : ℕ
   pub M : ℕ
   pub P : Store
-  pub ready : Ready v x lists counts firsts
+  pub ready : Ready v x n lists counts firsts
   pub roomy : Roomy v x n b
   pub low : 1 ≤ w
   pub high : w ≤ nodeCount x

@@ -61,7 +61,7 @@ fn offer_end(
     let letter = lexicon[1 + node] as usize;
     let last = voice[2 + 2 * letter] as usize - 1;
     let mut tokens = [0; 8];
-    copy_at(store, n, n * (firsts[node] as usize + last), &mut tokens);
+    copy_at(store, n, firsts[node] as usize + n * last, &mut tokens);
     offer(list, n, &tokens, LEVEL, LEVEL + increment as u64);
 }
 

@@ -63,9 +63,11 @@ fn first_frame(
         steps,
         entries,
     );
+    let nodes = u16_at(lexicon, 0) as usize;
     pass_on(
         lexicon,
         n,
+        nodes,
         lists,
         counts,
         firsts,
@@ -125,12 +127,14 @@ fn next_frame(
         steps,
         entries,
     );
-    let mut node = u16_at(lexicon, 0) as usize;
+    let nodes = u16_at(lexicon, 0) as usize;
+    let mut node = nodes;
     while 0 < node {
         pass_node(
             voice,
             lexicon,
             n,
+            nodes,
             lists,
             counts,
             firsts,

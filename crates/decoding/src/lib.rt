@@ -6,7 +6,7 @@ ghost use Rattle.decoder.specs.Demand.{MeetsDemand3};
 use crate::ends::best_words;
 use crate::hits::put_hits;
 use crate::judge::judge_call;
-use crate::places::find_places;
+use crate::places::find_slots;
 use call::Answer;
 use call::zero;
 use checking::open;
@@ -48,9 +48,9 @@ pub fn decode(
         return judged;
     };
     let mut firsts = [0u16; 402];
-    let places = find_places(voice, lexicon, &mut firsts);
+    let slots = find_slots(voice, lexicon, n as usize, &mut firsts);
     // a store of n tokens a place; checking left the work space clear, so nothing else has to be cleared again
-    let store = 8 * (n as usize * places);
+    let store = 8 * slots;
     let tokens = best_words(
         voice,
         lexicon,

@@ -1,10 +1,12 @@
-// A node's turn at a frame: what its last state holds is passed on to its successors, and its own states are renewed.
+// A node's turn at a frame: what its last state holds is passed on to its successors, and its own states are renewed. The table `firsts` has
+// each node's first slot in the store.
 ghost use mathlib.Core.Path.{_≡_};
 ghost use mathlib.Core.Bool.{false};
 ghost use Prim.Native.Nat.{ℕ, suc, _+_, _*_, _≤_, _<_};
 ghost use lib.Dec.{eqb};
 ghost use lib.ListN.{length, getD};
 ghost use Rattle.endian.specs.Bytes.{u16};
+ghost use Rattle.lexicon.specs.Lexicon.{nodeCount};
 ghost use Rattle.graph.specs.Graph.{graphOf};
 ghost use Rattle.decoding.specs.Slots.{Changed};
 ghost use Rattle.decoding.specs.Held.{held};
@@ -69,7 +71,7 @@ fn hand_over(
         return;
     }
     let gain = entries[lexicon[1 + t] as usize];
-    hand(store, n, root, from, n * (firsts[t] as usize), gain, down);
+    hand(store, n, root, from, firsts[t] as usize, gain, down);
 }
 
 // A vertex without tokens; the root has one.
@@ -87,6 +89,7 @@ fn is_empty(store: &[u8], root: bool, from: usize) -> bool
 pub(crate) fn pass_on(
     lexicon: &[u8],
     n: usize,
+    nodes: usize,
     lists: &[u16; 402],
     counts: &[u32; 402],
     firsts: &[u16; 402],
@@ -97,12 +100,12 @@ pub(crate) fn pass_on(
     store: &mut [u8],
 )
     requires { ⌜ Handing (now lexicon) n (now lists) (now counts) (now firsts) (now entries) vertex root from (now store) ⌝ }
+    requires { ⌜ nodes ≡ nodeCount (now lexicon) ⌝ }
     ensures { λ _. ⌜ ((t : Handing (now (lexicon .entry)) n (now (lists .entry)) (now (counts .entry)) (now (firsts .entry)) (now (entries .entry)) vertex root from (now (store .entry))) → Handed t (now (store .exit))) ⌝ }
 {
     if is_empty(&store[..], root, from) {
         return;
     }
-    let nodes = number_at(lexicon, 0);
     let start = lists[vertex] as usize;
     let stop = start + 2 + 2 * number_at(lexicon, start);
     let mut at = start + 2;
@@ -181,7 +184,7 @@ fn renew(
     }
 }
 
-// The node's part of the store is lent on to the token update.
+// The node's part of the store, which begins with slot `first`, is lent on to the token update.
 fn renew_node(
     store: &mut [u8],
     n: usize,
@@ -194,7 +197,7 @@ fn renew_node(
     requires { ⌜ Renewal n entry first states (now loops) (now steps) (now store) ⌝ }
     ensures { λ _. ⌜ ((t : Renewal n entry first states (now (loops .entry)) (now (steps .entry)) (now (store .entry))) → Stored (t .v) (graphOf (t .x)) n (renewal t) (now (store .exit))) ⌝ }
 {
-    let start = 8 * (n * first);
+    let start = 8 * first;
     let end = start + 8 * (n * states);
     renew(&mut store[start..end], n, entry, states, loops, steps);
 }
@@ -204,6 +207,7 @@ pub(crate) fn pass_node(
     voice: &[u8],
     lexicon: &[u8],
     n: usize,
+    nodes: usize,
     lists: &[u16; 402],
     counts: &[u32; 402],
     firsts: &[u16; 402],
@@ -214,16 +218,18 @@ pub(crate) fn pass_node(
     store: &mut [u8],
 )
     requires { ⌜ Turn (now voice) (now lexicon) n (now lists) (now counts) (now firsts) (now loops) (now steps) (now entries) node (now store) ⌝ }
+    requires { ⌜ nodes ≡ nodeCount (now lexicon) ⌝ }
     ensures { λ _. ⌜ ((t : Turn (now (voice .entry)) (now (lexicon .entry)) n (now (lists .entry)) (now (counts .entry)) (now (firsts .entry)) (now (loops .entry)) (now (steps .entry)) (now (entries .entry)) node (now (store .entry))) → TurnDone t (now (store .exit))) ⌝ }
 {
     let letter = lexicon[1 + node] as usize;
     let states = voice[2 + 2 * letter] as usize;
     let first = firsts[node] as usize;
     // its successors get its old tokens, so it passes them on first
-    let last = n * (first + states - 1);
+    let last = first + n * (states - 1);
     pass_on(
         lexicon,
         n,
+        nodes,
         lists,
         counts,
         firsts,

@@ -63,42 +63,40 @@ room c =
     let w = o .before .before .before .before .before .before .before .before .before .args .work .now in
     omega (arith, ap length (o .«open» .ensures .1 .0), cleared-length w, passes c .room)
 
-find-places-requires : tie.Need-find-places-requires
-find-places-requires c κs =
+find-slots-requires : tie.Need-find-slots-requires
+find-slots-requires c κs =
     let i = accepted (passes (c .before .before .before .before .before) .images) in
-    ((i .voice, i .lexicon), refl)
+    ((i .voice, i .lexicon), (clear-call (c .before) .few, refl))
 
 -- ---- the store
 
-abbrev told : tie.After-find-places → tie.After-enum-told3
+abbrev told : tie.After-find-slots → tie.After-enum-told3
 told c = c .before .before
 
-abbrev checked : tie.After-find-places → tie.After-enum-told
+abbrev checked : tie.After-find-slots → tie.After-enum-told
 checked c = told c .before .before .before .before
 
-abbrev start : tie.After-find-places → tie.Start
+abbrev start : tie.After-find-slots → tie.Start
 start c = begin (checked c)
 
-counted : (c : tie.After-find-places) → c .find-places .result ≡ placeCount (start c .args .voice .now) (graphOf (start c .args .lexicon .now))
-counted c = c .find-places .ensures .1
+counted : (c : tie.After-find-slots) → c .find-slots .result ≡ start c .args .n * placeCount (start c .args .voice .now) (graphOf (start c .args .lexicon .now))
+counted c = c .find-slots .ensures .1
 
 -- it lies in the work space
-inside : (c : tie.After-find-places) → 8 * (start c .args .n * c .find-places .result) ≤ 64000
-inside c =
-    let e = ap (λ (p : ℕ). start c .args .n * p) (counted c) in
-    omega (arith, e, store-few _ _ _ _ _ _ (passes (checked c)) (clear-call (told c)))
+inside : (c : tie.After-find-slots) → 8 * c .find-slots .result ≤ 64000
+inside c = omega (arith, counted c, store-few _ _ _ _ _ _ (passes (checked c)) (clear-call (told c)))
 
 -- its length, as the part is lent
-abbrev size : tie.After-find-places → ℕ
-size c = 8 * (start c .args .n * c .find-places .result) - 0
+abbrev size : tie.After-find-slots → ℕ
+size c = 8 * c .find-slots .result - 0
 
-small : (c : tie.After-find-places) → size c ≤ 64000
+small : (c : tie.After-find-slots) → size c ≤ 64000
 small c = omega (arith, inside c)
 
-fits : (c : tie.After-find-places) → size c ≤ length (checked c .before .before .before .before .«open» .last .1 .1 .0)
+fits : (c : tie.After-find-slots) → size c ≤ length (checked c .before .before .before .before .«open» .last .1 .1 .0)
 fits c = omega (arith, inside c, room (checked c))
 
-abbrev found : tie.After-firsts2 → tie.After-find-places
+abbrev found : tie.After-firsts2 → tie.After-find-slots
 found c = c .before .before .before
 
 best-words-requires : tie.Need-best-words-requires
@@ -110,8 +108,8 @@ best-words-requires c κs =
     let a = o .before .before .before .before .before .before .before .before .before .args in
     let part = o .«open» .last .1 .1 .0 in
     let long = length-take-le (size f) part (fits f) in (
-      call-run _ _ _ _ _ _ (passes k) (clear-call t) (rw (k .enum-told .given .1) at (o .«open» .ensures .1 .1)) (f .find-places .ensures .0)
-          (long ∙ ap (λ (p : ℕ). 8 * (a .n * p) - 0) (counted f) ∙ omega arith),
+      call-run _ _ _ _ _ _ (passes k) (clear-call t) (rw (k .enum-told .given .1) at (o .«open» .ensures .1 .1)) (f .find-slots .ensures .0)
+          (long ∙ ap (λ (p : ℕ). 8 * p - 0) (counted f) ∙ omega arith),
       part-empty (size f) part (a .work .now) (o .«open» .ensures .1 .0) (small f) (passes k .room),
     )
 
@@ -154,9 +152,6 @@ returns-3 c =
 
 mul-store : tie.Need-mul-store
 mul-store c = let h = inside c in search needs
-
-mul-store-2 : tie.Need-mul-store-2
-mul-store-2 c = let h = inside c in search needs
 
 part-best-words-end : tie.Need-part-best-words-end
 part-best-words-end c = let h = fits (found c) in search needs
@@ -227,9 +222,8 @@ decode-spec =
     same-length-2
     same-length-3
     returns-2
-    find-places-requires
+    find-slots-requires
     mul-store
-    mul-store-2
     sub-best-words
     part-best-words-start
     part-best-words-end

@@ -53,8 +53,8 @@ offer-end-spec =
     (λ c. let h = at (c .before .before .before .before .before .before .before .before .before) .some in search needs)
     (λ c. let h = at (c .before .before .before .before .before .before .before .before .before) .vertex in search needs)
     (λ c. let h = at (c .before .before .before .before .before .before .before .before .before) .vertex in omega arith)
-    (λ c. let h = at (c .before .before .before .before .before .before .before .before .before .before) .place-small in search needs)
-    (λ c. let h = at (c .before .before .before .before .before .before .before .before .before .before) .place-small in search needs)
+    (λ c. let h = at (c .before .before .before .before .before .before .before .before .before .before) .slot-small in search needs)
+    (λ c. let h = at (c .before .before .before .before .before .before .before .before .before .before) .slot-small in search needs)
     (λ c. let h = at (c .before .before .before .before .before .before .before .before .before .before) .slot-small in search needs)
     copy-at-requires
     (λ c. search needs)

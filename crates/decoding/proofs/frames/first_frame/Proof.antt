@@ -5,6 +5,7 @@ use borrow.Author.Needs.{needs}
 use lib.IntN.{pos}
 use lib.ListN.{getD}
 use Rattle.voice.proofs.Scores.{symbols-few}
+use Rattle.lexicon.specs.Lexicon.{nodeCount}
 use Rattle.decoding.specs.Gains.{EntryGains, Hearing}
 use Rattle.decoding.proofs.Filling.{gained-long, root-gains}
 use Rattle.decoding.proofs.Running.{frame-count, hearing, root-handing, root-stored}
@@ -29,15 +30,17 @@ gains : (c : tie.After-frame-gains) →
 gains c = root-gains (start c .pre .1 .1 .0 .0) (c .frame-gains .ensures)
 
 pass-on-requires : tie.Need-pass-on-requires
+unfolding nodeCount
 pass-on-requires c κs =
-    let g = c .before .before in
+    let u = c .before .before in
+    let g = u .before in
     let p = start g .pre in
-    root-handing (p .0) (p .1 .0) (gains g)
+    (root-handing (p .0) (p .1 .0) (gains g), u .u16-at .ensures)
 
 returns : tie.Need-returns
 returns c =
     let m = c .before .before in
-    let g = m .before .before .before in
+    let g = m .before .before .before .before in
     let p = start g .pre in
     (root-stored (p .0) (p .1 .0) (gains g) (m .pass-on .ensures (root-handing (p .0) (p .1 .0) (gains g))), gained-long (g .frame-gains .ensures))
 
@@ -55,4 +58,15 @@ symbols-at-requires : tie.Need-symbols-at-requires
 symbols-at-requires c κs = symbol (c .before .before .before .before .before) .well-formed
 
 pub first-frame-spec : {M : Type 1} → statement M
-first-frame-spec = tie.close (tie.spec shared-slice-read-symbol cast-symbol symbols-at-requires frame-gains-requires pass-on-requires (λ c. search needs) returns)
+first-frame-spec =
+    tie.close
+    (tie.spec
+    shared-slice-read-symbol
+    cast-symbol
+    symbols-at-requires
+    frame-gains-requires
+    (λ c κs. search needs)
+    (λ c. search needs)
+    pass-on-requires
+    (λ c. search needs)
+    returns)

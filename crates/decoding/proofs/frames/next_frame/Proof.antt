@@ -1,5 +1,6 @@
 -- `frames::next_frame` meets its contract: the turns that are left give what all turns give. The measure is the nodes left. Assumes nothing.
 use Prim.Native.Nat.{suc, _+_, _≤_, _<_}
+use mathlib.Core.Path.{_≡_}
 use native.Mathlib.Numerals.{add-one}
 use native.Mathlib.Omega.{arith}
 use borrow.Author.Needs.{needs}
@@ -15,11 +16,11 @@ use Rattle.decoding.proofs.frames.next_frame.Statement.{statement}
 use Rattle.decoding.proofs.frames.next_frame.Tie as tie
 
 abbrev Inv-loop : tie.InvT-loop
-Inv-loop voice lexicon n lists counts firsts letters used begins looping stepping link at heard frames t loops steps entries store₀ symbol node₀ store node =
+Inv-loop voice lexicon n lists counts firsts letters used begins looping stepping link at heard frames t loops steps entries store₀ symbol nodes node₀ store node =
     TurnsLeft voice lexicon frames n t node store₀ store
 
 abbrev μ-loop : tie.MeasureT-loop
-μ-loop voice lexicon n lists counts firsts letters used begins looping stepping link at heard frames t loops steps entries store₀ symbol node₀ store node = node
+μ-loop voice lexicon n lists counts firsts letters used begins looping stepping link at heard frames t loops steps entries store₀ symbol nodes node₀ store node = node
 
 few : (c : tie.Start Inv-loop μ-loop) → c .args .t + 1 < length (c .args .frames .now)
 few c = omega (arith, c .pre .1 .0 .1)
@@ -58,18 +59,20 @@ links c =
     let s = start c in
     rw add-one at (link-gains (s .pre .1 .1 .1 .0 .0) (c .hear .ensures) (s .pre .1 .0 .0))
 
-loop-holds : tie.Need-loop-holds Inv-loop μ-loop
+-- the number that is read
+counted : (c : tie.After-u16-at Inv-loop μ-loop) → c .u16-at .result ≡ nodeCount (start (c .before) .args .lexicon .now)
 unfolding nodeCount
-loop-holds c =
-    let s = c .before .before .before .before .before .before .before .before .before .before in
-    turns-start (s .pre .0) (s .args .t) (c .u16-at .ensures) (s .pre .1 .1 .0)
+counted c = c .u16-at .ensures
+
+loop-holds : tie.Need-loop-holds Inv-loop μ-loop
+loop-holds c = let s = start (c .before) in turns-start (s .pre .0) (s .args .t) (counted c) (s .pre .1 .1 .0)
 
 pass-node-requires : tie.Need-pass-node-requires Inv-loop μ-loop
 pass-node-requires c κs =
     let l = c .before .before .before .before in
     let g = l .before .before .before in
     let s = start g in
-    turn-next (s .pre .0) (s .args .t) (s .pre .1 .0 .1) (moves g) (links g) (l .loop-test .taken) (l .before .loop .inv)
+    (turn-next (s .pre .0) (s .args .t) (s .pre .1 .0 .1) (moves g) (links g) (l .loop-test .taken) (l .before .loop .inv), counted (l .before .before))
 
 loop-again : tie.Need-loop-again Inv-loop μ-loop
 loop-again c =

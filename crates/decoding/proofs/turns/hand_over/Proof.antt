@@ -15,7 +15,7 @@ returns c = ((λ a. arc-sink a (c .if1 .taken)), refl)
 node : (c : tie.Else1) → let s = c .before .before .before in s .args .t ≤ nodeCount (s .args .lexicon .now)
 node c = omega (arith, c .if1 .left, c .before .before .before .pre .nodes-is)
 
-read : (c : tie.Else1) → let a = c .before .before .before .args in ArcRead (a .lexicon .now) (a .n) (a .firsts .now) (a .entries .now) (a .t)
+read : (c : tie.Else1) → let a = c .before .before .before .args in ArcRead (a .lexicon .now) (a .firsts .now) (a .entries .now) (a .t)
 read c = arc-read (c .before .before .before .pre) (node c)
 
 hand-requires : tie.Need-hand-requires
@@ -43,7 +43,6 @@ hand-over-spec =
     (λ c. let h = read (c .before) .letter in search needs)
     (λ c. let h = read (c .before .before .before) .few in search needs)
     (λ c. let h = read (c .before .before .before) .few in search needs)
-    (λ c. let h = read (c .before .before .before .before) .first in search needs)
     (λ c. let h = read (c .before .before .before .before) .slot in search needs)
     hand-requires
     (search needs)

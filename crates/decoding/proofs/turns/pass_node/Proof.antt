@@ -1,6 +1,6 @@
 -- `turns::pass_node` meets its contract: its last tokens are passed on, and its states renewed. Assumes nothing.
 use borrow.Author.Needs.{needs}
-use Rattle.decoding.proofs.Turning.{node-there, node-few, letter-small, letter-there, count-range, first-few, slot-few, renewing, handing, turn-done}
+use Rattle.decoding.proofs.Turning.{node-there, node-few, letter-small, letter-there, count-range, slot-few, renewing, handing, turn-done}
 use Rattle.decoding.proofs.turns.pass_node.Statement.{statement}
 use Rattle.decoding.proofs.turns.pass_node.Tie as tie
 
@@ -11,12 +11,12 @@ abbrev at-last : tie.After-first → tie.Start
 at-last c = start (c .before .before)
 
 pass-on-requires : tie.Need-pass-on-requires
-pass-on-requires c κs = handing (at-last (c .before) .pre)
+pass-on-requires c κs = let p = at-last (c .before) .pre in (handing (p .0), p .1)
 
 renew-node-requires : tie.Need-renew-node-requires
 renew-node-requires c κs =
     let o = c .before .before .before in
-    let t = at-last (o .before .before) .pre in
+    let t = at-last (o .before .before) .pre .0 in
     renewing t (o .pass-on .ensures (handing t))
 
 returns : tie.Need-returns
@@ -29,21 +29,21 @@ pub pass-node-spec : {M : Type 1} → statement M
 pass-node-spec =
     tie.close
     (tie.spec
-    (λ c. let h = node-few (c .before .before .before .pre) in search needs)
-    (λ c. let h = node-there (start c .pre) in search needs)
-    (λ c. let h = letter-small (start c .pre) in search needs)
-    (λ c. let h = letter-small (start c .pre) in search needs)
-    (λ c. let h = letter-small (start c .pre) in search needs)
-    (λ c. let h = letter-there (start (c .before) .pre) in search needs)
-    (λ c. let h = count-range (start (c .before) .pre) .1 in search needs)
-    (λ c. let h = node-few (start (c .before) .pre) in search needs)
-    (λ c. let h = node-few (start (c .before) .pre) in search needs)
-    (λ c. let h = first-few (at-last c .pre) in search needs)
-    (λ c. let h = first-few (at-last c .pre) in search needs)
-    (λ c. let h = count-range (at-last c .pre) .0 in search needs)
-    (λ c. let h = slot-few (at-last c .pre) in search needs)
+    (λ c. let h = node-few (c .before .before .before .pre .0) in search needs)
+    (λ c. let h = node-there (start c .pre .0) in search needs)
+    (λ c. let h = letter-small (start c .pre .0) in search needs)
+    (λ c. let h = letter-small (start c .pre .0) in search needs)
+    (λ c. let h = letter-small (start c .pre .0) in search needs)
+    (λ c. let h = letter-there (start (c .before) .pre .0) in search needs)
+    (λ c. let h = count-range (start (c .before) .pre .0) .1 in search needs)
+    (λ c. let h = node-few (start (c .before) .pre .0) in search needs)
+    (λ c. let h = node-few (start (c .before) .pre .0) in search needs)
+    (λ c. let h = slot-few (at-last c .pre .0) in search needs)
+    (λ c. let h = count-range (at-last c .pre .0) .0 in search needs)
+    (λ c. let h = slot-few (at-last c .pre .0) in search needs)
+    (λ c. let h = slot-few (at-last c .pre .0) in search needs)
     pass-on-requires
-    (λ c. let o = c .before .before .before in let h = letter-small (at-last (o .before .before) .pre) in search needs)
+    (λ c. let o = c .before .before .before in let h = letter-small (at-last (o .before .before) .pre .0) in search needs)
     renew-node-requires
     (search needs)
     returns)

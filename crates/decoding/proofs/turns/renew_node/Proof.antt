@@ -12,23 +12,22 @@ renew-requires : tie.Need-renew-requires
 renew-requires c κs =
     let s = c .before .before in
     let a = s .args in
-    part-renewing (s .pre) _ (part-size (a .n * a .first) (a .n * a .states))
+    part-renewing (s .pre) _ (part-size (a .first) (a .n * a .states))
 
 returns : tie.Need-returns
 returns c =
     let w = c .before .before in
     let s = w .before .before .before in
     let a = s .args in
-    let size = part-size (a .n * a .first) (a .n * a .states) in
+    let size = part-size (a .first) (a .n * a .states) in
     λ t. stretch-back t _ size
-    (w .renew .kept .0 ∙ mid-len (8 * (a .n * a .first)) (8 * (a .n * a .first) + 8 * (a .n * a .states)) (a .store .now) (stretch-there t))
+    (w .renew .kept .0 ∙ mid-len (8 * a .first) (8 * a .first + 8 * (a .n * a .states)) (a .store .now) (stretch-there t))
     (w .renew .ensures (part-renewing t _ size))
 
 pub renew-node-spec : {M : Type 1} → statement M
 renew-node-spec =
     tie.close
     (tie.spec
-    (λ c. let h = start-few (c .before .pre) in search needs)
     (λ c. let h = start-few (c .before .pre) in search needs)
     (λ c. let h = stretch-few (c .before .pre) in search needs)
     (λ c. let h = stretch-few (c .before .pre) in search needs)
