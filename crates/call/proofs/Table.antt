@@ -2,7 +2,7 @@
 -- Assumes nothing.
 use mathlib.Core.Path.{_≡_, refl, sym, ap, _∙_}
 use mathlib.Core.Bool.{Bool, true, false, not, _&&_, false≢true}
-use mathlib.Core.List.{List, [], _∷_, _++_}
+use mathlib.Core.List.{List, [], _∷_, _++_, append-nil, append-assoc}
 use Prim.Native.Nat.{ℕ}
 use native.Mathlib.Omega.{arith}
 use borrow.Author.Tests.{not-true}
@@ -73,13 +73,13 @@ module _ {A : Type 0} where
   pub unless-first : (rows : List Row) (r : Refusal) (more : List Row) (a : A) → noneApplies rows ≡ true → unless (rows ++ on r true ∷ more) a ≡ refused r
   unless-first rows r more a h = unless-past rows (on r true ∷ more) a h ∙ (unfold unless in refl)
 
+  pub same-value : {a b : A} → value a ≡ value b → a ≡ b
+  same-value e = cc
+
   -- a value shows that no row applies, and that it is the call's
   pub value-passed : (rows : List Row) (a b : A) → unless rows a ≡ value b → (noneApplies rows ≡ true) × (a ≡ b)
   unfolding noneApplies all unless
-  value-passed [] a b h = (refl, same h)
-    where
-      same : value a ≡ value b → a ≡ b
-      same h = cc
+  value-passed [] a b h = (refl, same-value h)
   value-passed (r ∷ rows) a b h = go (r .applies) refl h (value-passed rows a b)
     where
       go : (t : Bool) → r .applies ≡ t → unless (r ∷ rows) a ≡ value b → (unless rows a ≡ value b → (noneApplies rows ≡ true) × (a ≡ b)) → (noneApplies (r ∷ rows) ≡ true) × (a ≡ b)
@@ -100,3 +100,13 @@ module _ {A : Type 0} where
       go false e h ih =
           let f = ih (rw e at h) in
           record { earlier = q ∷ f .earlier; later = f .later; split = ap (λ (l : List Row). q ∷ l) (f .split); none-before = rw e (f .none-before) }
+
+module _ {A B : Type 0} where
+  -- neither rows after the one that decides nor the value change a refusal
+  pub refused-before : (rows more : List Row) (a : A) (b : B) {r : Refusal} → unless rows a ≡ refused r → unless (rows ++ more) b ≡ refused r
+  refused-before rows more a b {r} h =
+      let f = refused-first rows a r h in
+      rw (f .split, append-assoc (f .earlier) (on r true ∷ f .later) more) (unless-first (f .earlier) r (f .later ++ more) b (f .none-before))
+
+  pub refused-with : (rows : List Row) (a : A) (b : B) {r : Refusal} → unless rows a ≡ refused r → unless rows b ≡ refused r
+  refused-with rows a b h = rw append-nil at (refused-before rows [] a b h)

@@ -1,6 +1,7 @@
-// What every call has: the refusals, the answer, and the work space.
+// What every call has: the refusals, the answer, the test of a limit, and the work space.
 ghost use mathlib.Core.Path.{_≡_};
 ghost use lib.ListN.{length, replicate};
+ghost use Rattle.endian.specs.Lists.{within};
 ghost use Rattle.call.specs.Table.{number};
 ghost use Rattle.call.specs.Buffers.{cleared};
 
@@ -73,6 +74,16 @@ impl Refusal {
             Refusal::Output => 16,
         }
     }
+}
+
+// Whether a number keeps its limits, both of them included.
+pub fn inside(x: usize, low: usize, high: usize) -> bool
+    ensures { λ r. ⌜ r ≡ within low high x ⌝ }
+{
+    if x < low {
+        return false;
+    }
+    x <= high
 }
 
 // Makes a lent part zero.

@@ -3,14 +3,15 @@ use mathlib.Core.Path.{_≡_, refl}
 use mathlib.Core.List.{List, [], _∷_, List·Memᴰ, List·Memᴰ·head, List·Memᴰ·tail}
 use Prim.Native.Nat.{ℕ, suc, _+_, _*_, _≤_, _<_}
 use native.Mathlib.Omega.{arith}
-use lib.ListN.{length}
+use lib.ListN.{length, getD}
 use Rattle.endian.specs.Bytes.{u16, u16s}
 use Rattle.lexicon.specs.Lexicon.{nodeCount, sinkOf, arcsAt, arcCount, successors}
 use Rattle.lexicon.proofs.Shape.{Shape, shape, arcs-next}
 use Rattle.lexicon.proofs.Readers.{length-successors}
 use Rattle.graph.specs.Graph.{graphOf, sink}
 use Rattle.graph.proofs.Sound.{Sound, sound}
-use Rattle.checking.specs.Tables.{WellFormed}
+use Rattle.checking.specs.Tables.{WellFormed, Listed}
+use Rattle.checking.proofs.Tables.{entry}
 
 pub shape-of : {x : List ℕ} → WellFormed x → Shape x
 shape-of w = shape (w .letters) _ (w .judged)
@@ -31,6 +32,20 @@ pub record ListThere (x : List ℕ) (at : ℕ) : Type 0 where
 pub list-there : {x : List ℕ} → WellFormed x → {u at : ℕ} → u ≤ nodeCount x → at ≡ arcsAt x u → ListThere x at
 unfolding arcsAt sinkOf
 list-there w {u} h e = rw e (record { there = shape-of w .there {u = u} (omega arith); small = shape-of w .small {u = suc u} (omega arith) })
+
+-- a vertex has an entry of a table
+pub has-entry : {x : List ℕ} → WellFormed x → {u : ℕ} → u ≤ sinkOf x → u < 402
+unfolding sinkOf
+has-entry w h = omega (arith, shape-of w .few)
+
+-- and by the table of the lists its own is found
+module _ {x lists : List ℕ} (l : Listed x lists) {u : ℕ} (h : u ≤ nodeCount x) where
+  pub list-entry : getD lists u 0 ≡ arcsAt x u
+  unfolding sinkOf
+  list-entry = entry (l .table) (omega arith)
+
+  pub list-at : ListThere x (getD lists u 0)
+  list-at = list-there (l .well-formed) h list-entry
 
 -- the offset stands before the last arcs of u's list, which ends at stop
 pub record ArcsLeft (x : List ℕ) (u at stop : ℕ) (left : List ℕ) : Type 0 where

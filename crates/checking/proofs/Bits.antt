@@ -1,7 +1,7 @@
 -- Laws of the bits in bytes: one bit set, and 51 bytes joined to others. Assumes nothing.
 use Prim.Native.Nat.{ℕ, zero, suc, _+_, _-_, _*_, _/_, _%_, _^_, _≤_, _<_, max}
 use mathlib.Core.Path.{_≡_, refl, sym, ap, _∙_}
-use mathlib.Core.Bool.{Bool, false, cond, _||_}
+use mathlib.Core.Bool.{Bool, false, cond, _||_, or-comm}
 use mathlib.Core.List.{List}
 use native.Mathlib.Nat.{mod-lt, div-eq-of-lt, one-mul}
 use native.Mathlib.Decide.{ℕ-discrete}
@@ -14,8 +14,8 @@ use lib.Seq.{getD-set-same, getD-set-other}
 use lib.Dec.{eqb, ltb}
 use borrow.Author.Tests.{eq-eqb, ne-eqb, lt-ltb, le-ltb}
 use Rattle.call.specs.Buffers.{zeroed}
+use Rattle.endian.proofs.Lists.{getD-copies}
 use Rattle.checking.specs.Bits.{bit, BitSet, Joined}
-use Rattle.checking.proofs.Booleans.{or-swap, below-next}
 
 -- ---- a digit of a number
 
@@ -58,10 +58,12 @@ digit-power k j = elim (ℕ-discrete k j) [
 
 -- ---- bits
 
-zeros : (n i : ℕ) → getD (replicate {A = ℕ} n 0) i 0 ≡ 0
-zeros zero i = refl
-zeros (suc n) zero = refl
-zeros (suc n) (suc i) = zeros n i
+-- of other numbers than i as many are below i + 1 as below i
+pub below-next : (j i : ℕ) → (j ≡ i → ⊥) → ltb j i ≡ ltb j (i + 1)
+below-next j i n = elim (ℕ-discrete (i - j) 0) [
+  | yes e ↦ le-ltb j i (omega arith) ∙ sym (le-ltb j (i + 1) (omega arith))
+  | no d ↦ lt-ltb j i (omega arith) ∙ sym (lt-ltb j (i + 1) (omega arith))
+]
 
 -- the digit set is that of the bit, in its byte
 same-digit : (i j : ℕ) → j / 8 ≡ i / 8 → eqb (i % 8) (j % 8) ≡ eqb i j
@@ -77,7 +79,7 @@ bit-set b i h = record {
     | yes e ↦
         rw (e, getD-set-same b (i / 8) (bitOr (getD b (i / 8) 0) (2 ^ (i % 8))) 0 (omega arith))
         (rw (digit-or (getD b (i / 8) 0) (2 ^ (i % 8)) (j % 8), digit-power (i % 8) (j % 8), same-digit i j e)
-        (or-swap (digit (getD b (i / 8) 0) (j % 8)) (eqb i j)))
+        (or-comm (digit (getD b (i / 8) 0) (j % 8)) (eqb i j)))
     | no n ↦
         rw (getD-set-other b (i / 8) (j / 8) (bitOr (getD b (i / 8) 0) (2 ^ (i % 8))) 0 n, ne-eqb i j (λ e. n (rw e)))
   ];
@@ -124,7 +126,7 @@ module _ (mask b : List ℕ) (at : ℕ) where
 pub bit-zero : (n i : ℕ) → bit (replicate {A = ℕ} n 0) i ≡ false
 unfolding bit
 bit-zero n i =
-    let e : getD (replicate {A = ℕ} n 0) (i / 8) 0 ≡ 0 = zeros n (i / 8) in
+    let e : getD (replicate {A = ℕ} n 0) (i / 8) 0 ≡ 0 = getD-copies n (i / 8) 0 in
     rw (e, div-eq-of-lt (pow-pos (i % 8)))
 
 -- nor, where the first n bytes are zero, in them

@@ -7,11 +7,11 @@ use mathlib.Core.List.{List, [], _∷_, _++_, map, List·Memᴰ}
 use Prim.Native.Nat.{ℕ, zero, suc, _+_, _≤_, _<_}
 use native.Mathlib.Omega.{arith}
 use lib.Dec.{eqb, leb, ltb}
-use borrow.Author.Tests.{eqb-true, eq-eqb, ne-eqb, leb-true, lt-ltb, le-leb, lt-leb}
+use borrow.Author.Tests.{eqb-true, eq-eqb, ne-eqb, leb-true}
 use Rattle.endian.specs.Lists.{any, select}
 use Rattle.endian.proofs.Booleans.{and-out, or-cases, or-left, or-right}
 use Rattle.graph.specs.Graph.{Graph, sink, ArcPath, arrived, along, isNode, pathLetters}
-use Rattle.graph.proofs.Sound.{Sound}
+use Rattle.graph.proofs.Sound.{Sound, is-node, sink-no-node}
 use Rattle.checking.specs.Pairs.{alike, commonWithin, common, meets}
 use Rattle.checking.proofs.Members.{same-test, anyPair, pair-out, pair-in, pair-swap}
 use Rattle.checking.proofs.Reached.{path-down}
@@ -30,17 +30,9 @@ common-turn c = record { p = c .q; q = c .p; p-path = c .q-path; q-path = c .p-p
 module _ (g : Graph) where
   -- ---- letters of vertices
 
-  node : {u : ℕ} → 0 < u → u < sink g → isNode g u ≡ true
-  unfolding isNode sink
-  node {u} h k = rw (lt-ltb 0 u h, le-leb u (g .nodes) (omega arith))
-
   node-below : (u : ℕ) → isNode g u ≡ true → u < sink g
   unfolding isNode sink
   node-below u h = omega (arith, leb-true u (g .nodes) (and-out (ltb 0 u) (leb u (g .nodes)) h .1))
-
-  sink-none : isNode g (sink g) ≡ false
-  unfolding isNode sink
-  sink-none = rw (lt-ltb 0 (sink g) (omega arith), lt-leb (sink g) (g .nodes) (omega arith))
 
   pub letters-cons : (u : ℕ) (p : List ℕ) → pathLetters g (u ∷ p) ≡ pathLetters g (u ∷ []) ++ pathLetters g p
   unfolding pathLetters select
@@ -52,7 +44,7 @@ module _ (g : Graph) where
 
   letters-node : {u : ℕ} (p : List ℕ) → 0 < u → u < sink g → pathLetters g (u ∷ p) ≡ g .letter u ∷ pathLetters g p
   unfolding pathLetters select
-  letters-node p h k = rw (node h k)
+  letters-node p h k = rw (is-node g h k)
 
   letters-split : {u v : ℕ} (p q : List ℕ) → 0 < u → u < sink g → 0 < v → v < sink g → pathLetters g (u ∷ p) ≡ pathLetters g (v ∷ q)
       → (g .letter u ≡ g .letter v) × (pathLetters g p ≡ pathLetters g q)
@@ -62,7 +54,7 @@ module _ (g : Graph) where
   not-ended : {u v : ℕ} (q : List ℕ) → u ≡ sink g → 0 < v → v < sink g → pathLetters g (u ∷ []) ≡ pathLetters g (v ∷ q) → ⊥
   unfolding pathLetters select
   not-ended {u} {v} q e h k l =
-      let f : [] ≡ g .letter v ∷ pathLetters g q = rw (e, sink-none) at l ∙ letters-node q h k in
+      let f : [] ≡ g .letter v ∷ pathLetters g q = rw (e, sink-no-node g) at l ∙ letters-node q h k in
       let z : _≡_ {A = ℕ} 0 1 = cc in
       omega arith
 
@@ -128,7 +120,7 @@ module _ {g : Graph} (ok : Sound g) where
       let o = ok .rises b j in
       let f = letters-split g (s ∷ p) (t ∷ q) hu a hv b l in
       or-right (eqb u v) (alike g u v && successorsMeet g d u v)
-      (rw (node g hu a, node g hv b, eq-eqb (g .letter u) (g .letter v) (f .0))
+      (rw (is-node g hu a, is-node g hv b, eq-eqb (g .letter u) (g .letter v) (f .0))
       (pair-in (commonWithin g d) i j (within-in d (omega arith) (omega arith) (omega arith) x y (f .1))))
 
   -- ---- the test with arcs enough
@@ -157,10 +149,10 @@ module _ {g : Graph} (ok : Sound g) where
   unfolding common commonWithin alike meets
   common-below {u} {v} hu hv ku kv n =
       common-more hu hv (omega arith) (omega arith)
-      ∙ rw (ne-eqb u v n, node g hu ku, node g hv kv, pair-swap (common g) (g .successors u) (g .successors v))
+      ∙ rw (ne-eqb u v n, is-node g hu ku, is-node g hv kv, pair-swap (common g) (g .successors u) (g .successors v))
 
   pub common-sink : {u : ℕ} → 0 < u → u < sink g → common g u (sink g) ≡ false
   unfolding commonWithin alike
   common-sink {u} h k =
       common-more h (omega arith) (omega arith) (omega arith)
-      ∙ rw (ne-eqb u (sink g) (omega arith), node g h k, sink-none g)
+      ∙ rw (ne-eqb u (sink g) (omega arith), is-node g h k, sink-no-node g)

@@ -38,35 +38,34 @@ unfolding placeCount
 places-start v x = record { left = nodeCount x; size = omega arith; first = omega arith; few = omega arith; total = rw zero-add }
 
 -- the bytes that are read for a node
-pub record NodeRead (v x : List ℕ) (count node : ℕ) : Type 0 where
+pub record NodeRead (v x : List ℕ) (node : ℕ) : Type 0 where
   pub node-there : 1 + node < length x
   pub states-there : 2 + 2 * getD x (1 + node) 0 < length v
   pub few : getD v (2 + 2 * getD x (1 + node) 0) 0 ≤ 4
-  pub after : PlacesLeft v x (count + getD v (2 + 2 * getD x (1 + node) 0) 0) (node + 1)
 
-pub node-read : {v x : List ℕ} {count node : ℕ} → Images v x → PlacesLeft v x count node → node ≤ nodeCount x → NodeRead v x count node
+pub node-read : {v x : List ℕ} {node : ℕ} → Images v x → 1 ≤ node → node ≤ nodeCount x → NodeRead v x node
+unfolding nodeLetter states
+node-read {v} {x} {node} i l h =
+    let known = letter-known (letterCount v) x (i .lexicon) node l h in
+    record {
+      node-there = omega (arith, nodes-there (well-formed i));
+      states-there = states-there v (i .voice) known;
+      few = states-range v (i .voice) known .1;
+    }
+
+pub places-next : {v x : List ℕ} {count node : ℕ} → Images v x → PlacesLeft v x count node → node ≤ nodeCount x
+    → PlacesLeft v x (count + getD v (2 + 2 * getD x (1 + node) 0) 0) (node + 1)
 unfolding nodeLetter states from sum
-node-read {v} {x} {count} {node} i p h = record {
-  node-there = omega (arith, nodes-there (well-formed i));
-  states-there = states-there v (i .voice) known;
-  few = few;
-  after = after (p .left) (p .size) (p .total);
-}
+places-next {v} {x} {count} {node} i p h = go (p .left) (p .size) (p .total)
   where
-    known : nodeLetter x node < letterCount v
-    known = letter-known (letterCount v) x (i .lexicon) node (p .first) h
-
-    few : states v (nodeLetter x node) ≤ 4
-    few = states-range v (i .voice) known .1
-
-    after : (left : ℕ) → node + left ≡ suc (nodeCount x) → count + sum (map (λ n. states v (nodeLetter x n)) (from node left)) ≡ placeCount v (graphOf x)
+    go : (left : ℕ) → node + left ≡ suc (nodeCount x) → count + sum (map (λ n. states v (nodeLetter x n)) (from node left)) ≡ placeCount v (graphOf x)
         → PlacesLeft v x (count + states v (nodeLetter x node)) (node + 1)
-    after zero e t = absurd (omega arith)
-    after (suc left) e t = rw add-one (record {
+    go zero e t = absurd (omega arith)
+    go (suc left) e t = rw add-one (record {
       left = left;
       size = omega arith;
       first = omega arith;
-      few = omega (arith, p .few, few);
+      few = omega (arith, p .few, node-read i (p .first) h .few);
       total = add-assoc count _ _ ∙ t;
     })
 

@@ -3,7 +3,7 @@
 use mathlib.Core.Path.{_≡_, refl, sym, ap, _∙_}
 use mathlib.Core.Bool.{Bool, true, false, cond}
 use mathlib.Core.List.{List}
-use Prim.Native.Nat.{ℕ, zero, suc, _+_, _*_, _≤_, _<_}
+use Prim.Native.Nat.{ℕ, suc, _≤_, _<_}
 use native.Mathlib.Omega.{arith}
 use native.Mathlib.Decide.{ℕ-discrete}
 use lib.ListN.{length, getD, set, replicate, length-set}
@@ -11,25 +11,20 @@ use lib.Seq.{getD-set-same, getD-set-other}
 use lib.Dec.{ltb}
 use borrow.Author.Tests.{ltb-true, ltb-false}
 use Rattle.endian.specs.Bytes.{u16}
+use Rattle.endian.proofs.Lists.{getD-copies}
 use Rattle.lexicon.specs.Lexicon.{nodeCount, sinkOf, arcsAt}
 use Rattle.lexicon.proofs.Shape.{arcs-next}
 use Rattle.checking.specs.Tables.{TableOf, WellFormed, Listed}
 use Rattle.checking.specs.Filling.{FilledFrom, AtVertex}
-use Rattle.checking.proofs.Tables.{entry}
-use Rattle.checking.proofs.Arcs.{shape-of, arcs-start, ArcNext}
-
-zeros : (n u : ℕ) → _≡_ {A = ℕ} (getD (replicate n 0) u 0) 0
-zeros zero u = refl
-zeros (suc n) zero = refl
-zeros (suc n) (suc u) = zeros n u
+use Rattle.checking.proofs.Arcs.{shape-of, ArcNext, ListThere, has-entry, list-entry, list-at}
 
 -- the blank table is filled from n on and below n
 pub filled-none : (n : ℕ) (f : ℕ → ℕ) → FilledFrom n n f (replicate 402 0)
 filled-none n f = record {
   long = refl;
-  empty = λ u h. zeros 402 u;
+  empty = λ u h. getD-copies 402 u 0;
   filled = λ u h k. absurd (omega arith);
-  beyond = λ u h. zeros 402 u;
+  beyond = λ u h. getD-copies 402 u 0;
 }
 
 module _ {k n : ℕ} {f : ℕ → ℕ} {table : List ℕ} (t : FilledFrom k n f table) {j : ℕ} (next : suc j ≡ k) where
@@ -72,20 +67,18 @@ module _ {f : ℕ → ℕ} {x lists table : List ℕ} {u : ℕ} (v : AtVertex f 
   vertex-small = omega (arith, v .vertex, shape-of (v .listed .well-formed) .few)
 
   -- where its list begins
-  pub list-at : getD lists u 0 ≡ arcsAt x u
-  unfolding sinkOf
-  list-at = entry (v .listed .table) (omega (arith, v .vertex))
+  pub list-begins : getD lists u 0 ≡ arcsAt x u
+  list-begins = list-entry (v .listed) (v .vertex)
 
-  pub list-there : getD lists u 0 + 2 + 2 * u16 x (getD lists u 0) ≤ length x
-  list-there = arcs-start (v .listed .well-formed) (v .vertex) list-at .there
+  pub list-ends : ListThere x (getD lists u 0)
+  list-ends = list-at (v .listed) (v .vertex)
 
   -- the entry of a successor
   pub entry-above : {at stop s : ℕ} {left : List ℕ} → ArcNext x u at stop left → s ≡ u16 x at → getD table s 0 ≡ f (u16 x at)
   entry-above n e = rw e (v .above .filled _ (omega (arith, n .rises)) (omega (arith, n .bounded)))
 
   pub successor-small : {at stop s : ℕ} {left : List ℕ} → ArcNext x u at stop left → s ≡ u16 x at → s < 402
-  unfolding sinkOf
-  successor-small n e = omega (arith, n .bounded, shape-of (v .listed .well-formed) .few)
+  successor-small n e = rw e (has-entry (v .listed .well-formed) (n .bounded))
 
 -- ---- vertex by vertex
 

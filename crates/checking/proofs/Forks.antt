@@ -12,12 +12,13 @@ use lib.Seq.{append-snoc}
 use Rattle.endian.specs.Lists.{from}
 use Rattle.endian.proofs.Booleans.{or-cases, or-left, or-right}
 use Rattle.endian.proofs.Lists.{from-in, from-out}
+use Rattle.endian.proofs.Search.{any-out, any-in}
 use Rattle.graph.specs.Graph.{Graph, sink, ArcPath, arrived, along, FullPath, from-root, pathLetters}
 use Rattle.graph.specs.Conditions.{orphan, sameLetters}
 use Rattle.graph.proofs.Sound.{Sound}
 use Rattle.graph.proofs.Paths.{SameLetters, full-paths, same-letters}
 use Rattle.checking.specs.Pairs.{common, meets, clashAfter, clashAt, clash}
-use Rattle.checking.proofs.Members.{same-test, any-out, any-in}
+use Rattle.checking.proofs.Members.{same-test}
 use Rattle.checking.proofs.Reached.{HandedUp, climb}
 use Rattle.checking.proofs.Common.{Common, letters-cons, common-turn, common-up, common-out, common-in}
 

@@ -1,20 +1,18 @@
 -- The rows 1 to 10 as they are judged, one group after the other, and what an accepted lexicon leaves in the tables. Assumes nothing.
 use mathlib.Core.Path.{_≡_, refl, sym, ap, _∙_}
 use mathlib.Core.Bool.{Bool, true, false, cond}
-use mathlib.Core.List.{List, _++_, List·Memᴰ·head}
-use Prim.Native.Nat.{ℕ, zero, suc, _+_, _-_, min, _≤_, _<_}
+use mathlib.Core.List.{List, List·Memᴰ·head}
+use Prim.Native.Nat.{ℕ, suc, min, _≤_, _<_}
 use native.Mathlib.Nat.{min-le-left, le-min, min-eq-left}
 use native.Mathlib.Omega.{arith}
-use lib.ListN.{length, getD, drop, replicate, length-append, length-drop, length-replicate}
-use lib.Seq.{drop-append-add, drop-drop}
+use lib.ListN.{length, getD, replicate}
 use lib.Dec.{ltb}
 use borrow.Author.Tests.{lt-ltb, le-ltb, ltb-true, ltb-false}
 use Rattle.call.specs.declared.Refusal.{Refusal}
 use Rattle.call.specs.declared.Refusal.the-variants.{WorkSpace, VoiceLength, VoiceRange, LexiconLength, LexiconRange}
 use Rattle.call.specs.Table.{Answer, value, refused, Row, unless}
 use Rattle.call.specs.Limits.{mostWords, workSpace}
-use Rattle.call.specs.Buffers.{spaceRows, cleared}
-use Rattle.call.proofs.Buffers.{cleared-long, zeroed-same}
+use Rattle.call.specs.Buffers.{spaceRows}
 use Rattle.voice.specs.Fields.{wellFormed, wrongLength, outOfRange, hasWrongLength, isOutOfRange}
 use Rattle.voice.specs.Voice.{letterCount, voiceFields, voiceVerdict, voiceRows}
 use Rattle.voice.proofs.Fields.{well-formed-says}
@@ -24,7 +22,7 @@ use Rattle.graph.specs.Conditions.{orphan, manyWords}
 use Rattle.graph.specs.Checking.{lexiconRows, imageRows, firstRows, checkAnswer}
 use Rattle.checking.specs.Tables.{TableOf, filled, Opened, WellFormed, cappedCount}
 use Rattle.checking.specs.Judging.{graphRows, Judged}
-use Rattle.checking.proofs.Tables.{entry}
+use Rattle.checking.proofs.Tables.{entry, table-start}
 use Rattle.checking.proofs.Arcs.{sound-of}
 use Rattle.checking.proofs.Reached.{count-within-words}
 
@@ -87,18 +85,6 @@ pub long-answer : (v x work : List ℕ) → workSpace ≤ length work → checkA
 unfolding checkAnswer firstRows spaceRows unless
 long-answer v x work h = rw (le-ltb (length work) workSpace h)
 
-drop-part : {n m : ℕ} (part work : List ℕ) → length part ≡ n → n ≤ m → drop m (part ++ drop n work) ≡ drop m work
-drop-part {n} {m} part work e h =
-    let k : length part + (m - n) ≡ m = omega arith in
-    let l : n + (m - n) ≡ m = omega arith in
-    ap (λ (j : ℕ). drop j (part ++ drop n work)) (sym k) ∙ drop-append-add part (drop n work) (m - n) ∙ drop-drop (m - n) n work ∙ ap (λ (j : ℕ). drop j work) l
-
--- the first n work bytes lent on, and all of them cleared: what the part held is gone
-pub part-cleared : {n : ℕ} (part work : List ℕ) → length part ≡ n → n ≤ workSpace → workSpace ≤ length work → cleared (part ++ drop n work) ≡ cleared work
-part-cleared {n} part work e h k =
-    let long : length (part ++ drop n work) ≡ length work = length-append part (drop n work) ∙ rw length-drop (omega arith) in
-    cleared-long (part ++ drop n work) (omega arith) ∙ zeroed-same workSpace _ work (drop-part part work e h) ∙ sym (cleared-long work k)
-
 -- ---- path counts, which stop one above the limit
 
 capped-many : (M W : ℕ) → ltb M (min W (suc M)) ≡ ltb M W
@@ -149,17 +135,6 @@ module _ (x : List ℕ) {counts : List ℕ} (t : TableOf (suc (sinkOf x)) (cappe
 
 -- ---- after a refusal the tables are blank
 
-zeros : (n u : ℕ) → _≡_ {A = ℕ} (getD (replicate n 0) u 0) 0
-zeros zero u = refl
-zeros (suc n) zero = refl
-zeros (suc n) (suc u) = zeros n u
-
-nothing-at : {n : ℕ} {table : List ℕ} → table ≡ replicate n 0 → (length table ≡ n) × ((u : ℕ) → getD table u 0 ≡ 0)
-nothing-at {n} e = (ap length e ∙ length-replicate n 0, λ u. ap (λ (t : List ℕ). getD t u 0) e ∙ zeros n u)
-
-pub blank-table : {f : ℕ → ℕ} {table : List ℕ} → table ≡ replicate 402 0 → TableOf 0 f table
-blank-table e = let b = nothing-at e in record { long = b .0; holds = λ u. b .1 u ∙ sym (rw (le-ltb u 0 (omega arith))) }
-
 pub opened-refused : {answer : Answer ℕ} {r : Refusal} {x lists counts : List ℕ} → answer ≡ refused r → lists ≡ replicate 402 0 → counts ≡ replicate 402 0 → Opened answer x lists counts
 unfolding filled
-opened-refused q e f = rw q (record { listed = blank-table e; counted = blank-table f })
+opened-refused q e f = rw (q, e, f) (record { listed = table-start _; counted = table-start _ })

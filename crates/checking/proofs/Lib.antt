@@ -1,5 +1,6 @@
 pub mod Tables
 pub mod Arcs
+pub mod Increments
 pub mod Members
 pub mod Reached
 pub mod Judging
@@ -11,7 +12,6 @@ pub mod Capped
 pub mod Longest
 pub mod Common
 pub mod Forks
-pub mod Booleans
 pub mod Bits
 pub mod Masks
 pub mod PairTable

@@ -5,17 +5,17 @@ use mathlib.Core.Bool.{Bool, true, false, cond, _||_}
 use mathlib.Core.List.{List, [], _∷_, _++_, map, flatMap, map-map, map-append, List·Memᴰ, List·Memᴰ·head, List·Memᴰ·tail}
 use Prim.Native.Nat.{ℕ, zero, suc, _+_, _*_, max, _≤_, _<_}
 use native.Mathlib.Omega.{arith}
-use lib.ListN.{length, length-map, length-append}
+use lib.ListN.{length, length-map}
 use lib.Dec.{eqb, ltb}
-use borrow.Author.Tests.{eqb-true, eq-eqb, ne-eqb, ltb-true, ltb-false, lt-ltb, le-ltb, le-leb, lt-leb}
+use borrow.Author.Tests.{eqb-true, ltb-true, ltb-false, lt-ltb, le-ltb}
 use Rattle.endian.specs.Bytes.{u16}
 use Rattle.endian.specs.Lists.{any, select}
-use Rattle.endian.proofs.Booleans.{cond-else}
-use Rattle.endian.proofs.Lists.{map-cong, flatMap-cong}
+use Rattle.endian.proofs.Lists.{map-cong, place}
 use Rattle.lexicon.specs.Lexicon.{nodeCount, sinkOf, arcsAt}
 use Rattle.graph.specs.Graph.{Graph, graphOf, sink, ways, fullPaths, isNode, pathLetters}
 use Rattle.graph.specs.Conditions.{longWord, hasLongWord}
-use Rattle.graph.proofs.Sound.{Sound, below-sink}
+use Rattle.graph.proofs.Sound.{Sound, below-sink, is-node, sink-no-node}
+use Rattle.graph.proofs.Ways.{ways-sink, ways-below, some-way}
 use Rattle.checking.specs.Tables.{WellFormed}
 use Rattle.checking.specs.Longest.{greatest, height, heightAbove}
 use Rattle.checking.proofs.Arcs.{shape-of, sound-of, ArcsLeft, arcs-start, ArcNext, arcs-done}
@@ -60,11 +60,6 @@ any-greatest f k (a ∷ l) = ap (λ b. ltb k (f a) || b) (any-greatest f k l) �
         let j = ltb-false k (greatest (map f l)) e in
         sym (le-ltb k _ (omega arith))
 
-some-flatMap : {A B : Type 0} (f : A → List B) (l : List A) → 1 ≤ length l → ((a : A) → List·Memᴰ a l → 1 ≤ length (f a)) → 1 ≤ length (flatMap f l)
-unfolding flatMap
-some-flatMap f [] h k = absurd (omega arith)
-some-flatMap f (a ∷ l) h k = omega (arith, length-append (f a) (flatMap f l), k a (List·Memᴰ·head refl))
-
 -- ---- letters
 
 -- 1 at a node, 0 at the root and the sink
@@ -83,14 +78,6 @@ letter-root : (g : Graph) → ownLetters g 0 ≡ 0
 unfolding isNode
 letter-root g = refl
 
-letter-node : (g : Graph) {u : ℕ} → 1 ≤ u → u ≤ g .nodes → ownLetters g u ≡ 1
-unfolding isNode
-letter-node g {u} h k = rw (lt-ltb 0 u h, le-leb u (g .nodes) k)
-
-letter-sink : (g : Graph) → ownLetters g (sink g) ≡ 0
-unfolding isNode sink
-letter-sink g = rw (lt-ltb 0 (suc (g .nodes)) (omega arith), lt-leb (suc (g .nodes)) (g .nodes) (omega arith))
-
 letter-most : (g : Graph) (u : ℕ) → ownLetters g u ≤ 1
 letter-most g u = go (isNode g u)
   where
@@ -101,56 +88,23 @@ letter-most g u = go (isNode g u)
 -- ---- heights
 
 module _ {g : Graph} (ok : Sound g) where
-  -- a greater allowance of arcs changes nothing
-  enough : (d e u : ℕ) → u ≤ sink g → sink g ≤ u + d → sink g ≤ u + e → ways g d u ≡ ways g e u
-  unfolding ways
-  enough zero zero u h k l = refl
-  enough zero (suc e) u h k l = rw (eq-eqb u (sink g) (omega arith))
-  enough (suc d) zero u h k l = rw (eq-eqb u (sink g) (omega arith))
-  enough (suc d) (suc e) u h k l =
-      cond-else (eqb u (sink g)) ([] ∷ [])
-      (λ q. let below = below-sink g h q in
-      flatMap-cong _ _ (g .successors u)
-      (λ s m. let r = ok .rises below m in ap (map (λ p. s ∷ p)) (enough d e s (r .1) (omega arith) (omega arith))))
-
-  ways-sink : ways g (sink g) (sink g) ≡ [] ∷ []
-  unfolding ways
-  ways-sink = enough (sink g) zero (sink g) (omega arith) (omega arith) (omega arith) ∙ rw (eq-eqb (sink g) (sink g) refl)
-
-  ways-below : {u : ℕ} → u < sink g → ways g (sink g) u ≡ flatMap (λ s. map (λ p. s ∷ p) (ways g (sink g) s)) (g .successors u)
-  unfolding ways
-  ways-below {u} h = enough (sink g) (suc (sink g)) u (omega arith) (omega arith) (omega arith) ∙ rw (ne-eqb u (sink g) (omega arith))
-
-  -- every vertex leads to the sink
-  some-way : (d u : ℕ) → u ≤ sink g → sink g ≤ u + d → 1 ≤ length (ways g (sink g) u)
-  some-way zero u h k = let e : u ≡ sink g = omega arith in rw (e, ways-sink) (omega arith)
-  some-way (suc d) u h k = go (eqb u (sink g)) refl (some-way d)
-    where
-      go : (b : Bool) → eqb u (sink g) ≡ b → ((s : ℕ) → s ≤ sink g → sink g ≤ s + d → 1 ≤ length (ways g (sink g) s)) → 1 ≤ length (ways g (sink g) u)
-      go true q ih = rw (eqb-true u (sink g) q, ways-sink) (omega arith)
-      go false q ih =
-          let below = below-sink g h q in
-          rw (ways-below below)
-          (some-flatMap _ (g .successors u) (ok .onward below)
-          (λ s m. let r = ok .rises below m in rw (length-map (ways g (sink g) s) (λ p. s ∷ p)) (ih s (r .1) (omega arith))))
-
   abbrev letters : List ℕ → ℕ
   letters p = length (pathLetters g p)
 
   pub height-sink : height g (sink g) ≡ 0
   unfolding height greatest pathLetters select
-  height-sink = rw (ways-sink, letters-cons g (sink g) [], letter-sink g)
+  height-sink = rw (ways-sink ok, letters-cons g (sink g) [], sink-no-node g)
 
   height-below : {u : ℕ} → u < sink g → height g u ≡ ownLetters g u + heightAbove g u
   unfolding height heightAbove
   height-below {u} h =
       ap greatest (map-cong _ _ (ways g (sink g) u) (λ p m. letters-cons g u p) ∙ sym (map-map (λ a. ownLetters g u + a) letters (ways g (sink g) u)))
-      ∙ greatest-add (ownLetters g u) (map letters (ways g (sink g) u)) (omega (arith, length-map (ways g (sink g) u) letters, some-way (sink g) u (omega arith) (omega arith)))
+      ∙ greatest-add (ownLetters g u) (map letters (ways g (sink g) u)) (omega (arith, length-map (ways g (sink g) u) letters, place [] (some-way ok {u = u} (omega arith) .1) .inside))
       ∙ ap (λ (n : ℕ). ownLetters g u + n) by-successor
     where
       by-successor : greatest (map letters (ways g (sink g) u)) ≡ greatest (map (height g) (g .successors u))
       by-successor =
-          ap (λ (l : List (List ℕ)). greatest (map letters l)) (ways-below h)
+          ap (λ (l : List (List ℕ)). greatest (map letters l)) (ways-below ok h)
           ∙ greatest-flatMap letters (λ s. map (λ p. s ∷ p) (ways g (sink g) s)) (g .successors u)
           ∙ ap greatest (map-cong _ _ (g .successors u) (λ s m. ap greatest (map-map letters (λ p. s ∷ p) (ways g (sink g) s))))
 
@@ -160,7 +114,7 @@ module _ {g : Graph} (ok : Sound g) where
 
   pub height-node : {u : ℕ} → 1 ≤ u → u ≤ g .nodes → height g u ≡ suc (heightAbove g u)
   unfolding sink
-  height-node {u} h k = height-below {u = u} (omega arith) ∙ rw (letter-node g h k) (omega arith)
+  height-node {u} h k = height-below {u = u} (omega arith) ∙ rw (is-node g h (omega arith)) (omega arith)
 
   -- a way of d arcs has at most as many letters
   height-most : (d u : ℕ) → u ≤ sink g → sink g ≤ u + d → height g u ≤ d

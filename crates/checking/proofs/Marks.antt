@@ -1,9 +1,9 @@
 -- Marks: after every list a vertex has a mark exactly where a list names it, so that an orphan is a node without one. Assumes nothing.
 use mathlib.Core.Path.{_≡_, refl, sym, ap, _∙_}
-use mathlib.Core.Bool.{Bool, true, false, not, _||_, or-false, or-true, or-assoc}
-use mathlib.Core.List.{List, [], _∷_}
+use mathlib.Core.Bool.{Bool, true, false, not, _||_, or-false, or-true}
+use mathlib.Core.List.{List}
 use Prim.Native.Nat.{ℕ, zero, suc, _+_, _*_, _≤_, _<_}
-use native.Mathlib.Nat.{zero-add, add-zero, suc-add, add-suc}
+use native.Mathlib.Nat.{zero-add}
 use native.Mathlib.Omega.{arith}
 use native.Mathlib.Numerals.{add-one}
 use native.Mathlib.Decide.{ℕ-discrete}
@@ -13,24 +13,14 @@ use lib.Dec.{eqb}
 use borrow.Author.Tests.{eq-eqb, ne-eqb}
 use Rattle.endian.specs.Lists.{from, has, any}
 use Rattle.endian.specs.Bytes.{u16}
+use Rattle.endian.proofs.Lists.{getD-copies}
+use Rattle.endian.proofs.Search.{any-same, any-last}
 use Rattle.lexicon.specs.Lexicon.{nodeCount, sinkOf, arcsAt, successors}
 use Rattle.graph.specs.Graph.{graphOf, sink}
 use Rattle.graph.specs.Conditions.{orphan}
 use Rattle.checking.specs.Tables.{WellFormed}
 use Rattle.checking.specs.Marks.{named, Marked, unmarked}
 use Rattle.checking.proofs.Arcs.{shape-of, ArcsLeft, ArcNext, arcs-start, arc-next, arcs-done}
-
--- ---- a test of some element of a run of numbers
-
-any-last : (p : ℕ → Bool) (a n : ℕ) → any p (from a (suc n)) ≡ any p (from a n) || p (a + n)
-unfolding any from
-any-last p a zero = rw (add-zero, or-false)
-any-last p a (suc n) = rw (any-last p (suc a) n, suc-add, add-suc, or-assoc)
-
-any-cong : (p q : ℕ → Bool) → ((a : ℕ) → p a ≡ q a) → (l : List ℕ) → any p l ≡ any q l
-unfolding any
-any-cong p q h [] = refl
-any-cong p q h (a ∷ l) = rw (h a, any-cong p q h l)
 
 -- ---- marking
 
@@ -41,12 +31,7 @@ named-next x u s = any-last (λ v. has s (successors x v)) 0 u ∙ rw zero-add
 -- without marks, no list is read yet
 pub marked-none : (x : List ℕ) → Marked x 0 (replicate 402 false)
 unfolding named any from
-marked-none x = record { long = refl; marked = none 402 }
-  where
-    none : (n s : ℕ) → getD (replicate n false) s false ≡ false
-    none zero s = refl
-    none (suc n) zero = refl
-    none (suc n) (suc s) = none n s
+marked-none x = record { long = refl; marked = λ s. getD-copies 402 s false }
 
 -- before the last arcs of u's list
 pub record MarksLeft (x : List ℕ) (u at stop : ℕ) (marks : List Bool) : Type 0 where
@@ -110,7 +95,7 @@ module _ {x : List ℕ} {u at stop : ℕ} {marks : List Bool} (m : MarksLeft x u
 
 pub unmarked-orphan : {x : List ℕ} {marks : List Bool} → Marked x (sinkOf x) marks → unmarked marks (nodeCount x) ≡ orphan (graphOf x)
 unfolding unmarked orphan named sinkOf sink
-unmarked-orphan {x} m = any-cong _ _ (λ s. ap not (m .marked s)) (from 1 (nodeCount x))
+unmarked-orphan {x} m = any-same _ _ (from 1 (nodeCount x)) (λ s i. ap not (m .marked s))
 
 -- the nodes from this one on decide
 pub record NodesLeft (marks : List Bool) (nodes node : ℕ) : Type 0 where

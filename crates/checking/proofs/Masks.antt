@@ -1,7 +1,7 @@
 -- The mask of a vertex, gathered from the rows of its successors, and the search of a list for a member of a mask. Assumes nothing.
 use Prim.Native.Nat.{ℕ, suc, _+_, _*_, _≤_, _<_, min}
 use mathlib.Core.Path.{_≡_, refl, sym, ap, _∙_}
-use mathlib.Core.Bool.{Bool, true, false, _||_, true≢false}
+use mathlib.Core.Bool.{Bool, true, false, _||_, or-false, or-assoc, or-comm, true≢false}
 use mathlib.Core.List.{List, [], _∷_}
 use native.Mathlib.Omega.{arith}
 use lib.ListN.{length, getD, replicate, length-replicate}
@@ -15,8 +15,7 @@ use Rattle.checking.specs.Bits.{bit, Joined}
 use Rattle.checking.specs.Pairs.{common, meets, clashAfter, clashAt}
 use Rattle.checking.specs.PairTable.{pairBit, Marked, Gathered}
 use Rattle.checking.proofs.Tables.{entry}
-use Rattle.checking.proofs.Arcs.{shape-of, ArcsLeft, arcs-start, arc-next, arcs-done}
-use Rattle.checking.proofs.Booleans.{or-false, or-swap, or-move}
+use Rattle.checking.proofs.Arcs.{shape-of, ArcsLeft, arcs-start, arc-next, arcs-done, nodes-there}
 use Rattle.checking.proofs.Bits.{bit-zero}
 
 -- ---- where the list of a vertex stands
@@ -46,11 +45,7 @@ few-vertices l = omega (arith, shape-of (l .well-formed) .few)
 
 -- the letters of the nodes stand before the lists
 pub letters-room : {x lists : List ℕ} → Listed x lists → 2 + nodeCount x ≤ length x
-unfolding arcsAt
-letters-room {x} {lists} l =
-    let r = list-room l {v = 0} (omega arith) in
-    let e : getD lists 0 0 ≡ 2 + nodeCount x = r .begins in
-    omega (arith, r .room)
+letters-room l = nodes-there (l .well-formed)
 
 -- ---- a search through the successors of a vertex
 
@@ -120,11 +115,11 @@ module _ {x : List ℕ} (w : WellFormed x) {u at : ℕ} where
             let i : 8 * (s * 51) + y ≡ s * 408 + y = omega arith in
             j .bits y (omega arith)
             ∙ rw (i, m .bits s y (n .bounded) l, le-leb (suc u) (min s y) (omega (arith, n .rises)), d .bits y k l)
-            (or-swap (meets g (d .earlier) y) (common g s y));
+            (or-comm (meets g (d .earlier) y) (common g s y));
         clashes = d .clashes ∙ ap (clashAfter g (d .earlier)) (n .split) ∙ rw (← d .bits s (n .rises) (n .bounded), e);
         together = λ y.
             d .together y ∙ ap (λ (l : List ℕ). meets g l y || meets g (d .earlier) y) (n .split)
-            ∙ or-move (common g s y) (meets g (n .others) y) (meets g (d .earlier) y);
+            ∙ rw (or-comm (common g s y) (meets g (n .others) y)) (or-assoc (meets g (n .others) y) (common g s y) (meets g (d .earlier) y));
       }
 
   pub gather-found : {stop : ℕ} {mask after : List ℕ} {s : ℕ} → Gathering x u at stop mask → at < stop → s ≡ u16 x at → bit mask s ≡ true

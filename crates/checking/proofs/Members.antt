@@ -1,44 +1,16 @@
--- What the tests on lists say of members, that tests which follow from each other are equal, and that a member is at most the sum.
--- Assumes nothing.
+-- Tests which follow from each other are equal, a member is at most the sum, and what the test of some pair says of members. Assumes nothing.
 use mathlib.Core.Path.{_≡_, refl}
-use mathlib.Core.Logic.{_⊎_, inl, inr}
-use mathlib.Core.Bool.{Bool, true, false, false≢true}
-use mathlib.Core.List.{List, [], _∷_, map, List·Memᴰ, List·Memᴰ·head as here, List·Memᴰ·tail as there}
+use mathlib.Core.Bool.{Bool, true, false}
+use mathlib.Core.List.{List, map, List·Memᴰ, List·Memᴰ·head as here, List·Memᴰ·tail as there}
 use Prim.Native.Nat.{ℕ, _≤_}
 use native.Mathlib.Omega.{arith}
 use Rattle.endian.specs.Lists.{any, sum}
-use Rattle.endian.proofs.Booleans.{or-cases, or-left, or-right, or-none}
+use Rattle.endian.proofs.Search.{any-out, any-in}
 
 pub same-test : (a b : Bool) → (a ≡ true → b ≡ true) → (b ≡ true → a ≡ true) → a ≡ b
 same-test true b f g = rw (f refl)
 same-test false true f g = g refl
 same-test false false f g = refl
-
-module _ {A : Type 0} where
-  -- a member of the list that passes the test
-  pub record Passing (p : A → Bool) (l : List A) : Type 0 where
-    pub one : A
-    pub member : List·Memᴰ one l
-    pub passes : p one ≡ true
-
-  pub any-out : (p : A → Bool) (l : List A) → any p l ≡ true → Passing p l
-  unfolding any
-  any-out p [] h = absurd (false≢true h)
-  any-out p (a ∷ l) h = go (or-cases (p a) (any p l) h) (any-out p l)
-    where
-      go : (p a ≡ true) ⊎ (any p l ≡ true) → (any p l ≡ true → Passing p l) → Passing p (a ∷ l)
-      go (inl e) ih = record { one = a; member = here refl; passes = e }
-      go (inr e) ih = let r = ih e in record { one = r .one; member = there (r .member); passes = r .passes }
-
-  pub any-in : (p : A → Bool) {a : A} {l : List A} → List·Memᴰ a l → p a ≡ true → any p l ≡ true
-  unfolding any
-  any-in p (here {x} {xs} e) h = or-left (p x) (any p xs) (rw e at h)
-  any-in p (there {x} {xs} m) h = or-right (p x) (any p xs) (any-in p m h)
-
-  pub any-none : (p : A → Bool) {a : A} {l : List A} → any p l ≡ false → List·Memᴰ a l → p a ≡ false
-  unfolding any
-  any-none p h (here {x} {xs} e) = rw e (or-none (p x) (any p xs) h .0)
-  any-none p h (there {x} {xs} m) = any-none p (or-none (p x) (any p xs) h .1) m
 
 pub member-of-sum : {A : Type 0} (f : A → ℕ) {a : A} {l : List A} → List·Memᴰ a l → f a ≤ sum (map f l)
 unfolding sum

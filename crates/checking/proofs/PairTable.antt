@@ -1,7 +1,7 @@
 -- The table of pairs, filled from the last vertex down: how the row of a vertex is marked by its mask. Assumes nothing.
 use Prim.Native.Nat.{ℕ, suc, _+_, _-_, _*_, _≤_, _<_, min, max}
 use mathlib.Core.Path.{_≡_, refl, sym, ap, _∙_}
-use mathlib.Core.Bool.{Bool, true, false, _&&_, _||_}
+use mathlib.Core.Bool.{Bool, true, false, _&&_, _||_, and-false, or-false}
 use mathlib.Core.List.{List}
 use native.Mathlib.Decide.{ℕ-discrete}
 use native.Mathlib.Omega.{arith}
@@ -11,6 +11,7 @@ use borrow.Author.Tests.{eq-eqb, ne-eqb, lt-ltb, le-ltb, le-leb, lt-leb}
 use Rattle.endian.specs.Lists.{any, from}
 use Rattle.endian.proofs.Booleans.{or-right}
 use Rattle.call.specs.Buffers.{zeroed}
+use Rattle.endian.proofs.Search.{any-same, any-last}
 use Rattle.lexicon.specs.Lexicon.{nodeCount}
 use Rattle.graph.specs.Graph.{Graph, graphOf, sink}
 use Rattle.graph.proofs.Sound.{Sound}
@@ -18,9 +19,8 @@ use Rattle.checking.specs.Tables.{Listed}
 use Rattle.checking.specs.Bits.{bit, BitSet}
 use Rattle.checking.specs.Pairs.{common, meets, clashAt, clash}
 use Rattle.checking.specs.PairTable.{pairBit, Marked, MaskOf, Gathered, maskTells, PairSet, RowDone}
-use Rattle.checking.proofs.Booleans.{or-false, and-false, below-next, any-same, any-last}
 use Rattle.checking.proofs.Common.{common-self, common-sym, common-below, common-sink}
-use Rattle.checking.proofs.Bits.{bit-zeroed}
+use Rattle.checking.proofs.Bits.{below-next, bit-zeroed}
 use Rattle.checking.proofs.Masks.{few-vertices}
 
 -- ---- the row of a vertex

@@ -2,20 +2,22 @@
 -- those that lead to it comes to the root, and no path count is above W. Assumes nothing.
 use mathlib.Core.Path.{_≡_}
 use mathlib.Core.Bool.{false}
-use mathlib.Core.List.{List, [], List·Memᴰ, Memᴰ·cast}
-use Prim.Native.Nat.{ℕ, zero, suc, _+_, _≤_, _<_}
+use mathlib.Core.List.{List, List·Memᴰ, Memᴰ·cast}
+use Prim.Native.Nat.{ℕ, zero, suc, _≤_, _<_}
 use native.Mathlib.Omega.{arith}
 use native.Mathlib.Decide.{ℕ-discrete}
 use lib.ListN.{getD}
 use borrow.Author.Tests.{not-false}
 use Rattle.endian.specs.Lists.{from, has}
 use Rattle.endian.proofs.Lists.{mem-getD, from-in, from-out}
-use Rattle.endian.proofs.Search.{has-mem}
-use Rattle.graph.specs.Graph.{Graph, sink, ArcPath, arrived, along, pathCount, wordCount}
+use Rattle.endian.proofs.Search.{has-mem, any-out, none-passes}
+use Rattle.graph.specs.Graph.{Graph, sink, ArcPath, pathCount, wordCount}
 use Rattle.graph.specs.Conditions.{orphan}
 use Rattle.graph.proofs.Sound.{Sound}
 use Rattle.graph.proofs.Codes.{pathCount-below}
-use Rattle.checking.proofs.Members.{any-out, any-none, member-of-sum}
+use Rattle.graph.proofs.Ways.{some-way}
+use Rattle.graph.proofs.Paths.{way-path}
+use Rattle.checking.proofs.Members.{member-of-sum}
 
 -- a vertex of which s is a successor
 record Parent (g : Graph) (s : ℕ) : Type 0 where
@@ -33,20 +35,8 @@ module _ {g : Graph} (ok : Sound g) where
 
   -- ---- down to the sink
 
-  path-within : (d u : ℕ) → u ≤ sink g → sink g ≤ u + d → (p : List ℕ) × ArcPath g u p
-  path-within zero u h k = let e : u ≡ sink g = omega arith in ([], arrived e)
-  path-within (suc d) u h k = elim (ℕ-discrete u (sink g)) [
-    | yes e ↦ ([], arrived e)
-    | no n ↦
-        let below : u < sink g = omega arith in
-        let m = first-successor below in
-        let r = ok .rises below m in
-        let on = path-within d (getD (g .successors u) 0 0) (r .1) (omega arith) in
-        (_, along below m (on .1))
-  ]
-
   pub path-down : {u : ℕ} → u ≤ sink g → (p : List ℕ) × ArcPath g u p
-  path-down {u} h = path-within (sink g) u h (omega arith)
+  path-down {u} h = let w = some-way ok h in (w .0, way-path ok (sink g) u (w .0) h (w .1))
 
   -- ---- up to the root
 
@@ -61,7 +51,7 @@ module _ {g : Graph} (ok : Sound g) where
           let r = ok .rises below m in
           record { vertex = g .nodes; below = below; member = Memᴰ·cast (omega arith) m }
       | no n ↦
-          let led = not-false _ (any-none _ reached (from-in 1 (g .nodes) s h (omega arith))) in
+          let led = not-false _ (none-passes _ reached (from-in 1 (g .nodes) s h (omega arith))) in
           let r = any-out (λ u. has s (g .successors u)) (from 0 (sink g)) led in
           record { vertex = r .one; below = omega (arith, from-out 0 (sink g) (r .member)); member = has-mem (g .successors (r .one)) (r .passes) }
     ]

@@ -1,15 +1,15 @@
--- Tables of one number for each vertex: what they hold, and how they are filled, from the first entry up or from the last one down.
--- Assumes nothing.
+-- Tables of one number for each vertex: what they hold, and how they are filled from the first entry up. Assumes nothing.
 use mathlib.Core.Path.{_≡_, refl, ap, _∙_}
 use mathlib.Core.Bool.{Bool, true, false, cond}
 use mathlib.Core.List.{List}
-use Prim.Native.Nat.{ℕ, zero, suc, _≤_, _<_}
+use Prim.Native.Nat.{ℕ, suc, _≤_, _<_}
 use native.Mathlib.Omega.{arith}
 use native.Mathlib.Decide.{ℕ-discrete}
 use lib.ListN.{length, getD, set, replicate, length-set}
 use lib.Seq.{getD-set-same, getD-set-other}
 use lib.Dec.{ltb}
 use borrow.Author.Tests.{lt-ltb, le-ltb, ltb-true, ltb-false}
+use Rattle.endian.proofs.Lists.{getD-copies}
 use Rattle.checking.specs.Tables.{TableOf}
 
 module _ {n : ℕ} {f : ℕ → ℕ} {table : List ℕ} (t : TableOf n f table) where
@@ -23,12 +23,7 @@ module _ {n : ℕ} {f : ℕ → ℕ} {table : List ℕ} (t : TableOf n f table) 
 
 -- of zeros, none is filled
 pub table-start : (f : ℕ → ℕ) → TableOf 0 f (replicate 402 0)
-table-start f = record { long = refl; holds = λ u. zeros 402 u ∙ rw (le-ltb u 0 (omega arith)) }
-  where
-    zeros : (n u : ℕ) → getD {A = ℕ} (replicate n 0) u 0 ≡ 0
-    zeros zero u = refl
-    zeros (suc n) zero = refl
-    zeros (suc n) (suc u) = zeros n u
+table-start f = record { long = refl; holds = λ u. getD-copies 402 u 0 ∙ rw (le-ltb u 0 (omega arith)) }
 
 pub table-next : {n : ℕ} {f : ℕ → ℕ} {table : List ℕ} {e : ℕ} → TableOf n f table → n < 402 → e ≡ f n → TableOf (suc n) f (set table n e)
 table-next {n} {f} {table} {e} t h q = record { long = length-set table n e ∙ t .long; holds = λ u. holds u (ℕ-discrete u n) }

@@ -1,29 +1,29 @@
--- The calls with words and codes: they answer as checking does where it refuses, and else go on with accepted images. Assumes nothing.
-use Prim.Native.Nat.{ℕ, suc, _+_, _-_, _≤_, _<_}
-use mathlib.Core.Path.{_≡_, refl, sym, ap, _∙_}
-use mathlib.Core.Bool.{Bool, true, false}
-use mathlib.Core.List.{List, [], _∷_, _++_}
+-- The calls with words and codes, and the listing: they answer as checking does where it refuses, and else by their own rows, with accepted
+-- images and filled tables. Assumes nothing.
+use Prim.Native.Nat.{ℕ, suc, _+_, _≤_, _<_}
+use mathlib.Core.Path.{_≡_, _∙_, sym, ap}
+use mathlib.Core.List.{List, _++_}
 use native.Mathlib.Nat.{zero-add}
 use native.Mathlib.Numerals.{add-one}
-use native.Mathlib.Omega.{arith}
-use lib.ListN.{length, getD, take, drop, set, replicate, length-append, length-drop, length-replicate}
-use lib.Seq.{paste-suc, length-take-le, drop-at, drop-drop, drop-append-add}
-use borrow.Author.Tests.{lt-ltb, le-ltb, lt-leb, le-leb, ltb-false}
+use lib.ListN.{length, getD, take, drop, set}
+use lib.Seq.{paste-suc, length-take-le}
+use borrow.Author.Tests.{lt-ltb, le-ltb, lt-leb, le-leb}
 use Rattle.call.specs.declared.Refusal.{Refusal}
 use Rattle.call.specs.declared.Refusal.the-variants.{Code, Output}
-use Rattle.call.specs.Table.{Answer, value, refused, Row, noneApplies, unless}
-use Rattle.call.specs.Limits.{workSpace, badCode}
-use Rattle.call.specs.Buffers.{spaceRows, zeroed, cleared, written}
-use Rattle.call.proofs.Table.{none-parts, none-says, unless-past, value-passed}
-use Rattle.call.proofs.Buffers.{cleared-long, cleared-length, zeroed-same, written-refused}
+use Rattle.call.specs.Table.{Answer, value, refused, unless}
+use Rattle.call.specs.Limits.{badCode}
+use Rattle.call.specs.Buffers.{written}
+use Rattle.call.proofs.Table.{unless-past, refused-before}
+use Rattle.call.proofs.Buffers.{written-refused}
 use Rattle.graph.specs.Graph.{graphOf, wordCount}
 use Rattle.graph.specs.Words.{wordOfCode}
-use Rattle.graph.specs.Checking.{Accepted, imageRows, firstRows, checkAnswer}
-use Rattle.graph.proofs.Accepted.{accepted}
+use Rattle.graph.specs.Checking.{firstRows, checkAnswer}
+use Rattle.graph.proofs.Accepted.{accepted, Passed, passed}
 use Rattle.checking.specs.Tables.{Opened, filled}
-use Rattle.codes.specs.Lookup.{wordToCodeRows, wordToCodeAnswer, codeToWordRows, codeToWordAnswer, codeToWordOut}
+use Rattle.codes.specs.Lookup.{wordToCodeRows, wordToCodeAnswer, codeToWordRows, codeToWordAnswer, codeToWordOut, listing, listRows, listAnswer, listOut}
 use Rattle.codes.specs.Steps.{Ready, roomAnswer}
 use Rattle.codes.specs.Marks.{lookedUp}
+use Rattle.codes.specs.Lines.{roomRows, Answered}
 use Rattle.codes.proofs.Words.{well-formed}
 
 -- ---- copying a word
@@ -48,29 +48,6 @@ module _ (letters out : List ℕ) {n : ℕ} (h : n ≤ length letters) where
 
 -- ---- after checking
 
-unless-early : (rows more : List Row) (a b : ℕ) {r : Refusal} → unless rows a ≡ refused r → unless (rows ++ more) b ≡ refused r
-unfolding unless
-unless-early [] more a b e = let z : _≡_ {A = ℕ} 0 1 = cc in absurd (omega arith)
-unless-early (q ∷ rows) more a b {r} e = go (q .applies) refl e (unless-early rows more a b)
-  where
-    go : (t : Bool) → q .applies ≡ t → unless (q ∷ rows) a ≡ refused r → (unless rows a ≡ refused r → unless (rows ++ more) b ≡ refused r) → unless ((q ∷ rows) ++ more) b ≡ refused r
-    go true k e ih = rw k (rw k at e)
-    go false k e ih = rw k (ih (rw k at e))
-
--- checking has answered W
-pub record Passed (v x work : List ℕ) (W : ℕ) : Type 0 where
-  pub rows : noneApplies (firstRows v x work) ≡ true
-  pub count : wordCount (graphOf x) ≡ W
-  pub room : workSpace ≤ length work
-  pub images : Accepted v x
-
-pub passed : (v x work : List ℕ) (W : ℕ) → checkAnswer v x work ≡ value W → Passed v x work W
-unfolding checkAnswer firstRows spaceRows
-passed v x work W e =
-    let p = value-passed (firstRows v x work) (wordCount (graphOf x)) W e in
-    let n = none-parts (spaceRows work) (imageRows v x) (p .0) in
-    record { rows = p .0; count = p .1; room = ltb-false (length work) workSpace (none-says (spaceRows work) (n .0) .0); images = n .1 }
-
 pub ready : (v x work lists counts : List ℕ) {W : ℕ} → Passed v x work W → Opened (value W) x lists counts → Ready v x lists counts
 unfolding filled
 ready v x work lists counts p o = record {
@@ -84,7 +61,7 @@ module _ (v x work : List ℕ) where
   module _ (code : ℕ) (out : List ℕ) where
     pub code-refused : {r : Refusal} → checkAnswer v x work ≡ refused r → codeToWordAnswer v x code work out ≡ refused r
     unfolding checkAnswer codeToWordAnswer codeToWordRows
-    code-refused e = unless-early (firstRows v x work) _ (wordCount (graphOf x)) _ e
+    code-refused e = refused-before (firstRows v x work) _ (wordCount (graphOf x)) _ e
 
     pub code-bad : {W : ℕ} → Passed v x work W → W ≤ code → codeToWordAnswer v x code work out ≡ refused Code
     unfolding codeToWordAnswer codeToWordRows unless badCode
@@ -107,28 +84,30 @@ module _ (v x work : List ℕ) where
   module _ (word : List ℕ) where
     pub word-refused : {r : Refusal} → checkAnswer v x work ≡ refused r → wordToCodeAnswer v x word work ≡ refused r
     unfolding checkAnswer wordToCodeAnswer wordToCodeRows
-    word-refused e = unless-early (firstRows v x work) _ (wordCount (graphOf x)) _ e
+    word-refused e = refused-before (firstRows v x work) _ (wordCount (graphOf x)) _ e
 
     pub word-looked : {W : ℕ} → Passed v x work W → wordToCodeAnswer v x word work ≡ lookedUp v (graphOf x) word
     unfolding wordToCodeAnswer wordToCodeRows lookedUp
     word-looked p = unless-past (firstRows v x work) _ _ (p .rows)
 
--- ---- the work space, of which a part was used
+  -- ---- listing
 
--- after n bytes were made zero and the first m of them used, the bytes after n are as they were
-after-part : (m n : ℕ) (w ys : List ℕ) → m ≤ n → n ≤ length w → length ys ≡ m → drop n (ys ++ drop m (zeroed n w)) ≡ drop n w
-unfolding zeroed
-after-part m n w ys h k e =
-    let a : length ys + (n - m) ≡ n = omega arith in
-    let b : m + (n - m) ≡ n = omega arith in
-    ap (λ (j : ℕ). drop j (ys ++ drop m (replicate n 0 ++ drop n w))) (sym a)
-    ∙ drop-append-add ys (drop m (replicate n 0 ++ drop n w)) (n - m)
-    ∙ drop-drop (n - m) m (replicate n 0 ++ drop n w)
-    ∙ ap (λ (j : ℕ). drop j (replicate n 0 ++ drop n w)) b
-    ∙ drop-at (replicate n 0) (drop n w) n (length-replicate n 0)
+  module _ (out : List ℕ) where
+    pub list-refused : {r : Refusal} → checkAnswer v x work ≡ refused r → listAnswer v x work out ≡ refused r
+    unfolding checkAnswer listAnswer listRows
+    list-refused h = refused-before (firstRows v x work) _ (wordCount (graphOf x)) _ h
 
-pub part-cleared : (m : ℕ) (w ys : List ℕ) → m ≤ 64000 → 64000 ≤ length w → length ys ≡ m → cleared (ys ++ drop m (cleared w)) ≡ cleared w
-part-cleared m w ys h k e =
-    let long : length (ys ++ drop m (cleared w)) ≡ length w = length-append ys (drop m (cleared w)) ∙ rw (length-drop, cleared-length w) (omega arith) in
-    let rest : drop 64000 (ys ++ drop m (cleared w)) ≡ drop 64000 w = rw (cleared-long w k) (after-part m 64000 w ys h k e) in
-    cleared-long (ys ++ drop m (cleared w)) (omega arith) ∙ zeroed-same 64000 _ w rest ∙ sym (cleared-long w k)
+    pub list-kept : {r : Refusal} → checkAnswer v x work ≡ refused r → listOut v x work out ≡ out
+    unfolding listOut
+    list-kept h = written-refused (listing v (graphOf x)) out (list-refused h)
+
+    pub list-value : {W : ℕ} → checkAnswer v x work ≡ value W → listAnswer v x work out ≡ unless (roomRows (listing v (graphOf x)) out) (length (listing v (graphOf x)))
+    unfolding listAnswer listRows roomRows
+    list-value h = unless-past (firstRows v x work) _ _ (passed v x work h .rows)
+
+    pub list-written : {W : ℕ} {answer : Answer ℕ} {out′ : List ℕ} → checkAnswer v x work ≡ value W → Answered (listing v (graphOf x)) answer out out′
+        → (answer ≡ listAnswer v x work out) × (out′ ≡ listOut v x work out)
+    unfolding listOut
+    list-written h a =
+        let says = a .says ∙ sym (list-value h) in
+        (says, a .leaves ∙ ap (λ b. written b (listing v (graphOf x)) out) says)

@@ -3,31 +3,17 @@
 use Prim.Native.Nat.{ℕ, _+_, _≤_, _<_}
 use mathlib.Core.Path.{_≡_, refl, sym, ap, _∙_}
 use mathlib.Core.Bool.{Bool, true, false}
-use mathlib.Core.List.{List, [], _∷_, _++_, map, map-append, append-assoc, List·Memᴰ, List·Memᴰ·head as here, List·Memᴰ·tail as there}
+use mathlib.Core.List.{List, [], _∷_, _++_, append-assoc, List·Memᴰ}
 use native.Mathlib.Omega.{arith}
 use lib.ListN.{getD}
-use Rattle.endian.specs.Lists.{sum, same}
-use Rattle.endian.proofs.Lists.{sum-append, mem-getD, first-at, same-eq, same-refl}
+use Rattle.endian.specs.Lists.{same}
+use Rattle.endian.proofs.Lists.{mem-getD, first-at, same-eq, same-refl, mem-split}
 use Rattle.graph.specs.Graph.{Graph, sink, ArcPath, arrived, along, FullPath, from-root, fullPaths, pathCount, wordCount, increment, codeFrom, pathCode}
 use Rattle.graph.specs.Words.{wordOfPath, pathOfWord, codeOf}
 use Rattle.graph.proofs.Sound.{Sound}
-use Rattle.graph.proofs.Codes.{length-fullPaths, pathCount-sink, pathCount-below, increment-at, code-at}
+use Rattle.graph.proofs.Codes.{length-fullPaths, pathCount-sink, increment-at, code-at, sum-split, arc-count}
 use Rattle.graph.proofs.Paths.{full-paths, at-code}
 use Rattle.codes.proofs.Words.{word-root}
-
--- where an element stands in a list
-record Split (a : ℕ) (l : List ℕ) : Type 0 where
-  earlier : List ℕ
-  later : List ℕ
-  split : l ≡ earlier ++ a ∷ later
-
-split-of : {a : ℕ} {l : List ℕ} → List·Memᴰ a l → Split a l
-split-of {l = b ∷ l} (here e) = record { earlier = []; later = l; split = ap (λ (c : ℕ). c ∷ l) (sym e) }
-split-of {l = b ∷ l} (there m) = let s = split-of m in record { earlier = b ∷ s .earlier; later = s .later; split = ap (λ (r : List ℕ). b ∷ r) (s .split) }
-
-sum-split : (f : ℕ → ℕ) (l : List ℕ) (a : ℕ) (m : List ℕ) → sum (map f (l ++ a ∷ m)) ≡ sum (map f l) + (f a + sum (map f m))
-unfolding sum
-sum-split f l a m = rw (map-append f l (a ∷ m), sum-append (map f l) (map f (a ∷ m)))
 
 -- q has the least code of the ways from u that spell the bytes
 abbrev pub Least : List ℕ → Graph → ℕ → List ℕ → List ℕ → Type 0
@@ -38,23 +24,17 @@ abbrev pub LeastWith : List ℕ → Graph → ℕ → List ℕ → List ℕ → 
 LeastWith v g u bytes q = (p : List ℕ) → ArcPath g u p → wordOfPath v g (u ∷ p) ≡ bytes → codeFrom g u q ≤ codeFrom g u p
 
 module _ {g : Graph} (ok : Sound g) where
-  -- an arc's increment, and the ways behind it, are within those of its vertex
-  pub arc-within : {u : ℕ} → u < sink g → (l m : List ℕ) (s : ℕ) → g .successors u ≡ l ++ s ∷ m → increment g u s + pathCount g s ≤ pathCount g u
-  arc-within h l m s e = rw (increment-at ok h l m s e, pathCount-below ok h, e, sum-split (pathCount g) l s m) (omega arith)
-
   pub code-below : {u : ℕ} {p : List ℕ} → ArcPath g u p → codeFrom g u p < pathCount g u
   unfolding codeFrom
   code-below (arrived e) = rw (e, pathCount-sink ok) (omega arith)
-  code-below (along {s = s} h m w) =
-      let d = split-of m in
-      omega (arith, code-below w, arc-within h (d .earlier) (d .later) s (d .split))
+  code-below (along h m w) = omega (arith, code-below w, arc-count ok h m)
 
   -- a later arc counts the ways by this one
   pub later-above : {u : ℕ} → u < sink g → (l m : List ℕ) (s : ℕ) → g .successors u ≡ l ++ s ∷ m → {t : ℕ} → List·Memᴰ t m → increment g u s + pathCount g s ≤ increment g u t
   later-above h l m s e {t} i =
-      let d = split-of i in
-      let f = e ∙ ap (λ (r : List ℕ). l ++ s ∷ r) (d .split) ∙ sym (append-assoc l (s ∷ d .earlier) (t ∷ d .later)) in
-      rw (increment-at ok h l m s e, increment-at ok h (l ++ s ∷ d .earlier) (d .later) t f, sum-split (pathCount g) l s (d .earlier)) (omega arith)
+      let d = mem-split i in
+      let f = e ∙ ap (λ (r : List ℕ). l ++ s ∷ r) (d .2) ∙ sym (append-assoc l (s ∷ d .0) (t ∷ d .1)) in
+      rw (increment-at ok h l m s e, increment-at ok h (l ++ s ∷ d .0) (d .1) t f, sum-split (pathCount g) l s (d .0)) (omega arith)
 
   pub first-code : (v word q : List ℕ) → ArcPath g 0 q → wordOfPath v g q ≡ word → Least v g 0 word q → codeOf g (pathOfWord v g word) ≡ codeFrom g 0 q
   unfolding pathOfWord codeOf pathCode

@@ -8,7 +8,6 @@ pub mod Least
 pub mod Search
 pub mod Lookups
 pub mod Calls
-pub mod Ways
 pub mod Lines
 pub mod Sizes
 pub mod Heads
@@ -16,4 +15,3 @@ pub mod Falls
 pub mod Passing
 pub mod Totals
 pub mod Whole
-pub mod Shells

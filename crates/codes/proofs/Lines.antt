@@ -7,20 +7,15 @@ use native.Mathlib.Numerals.{add-one}
 use native.Mathlib.Omega.{arith}
 use lib.ListN.{length, take, drop, set, getD, length-append, length-set, take-append-drop}
 use lib.Seq.{append-snoc, drop-drop, take-take, take-suc, take-set-le, drop-set-lt, take-suc-set}
-use Rattle.endian.proofs.Lists.{flatMap-cong, flatMap-map}
+use Rattle.endian.proofs.Lists.{flatMap-cong, flatMap-map, flatMap-append}
 use Rattle.voice.specs.Voice.{printByte}
 use Rattle.graph.specs.Graph.{Graph, sink, ways, fullPaths}
 use Rattle.graph.specs.Words.{wordOfPath}
 use Rattle.graph.proofs.Sound.{Sound}
+use Rattle.graph.proofs.Ways.{ways-sink, ways-below, way-on, some-way}
 use Rattle.codes.specs.Lookup.{listing}
 use Rattle.codes.specs.Lines.{linesFrom, linesOver, Fits, Wrote}
 use Rattle.codes.proofs.Words.{word-node, word-root, word-sink}
-use Rattle.codes.proofs.Ways.{ways-sink, ways-below, way-on, some-way}
-
-flatMap-append : {A B : Type 0} (f : A → List B) (l m : List A) → flatMap f (l ++ m) ≡ flatMap f l ++ flatMap f m
-unfolding flatMap
-flatMap-append f [] m = refl
-flatMap-append f (a ∷ l) m = rw (flatMap-append f l m, append-assoc)
 
 flatMap-flatMap : {A B C : Type 0} (f : B → List C) (h : A → List B) (l : List A) → flatMap f (flatMap h l) ≡ flatMap (λ a. flatMap f (h a)) l
 unfolding flatMap

@@ -8,25 +8,25 @@ use mathlib.Core.List.{List, [], _∷_, List·Memᴰ, List·Memᴰ·head, List·
 use native.Mathlib.Omega.{arith}
 use native.Mathlib.Numerals.{add-one}
 use lib.ListN.{length, drop}
-use borrow.Author.Tests.{ltb-false}
 use Rattle.endian.specs.Lists.{any, isNone}
+use Rattle.endian.proofs.Search.{any-out, any-in}
 use Rattle.call.specs.declared.Refusal.the-variants.{NoWord}
 use Rattle.call.specs.Limits.{mostWords}
 use Rattle.call.specs.Table.{value, refused, on, unless}
 use Rattle.lexicon.specs.Lexicon.{sinkOf, successors}
 use Rattle.graph.specs.Graph.{Graph, graphOf, sink, ArcPath, arrived, along, FullPath, from-root, pathCount, wordCount, codeFrom}
 use Rattle.graph.specs.Words.{wordOfPath, LexiconWord, pathOfWord, codeOf}
-use Rattle.graph.specs.Conditions.{manyWords}
 use Rattle.graph.specs.Checking.{Accepted}
 use Rattle.graph.proofs.Sound.{Sound}
 use Rattle.graph.proofs.Paths.{full-paths}
-use Rattle.graph.proofs.Accepted.{accepted}
+use Rattle.graph.proofs.Accepted.{accepted, sound-images, words-limit}
+use Rattle.graph.proofs.Codes.{arc-within}
 use Rattle.codes.specs.Theorems.{CodeTheorems}
 use Rattle.codes.specs.Marks.{fits, fitsAfter, marked, RowsFrom, FirstMarked, lookedUp}
 use Rattle.codes.proofs.Theorems.{code-theorems}
-use Rattle.codes.proofs.Words.{word-root, word-node, word-beyond, word-none, sound-images, path-short}
-use Rattle.codes.proofs.Least.{Least, LeastWith, arc-within, code-below, later-above, first-code}
-use Rattle.codes.proofs.Marks.{any-in, any-out, FitsBy, by-end, by-letter, fits-by, fits-way, way-fits, mark-says, marks-say}
+use Rattle.codes.proofs.Words.{word-root, word-node, word-beyond, word-none, path-short}
+use Rattle.codes.proofs.Least.{Least, LeastWith, code-below, later-above, first-code}
+use Rattle.codes.proofs.Marks.{FitsBy, by-end, by-letter, fits-by, fits-way, way-fits, mark-says, marks-say}
 
 -- ---- the bytes that are left
 
@@ -68,10 +68,6 @@ module _ (v x : List ℕ) (h : Accepted v x) where
   ok : Sound (graphOf x)
   ok = sound-images (accepted h)
 
-  few-paths : wordCount (graphOf x) ≤ mostWords
-  unfolding manyWords
-  few-paths = ltb-false mostWords (wordCount (graphOf x)) (accepted h .few-words)
-
   module _ (word : List ℕ) where
     pub sought-start : fitsAfter v (graphOf x) 0 word ≡ true → CodeSought v x word 0 0 0
     unfolding sinkOf wordCount
@@ -91,7 +87,7 @@ module _ (v x : List ℕ) (h : Accepted v x) where
 
       -- the paths so far, and those from u, are no more than the words
       pub sought-few : code + pathCount (graphOf x) u ≤ mostWords
-      sought-few = omega (arith, l .within, few-paths)
+      sought-few = omega (arith, l .within, words-limit (accepted h))
 
       pub sought-ahead : u < sinkOf x → {table : List ℕ} → RowsFrom v (graphOf x) word table 0 → any (marked table row) (successors x u) ≡ true
       unfolding sink sinkOf
@@ -180,8 +176,8 @@ module _ (v x : List ℕ) (h : Accepted v x) where
     unfolding fitsAfter sink
     lexicon-word f =
         let t = any-out (λ s. fits v (graphOf x) s word) (graphOf x .successors 0) f in
-        let w = fits-way v (graphOf x) word (t .0) (t .2) in
-        record { path = 0 ∷ t .0 ∷ w .path; full = from-root (along {u = 0} (omega arith) (t .1) (w .arcs)); spells = word-root v (graphOf x) (t .0 ∷ w .path) ∙ w .spells }
+        let w = fits-way v (graphOf x) word (t .one) (t .passes) in
+        record { path = 0 ∷ t .one ∷ w .path; full = from-root (along {u = 0} (omega arith) (t .member) (w .arcs)); spells = word-root v (graphOf x) (t .one ∷ w .path) ∙ w .spells }
 
     pub looked-found : {code : ℕ} → fitsAfter v (graphOf x) 0 word ≡ true → codeOf (graphOf x) (pathOfWord v (graphOf x) word) ≡ code → value code ≡ lookedUp v (graphOf x) word
     unfolding lookedUp unless

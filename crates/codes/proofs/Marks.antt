@@ -2,9 +2,8 @@
 -- row after it. Assumes nothing.
 use Prim.Native.Nat.{ℕ, suc, _+_, _*_, _≤_, _<_}
 use mathlib.Core.Path.{_≡_, refl, _∙_}
-use mathlib.Core.Bool.{Bool, true, false, _&&_, false≢true}
-use mathlib.Core.Logic.{inl, inr}
-use mathlib.Core.List.{List, [], _∷_, List·Memᴰ, List·Memᴰ·head as here, List·Memᴰ·tail as there}
+use mathlib.Core.Bool.{Bool, true, false, _&&_}
+use mathlib.Core.List.{List, [], _∷_, List·Memᴰ·head as here}
 use native.Mathlib.Omega.{arith}
 use native.Mathlib.Numerals.{add-one}
 use native.Mathlib.Decide.{ℕ-discrete}
@@ -13,34 +12,14 @@ use lib.Seq.{drop-cons, getD-set-same, getD-set-other}
 use lib.Dec.{eqb, ltb, leb}
 use borrow.Author.Tests.{eqb-true, eq-eqb, ne-eqb, ltb-true, leb-true, lt-leb}
 use Rattle.endian.specs.Lists.{any}
-use Rattle.endian.proofs.Booleans.{and-out, or-cases, or-left, or-right}
+use Rattle.endian.proofs.Booleans.{and-out}
+use Rattle.endian.proofs.Search.{any-out, any-in, any-same}
 use Rattle.voice.specs.Voice.{printByte}
 use Rattle.graph.specs.Graph.{Graph, sink, isNode, ArcPath, arrived, along}
 use Rattle.graph.specs.Words.{wordOfPath}
-use Rattle.graph.proofs.Sound.{Sound}
+use Rattle.graph.proofs.Sound.{Sound, is-node}
 use Rattle.codes.specs.Marks.{fits, fitsAfter, markOf, marked, RowsFrom}
-use Rattle.codes.proofs.Words.{is-node, word-node, word-sink}
-
--- ---- some element passes a test
-
-module _ {A : Type 0} where
-  pub any-in : (p : A → Bool) {a : A} {l : List A} → List·Memᴰ a l → p a ≡ true → any p l ≡ true
-  unfolding any
-  any-in p {a} {l = b ∷ l} (here e) h = or-left (p b) (any p l) (rw e at h)
-  any-in p {a} {l = b ∷ l} (there m) h = or-right (p b) (any p l) (any-in p m h)
-
-  pub any-out : (p : A → Bool) (l : List A) → any p l ≡ true → (a : A) × List·Memᴰ a l × (p a ≡ true)
-  unfolding any
-  any-out p [] h = absurd (false≢true h)
-  any-out p (b ∷ l) h = elim (or-cases (p b) (any p l) h) [
-    | inl e ↦ (b, here refl, e)
-    | inr e ↦ let t = any-out p l e in (t .0, there (t .1), t .2)
-  ]
-
-  pub any-cong : (p q : A → Bool) (l : List A) → ((a : A) → List·Memᴰ a l → p a ≡ q a) → any p l ≡ any q l
-  unfolding any
-  any-cong p q [] h = refl
-  any-cong p q (a ∷ l) h = rw (h a (here refl), any-cong p q l (λ b m. h b (there m)))
+use Rattle.codes.proofs.Words.{word-node, word-sink}
 
 -- ---- what fits, by cases
 
@@ -71,7 +50,7 @@ module _ (v : List ℕ) (g : Graph) where
 
   pub fits-letter : {u b : ℕ} (bytes : List ℕ) → 0 < u → u < sink g → printByte v (g .letter u) ≡ b → fits v g u (b ∷ bytes) ≡ fitsAfter v g u bytes
   unfolding fits fitsAfter
-  fits-letter {u} {b} bytes h k e = rw (is-node v g h k, eq-eqb (printByte v (g .letter u)) b e)
+  fits-letter {u} {b} bytes h k e = rw (is-node g h k, eq-eqb (printByte v (g .letter u)) b e)
 
   -- what fits is the end, at the sink, or a node's letter and what fits after it
   pub data FitsBy (u : ℕ) : List ℕ → Type 0 where
@@ -106,8 +85,8 @@ module _ (v : List ℕ) (g : Graph) where
       go : FitsBy u (b ∷ bytes) → ((s : ℕ) → fits v g s bytes ≡ true → SpellingWay s bytes) → SpellingWay u (b ∷ bytes)
       go (by-letter k l e f) on =
           let t = any-out (λ s. fits v g s bytes) (g .successors u) f in
-          let w = on (t .0) (t .2) in
-          record { path = t .0 ∷ w .path; arcs = along l (t .1) (w .arcs); spells = word-node v g (t .0 ∷ w .path) k l ∙ rw (e, w .spells) }
+          let w = on (t .one) (t .passes) in
+          record { path = t .one ∷ w .path; arcs = along l (t .member) (w .arcs); spells = word-node v g (t .one ∷ w .path) k l ∙ rw (e, w .spells) }
 
   pub way-fits : Sound g → {u : ℕ} {p : List ℕ} → 0 < u → ArcPath g u p → fits v g u (wordOfPath v g (u ∷ p)) ≡ true
   unfolding fitsAfter
@@ -156,7 +135,7 @@ module _ {v : List ℕ} {g : Graph} (ok : Sound g) {word table : List ℕ} {i : 
 
   pub marks-say : {j u : ℕ} → i ≤ j → j ≤ length word → u < sink g → any (marked table (402 * j)) (g .successors u) ≡ fitsAfter v g u (drop j word)
   unfolding fitsAfter
-  marks-say {j} {u} h k l = any-cong _ _ (g .successors u) (λ s m. let r = ok .rises l m in mark-says h k (omega arith) (r .1))
+  marks-say {j} {u} h k l = any-same _ _ (g .successors u) (λ s m. let r = ok .rises l m in mark-says h k (omega arith) (r .1))
 
 -- the row after the last
 pub rows-none : {v : List ℕ} {g : Graph} {word table : List ℕ} → length table ≡ 13266 → RowsFrom v g word table (length word + 1)

@@ -12,12 +12,12 @@ use Rattle.lexicon.specs.Lexicon.{nodeCount, sinkOf, nodeLetter, arcCount, succ
 use Rattle.lexicon.proofs.Readers.{length-successors}
 use Rattle.graph.specs.Graph.{graphOf, sink}
 use Rattle.graph.proofs.Sound.{Sound}
-use Rattle.graph.proofs.Accepted.{accepted}
+use Rattle.graph.proofs.Accepted.{accepted, sound-images}
+use Rattle.graph.proofs.Ways.{some-way}
 use Rattle.checking.proofs.Arcs.{shape-of}
 use Rattle.codes.specs.Steps.{Readable}
 use Rattle.codes.specs.Lines.{linesFrom, linesOver, Fits, Walkable, Passes, Room, Wrote}
-use Rattle.codes.proofs.Words.{sound-images, readable}
-use Rattle.codes.proofs.Ways.{some-way}
+use Rattle.codes.proofs.Words.{readable}
 use Rattle.codes.proofs.Lines.{over-none, over-more, over-part, lines-sink, lines-node, fits-letter, fits-next, wrote-none, wrote-both, one-letter}
 use Rattle.codes.proofs.Heads.{Head, head-at}
 

@@ -10,12 +10,12 @@ use Rattle.endian.proofs.Lists.{map-cong, length-flatMap, sum-append}
 use Rattle.graph.specs.Graph.{Graph, sink, ArcPath, arrived, along, FullPath, from-root, ways, fullPaths, pathCount}
 use Rattle.graph.specs.Words.{wordOfPath}
 use Rattle.graph.proofs.Sound.{Sound}
-use Rattle.graph.proofs.Codes.{length-ways, pathCount-below}
+use Rattle.graph.proofs.Codes.{pathCount-below}
 use Rattle.graph.proofs.Paths.{full-paths}
+use Rattle.graph.proofs.Ways.{ways-sink, ways-below, way-short, length-ways}
 use Rattle.codes.specs.Lookup.{listing}
 use Rattle.codes.specs.Lines.{linesFrom, arcsOnWays}
 use Rattle.codes.proofs.Words.{word-node, word-root, word-sink}
-use Rattle.codes.proofs.Ways.{ways-sink, ways-below, way-short}
 use Rattle.codes.proofs.Lines.{listing-lines}
 
 length-ways-from : (g : Graph) (u : ℕ) → length (ways g (sink g) u) ≡ pathCount g u

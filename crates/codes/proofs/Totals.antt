@@ -1,10 +1,10 @@
 -- Adding up the arcs on all ways from a vertex, successor by successor, from the numbers of the vertices above it. Assumes nothing.
-use mathlib.Core.Path.{_≡_, refl, sym, _∙_}
+use mathlib.Core.Path.{_≡_, sym, _∙_}
 use mathlib.Core.List.{List, map}
-use Prim.Native.Nat.{ℕ, zero, suc, _+_, _*_, _^_, _≤_, _<_}
+use Prim.Native.Nat.{ℕ, suc, _+_, _*_, _^_, _≤_, _<_}
 use native.Mathlib.Omega.{arith}
 use native.Mathlib.Decide.{ℕ-discrete}
-use lib.ListN.{length, getD, drop, set, replicate}
+use lib.ListN.{length, getD, drop, set}
 use lib.Seq.{getD-set-same, getD-set-other}
 use Rattle.endian.specs.Lists.{sum}
 use Rattle.endian.specs.Bytes.{u16}
@@ -12,7 +12,8 @@ use Rattle.lexicon.specs.Lexicon.{nodeCount, sinkOf, arcCount, successors}
 use Rattle.graph.specs.Graph.{graphOf, sink}
 use Rattle.graph.proofs.Sound.{Sound}
 use Rattle.checking.proofs.Tables.{entry}
-use Rattle.checking.proofs.Arcs.{shape-of, sound-of, nodes-there}
+use Rattle.checking.proofs.Arcs.{shape-of, sound-of}
+use Rattle.checking.proofs.Filling.{count-there}
 use Rattle.codes.specs.Lines.{arcsOnWays, Countable, CountedFrom}
 use Rattle.codes.proofs.Sizes.{arcs-sink, arcs-below, arcs-most}
 use Rattle.codes.proofs.Heads.{Head, head-at, none-left}
@@ -27,7 +28,7 @@ module _ {x lists counts : List ℕ} (c : Countable x lists counts) where
   ok = sound-of (c .tabled .listed .well-formed)
 
   pub nodes : (2 ≤ length x) × (nodeCount x ≤ 400)
-  nodes = (omega (arith, nodes-there (c .tabled .listed .well-formed)), shape-of (c .tabled .listed .well-formed) .few)
+  nodes = (count-there (c .tabled .listed .well-formed), shape-of (c .tabled .listed .well-formed) .few)
 
   -- at most 401 arcs a way, and 1,048,576 ways
   pub total-fits : {u : ℕ} → u ≤ sinkOf x → arcsOnWays (graphOf x) u < 2 ^ 32
@@ -68,12 +69,6 @@ module _ {x lists counts : List ℕ} (c : Countable x lists counts) where
   pub counted-none : {totals : List ℕ} → getD totals (sinkOf x) 0 ≡ 0 → CountedFrom x totals (sinkOf x)
   unfolding sinkOf sink
   counted-none e = record { holds = λ {s} h k. let q : s ≡ sinkOf x = omega arith in rw q (e ∙ sym (arcs-sink (ok c))) }
-
--- a table that holds nothing yet
-pub blank : (n i : ℕ) → _≡_ {A = ℕ} (getD (replicate n 0) i 0) 0
-blank zero i = refl
-blank (suc n) zero = refl
-blank (suc n) (suc i) = blank n i
 
 pub counted-more : {x totals : List ℕ} {u total : ℕ} → u < length totals → total ≡ arcsOnWays (graphOf x) u → CountedFrom x totals (suc u)
     → CountedFrom x (set totals u total) u

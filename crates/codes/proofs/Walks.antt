@@ -1,6 +1,6 @@
 -- Going down by a code. A code below a vertex's path count leads along one arc, to a successor below whose path count the rest of it is; so it
 -- leads on to the sink, by the way whose code it is. Assumes nothing.
-use Prim.Native.Nat.{ℕ, zero, suc, _+_, _*_, _-_, _≤_, _<_}
+use Prim.Native.Nat.{ℕ, zero, suc, _+_, _-_, _≤_, _<_}
 use mathlib.Core.Path.{_≡_, refl, sym, ap, _∙_}
 use mathlib.Core.Bool.{Bool, true, false}
 use mathlib.Core.List.{List, [], _∷_, _++_, map, map-append, List·Memᴰ·head, Memᴰ·append-right, append-nil}
@@ -14,48 +14,19 @@ use Rattle.endian.specs.Lists.{sum}
 use Rattle.endian.specs.Bytes.{u16}
 use Rattle.endian.proofs.Lists.{sum-append}
 use Rattle.voice.specs.Voice.{printByte}
-use Rattle.lexicon.specs.Lexicon.{nodeCount, sinkOf, nodeLetter, arcsAt, arcCount, successors}
-use Rattle.lexicon.proofs.Shape.{arcs-next}
+use Rattle.lexicon.specs.Lexicon.{nodeCount, sinkOf, nodeLetter, arcsAt, successors}
 use Rattle.graph.specs.Graph.{Graph, graphOf, sink, ArcPath, arrived, along, from-root, pathCount, wordCount, codeFrom, pathCode}
 use Rattle.graph.specs.Words.{wordOfPath, wordOfCode}
 use Rattle.graph.proofs.Sound.{Sound, below-sink}
 use Rattle.graph.proofs.Codes.{pathCount-sink, pathCount-below, increment-at}
 use Rattle.graph.proofs.Paths.{full-paths, at-code, wordOfCode-at}
-use Rattle.graph.proofs.Accepted.{AcceptedImages, accepted}
-use Rattle.checking.specs.Tables.{WellFormed, Listed}
+use Rattle.graph.proofs.Accepted.{AcceptedImages, accepted, sound-images}
 use Rattle.checking.proofs.Tables.{entry}
-use Rattle.checking.proofs.Arcs.{ArcsLeft, ArcNext, arcs-start, arc-next, shape-of, sound-of}
+use Rattle.checking.proofs.Arcs.{ArcsLeft, ArcNext, arcs-start, arc-next, sound-of}
 use Rattle.codes.specs.Steps.{Tabled, Ready, Stepped, Spelled}
-use Rattle.codes.proofs.Words.{word-node, word-root, word-sink, sound-images, word-short}
+use Rattle.codes.proofs.Words.{word-node, word-root, word-sink, word-short}
 
 -- ---- the tables
-
--- a vertex has an entry
-pub has-entry : {x : List ℕ} → WellFormed x → {u : ℕ} → u ≤ sinkOf x → u < 402
-unfolding sinkOf
-has-entry w h = omega (arith, shape-of w .few)
-
--- N stands at the start
-pub nodes-there : {x : List ℕ} → WellFormed x → (2 ≤ length x) × (nodeCount x ≤ 400)
-unfolding sinkOf arcsAt
-nodes-there {x} w = (omega (arith, shape-of w .there {u = 0} (omega arith), arcs-next x 0), shape-of w .few)
-
-module _ {x lists : List ℕ} (l : Listed x lists) {u : ℕ} (h : u ≤ nodeCount x) where
-  pub list-entry : getD lists u 0 ≡ arcsAt x u
-  unfolding sinkOf
-  list-entry = entry (l .table) (omega arith)
-
-  -- its list, count and all, lies inside the image
-  pub list-there : getD lists u 0 + 2 + 2 * u16 x (getD lists u 0) ≤ length x
-  list-there = let a = arcs-start (l .well-formed) h list-entry in a .there
-
-  pub list-end : getD lists u 0 + 2 + 2 * u16 x (getD lists u 0) ≤ 9204
-  unfolding sinkOf arcCount
-  list-end = rw list-entry (omega (arith, arcs-next x u, shape-of (l .well-formed) .small {u = suc u} (omega arith)))
-
-  pub list-small : getD lists u 0 ≤ 9204
-  unfolding sinkOf
-  list-small = rw list-entry (shape-of (l .well-formed) .small (omega arith))
 
 pub count-entry : {x lists counts : List ℕ} → Tabled x lists counts → {u : ℕ} → u ≤ sinkOf x → getD counts u 0 ≡ pathCount (graphOf x) u
 count-entry t h = entry (t .counted) (omega arith)

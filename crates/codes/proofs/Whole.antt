@@ -14,13 +14,13 @@ use Rattle.lexicon.specs.Lexicon.{sinkOf, successors}
 use Rattle.graph.specs.Graph.{graphOf, sink, fullPaths, wordCount}
 use Rattle.graph.specs.Conditions.{manyWords}
 use Rattle.graph.proofs.Sound.{Sound}
-use Rattle.graph.proofs.Accepted.{AcceptedImages, accepted}
+use Rattle.graph.proofs.Accepted.{AcceptedImages, accepted, sound-images}
+use Rattle.graph.proofs.Ways.{way-on}
 use Rattle.checking.proofs.Reached.{count-within-words}
 use Rattle.codes.specs.Lookup.{listing}
 use Rattle.codes.specs.Steps.{Ready}
 use Rattle.codes.specs.Lines.{linesOver, Fits, Passes, Wrote, arcsOnWays, Countable, roomRows, Answered}
-use Rattle.codes.proofs.Words.{sound-images, path-short, word-root}
-use Rattle.codes.proofs.Ways.{way-on}
+use Rattle.codes.proofs.Words.{path-short, word-root}
 use Rattle.codes.proofs.Lines.{lines-root, listing-lines}
 use Rattle.codes.proofs.Sizes.{listing-size}
 

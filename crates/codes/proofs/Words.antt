@@ -1,15 +1,14 @@
 -- The words of ways, letter by letter, and what acceptance says of them: their bytes lie inside the images, and no word has more than 32
 -- letters. Assumes nothing.
-use Prim.Native.Nat.{ℕ, suc, _+_, _*_, _≤_, _<_}
+use Prim.Native.Nat.{ℕ, _+_, _*_, _≤_, _<_}
 use mathlib.Core.Path.{_≡_, refl}
-use mathlib.Core.Bool.{Bool, true, false}
 use mathlib.Core.List.{List, [], _∷_, List·Memᴰ, List·Memᴰ·head as here, List·Memᴰ·tail as there, Memᴰ·append-left}
 use native.Mathlib.Omega.{arith}
 use lib.ListN.{length, length-map}
-use borrow.Author.Tests.{lt-ltb, le-leb, lt-leb, ltb-false}
-use Rattle.endian.specs.Lists.{any, select}
-use Rattle.endian.proofs.Booleans.{or-none}
+use borrow.Author.Tests.{ltb-false}
+use Rattle.endian.specs.Lists.{select}
 use Rattle.endian.proofs.Lists.{mem-flatMap, from-in, mem-getD}
+use Rattle.endian.proofs.Search.{none-passes}
 use Rattle.voice.specs.Voice.{letterCount, printByte, letterFields, voiceFields, voiceVerdict}
 use Rattle.voice.proofs.Fields.{well-formed-says}
 use Rattle.lexicon.specs.Lexicon.{sinkOf, nodeLetter, arcsAt}
@@ -18,35 +17,31 @@ use Rattle.lexicon.proofs.Shape.{Shape, shape, arcs-next}
 use Rattle.graph.specs.Graph.{Graph, graphOf, sink, fullPaths, wordCount, isNode, pathLetters}
 use Rattle.graph.specs.Words.{spelled, wordOfPath, wordOfCode}
 use Rattle.graph.specs.Conditions.{longWord, hasLongWord}
-use Rattle.graph.proofs.Sound.{Sound, sound}
+use Rattle.graph.proofs.Sound.{is-node, sink-no-node}
 use Rattle.graph.proofs.Codes.{length-fullPaths}
 use Rattle.graph.proofs.Paths.{wordOfCode-at}
-use Rattle.graph.proofs.Accepted.{AcceptedImages}
+use Rattle.graph.proofs.Accepted.{AcceptedImages, sound-images}
 use Rattle.checking.specs.Tables.{WellFormed}
 use Rattle.codes.specs.Steps.{Readable}
 
 -- ---- the word of a way, from its first vertex on
 
 module _ (v : List ℕ) (g : Graph) where
-  pub is-node : {u : ℕ} → 0 < u → u < sink g → isNode g u ≡ true
-  unfolding isNode sink
-  is-node {u} h k = rw (lt-ltb 0 u h, le-leb u (g .nodes) (omega arith))
-
   pub word-node : {u : ℕ} (p : List ℕ) → 0 < u → u < sink g → wordOfPath v g (u ∷ p) ≡ printByte v (g .letter u) ∷ wordOfPath v g p
   unfolding wordOfPath spelled pathLetters select
-  word-node p h k = rw (is-node h k)
+  word-node p h k = rw (is-node g h k)
 
   pub word-root : (p : List ℕ) → wordOfPath v g (0 ∷ p) ≡ wordOfPath v g p
   unfolding wordOfPath spelled pathLetters select isNode
   word-root p = refl
 
   pub word-sink : wordOfPath v g (sink g ∷ []) ≡ []
-  unfolding wordOfPath spelled pathLetters select isNode sink
-  word-sink = rw (lt-ltb 0 (suc (g .nodes)) (omega arith), lt-leb (suc (g .nodes)) (g .nodes) (omega arith))
+  unfolding wordOfPath spelled pathLetters select
+  word-sink = rw (sink-no-node g)
 
   pub word-beyond : {u : ℕ} (p : List ℕ) → u ≡ sink g → wordOfPath v g (u ∷ p) ≡ wordOfPath v g p
-  unfolding wordOfPath spelled pathLetters select isNode sink
-  word-beyond {u} p e = rw (e, lt-ltb 0 (suc (g .nodes)) (omega arith), lt-leb (suc (g .nodes)) (g .nodes) (omega arith))
+  unfolding wordOfPath spelled pathLetters select
+  word-beyond {u} p e = rw (e, sink-no-node g)
 
   pub word-none : wordOfPath v g [] ≡ []
   unfolding wordOfPath spelled pathLetters select
@@ -54,15 +49,7 @@ module _ (v : List ℕ) (g : Graph) where
 
 -- ---- accepted images
 
-any-each : {A : Type 0} (p : A → Bool) {a : A} {l : List A} → any p l ≡ false → List·Memᴰ a l → p a ≡ false
-unfolding any
-any-each p {a} {l = b ∷ l} h (here e) = rw e (or-none (p b) (any p l) h .0)
-any-each p {a} {l = b ∷ l} h (there m) = any-each p (or-none (p b) (any p l) h .1) m
-
 module _ {v x : List ℕ} (h : AcceptedImages v x) where
-  pub sound-images : Sound (graphOf x)
-  sound-images = sound (letterCount v) x (h .lexicon)
-
   pub well-formed : WellFormed x
   well-formed = record { letters = letterCount v; judged = h .lexicon }
 
@@ -85,9 +72,9 @@ module _ {v x : List ℕ} (h : AcceptedImages v x) where
   pub path-short : {p : List ℕ} → List·Memᴰ p (fullPaths (graphOf x)) → length (wordOfPath v (graphOf x) p) ≤ 32
   unfolding hasLongWord longWord wordOfPath spelled
   path-short {p} m =
-      let s = any-each (λ p. longWord (length (pathLetters (graphOf x) p))) (h .short-words) m in
+      let s = none-passes (λ p. longWord (length (pathLetters (graphOf x) p))) (h .short-words) m in
       rw (length-map (pathLetters (graphOf x) p) (printByte v)) (ltb-false 32 _ s)
 
   pub word-short : {c : ℕ} → c < wordCount (graphOf x) → length (wordOfCode v (graphOf x) c) ≤ 32
   word-short {c} k =
-      rw (wordOfCode-at sound-images v k) (path-short (mem-getD (fullPaths (graphOf x)) c [] (omega (arith, length-fullPaths (graphOf x)))))
+      rw (wordOfCode-at (sound-images h) v k) (path-short (mem-getD (fullPaths (graphOf x)) c [] (omega (arith, length-fullPaths (graphOf x)))))

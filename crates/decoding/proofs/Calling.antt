@@ -12,15 +12,16 @@ use borrow.Author.Tests.{ltb-false, not-false}
 use Rattle.endian.proofs.Ranges.{bounds}
 use Rattle.call.specs.declared.Refusal.{Refusal}
 use Rattle.call.specs.declared.Refusal.the-variants.{Count, Output}
-use Rattle.call.specs.Table.{value, refused, Row, on, noneApplies, unless}
-use Rattle.call.specs.Limits.{workSpace, badCount}
-use Rattle.call.specs.Buffers.{spaceRows, zeroed, cleared, written}
-use Rattle.call.proofs.Table.{none-parts, none-says, unless-past, unless-value, unless-first, value-passed, refused-first}
+use Rattle.call.specs.Table.{value, refused, on, noneApplies, unless}
+use Rattle.call.specs.Limits.{badCount}
+use Rattle.call.specs.Buffers.{zeroed, cleared, written}
+use Rattle.call.proofs.Table.{none-parts, none-says, unless-past, unless-value, value-passed, refused-before, refused-with}
 use Rattle.call.proofs.Buffers.{cleared-long, written-refused}
 use Rattle.lexicon.specs.Lexicon.{sinkOf}
 use Rattle.graph.specs.Graph.{graphOf, wordCount}
 use Rattle.graph.specs.Conditions.{placeCount}
-use Rattle.graph.specs.Checking.{Accepted, imageRows, firstRows, checkAnswer}
+use Rattle.graph.specs.Checking.{firstRows, checkAnswer}
+use Rattle.graph.proofs.Accepted.{Passed, accepted, places-limit}
 use Rattle.checking.specs.Tables.{TableOf, Opened, filled}
 use Rattle.ranking.specs.Hits.{Hit, hitBytes}
 use Rattle.decoder.specs.Decoding.{AcceptedFrames, frameRows, row, hits, decodeRows, decodeAnswer, decodeOut}
@@ -31,18 +32,7 @@ use Rattle.decoding.specs.Places.{firstSlot}
 use Rattle.decoding.specs.Running.{Empty, Run}
 use Rattle.decoding.proofs.Held.{length-held}
 use Rattle.decoding.proofs.Listing.{hits-held, held-small}
-use Rattle.decoding.proofs.Storing.{places-few}
 use Rattle.decoding.proofs.Whole.{zeros-empty}
-
--- rows after the one that decides change nothing
-refused-before : {A B : Type 0} (rows more : List Row) (a : A) (b : B) (r : Refusal) → unless rows a ≡ refused r → unless (rows ++ more) b ≡ refused r
-refused-before rows more a b r h =
-    let f = refused-first rows a r h in
-    rw (f .split, append-assoc (f .earlier) (on r true ∷ f .later) more) (unless-first (f .earlier) r (f .later ++ more) b (f .none-before))
-
--- nor does the value
-refused-with : {A B : Type 0} (rows : List Row) (a : A) (b : B) (r : Refusal) → unless rows a ≡ refused r → unless rows b ≡ refused r
-refused-with rows a b r h = let f = refused-first rows a r h in rw (f .split) (unless-first (f .earlier) r (f .later) b (f .none-before))
 
 -- ---- the work space
 
@@ -70,19 +60,7 @@ part-zeroed m b w ys zs e k h long z =
 
 -- ---- after checking
 
-pub record Passed (v x work : List ℕ) : Type 0 where
-  pub rows : noneApplies (firstRows v x work) ≡ true
-  pub room : workSpace ≤ length work
-  pub images : Accepted v x
-
 module _ (v x work : List ℕ) where
-  pub passed : {W : ℕ} → checkAnswer v x work ≡ value W → Passed v x work
-  unfolding checkAnswer firstRows spaceRows
-  passed {W} e =
-      let p = value-passed (firstRows v x work) (wordCount (graphOf x)) W e in
-      let n = none-parts (spaceRows work) (imageRows v x) (p .0) in
-      record { rows = p .0; room = ltb-false (length work) workSpace (none-says (spaceRows work) (n .0) .0); images = n .1 }
-
   module _ (frames : List ℕ) (n : ℕ) (out : List ℕ) where
     rows-so : decodeRows v x frames n work out ≡ firstRows v x work ++ callRows v frames n out
     unfolding decodeRows callRows
@@ -90,15 +68,15 @@ module _ (v x work : List ℕ) where
 
     pub decode-refused : {r : Refusal} → checkAnswer v x work ≡ refused r → decodeAnswer v x frames n work out ≡ refused r
     unfolding checkAnswer decodeAnswer
-    decode-refused {r} e = rw rows-so (refused-before (firstRows v x work) (callRows v frames n out) (wordCount (graphOf x)) _ r e)
+    decode-refused e = rw rows-so (refused-before (firstRows v x work) (callRows v frames n out) (wordCount (graphOf x)) _ e)
 
     pub out-refused : {r : Refusal} → decodeAnswer v x frames n work out ≡ refused r → decodeOut v x frames n work out ≡ out
     unfolding decodeOut
     out-refused e = written-refused _ out e
 
-    pub call-refused : {r : Refusal} → Passed v x work → unless {A = ℕ} (callRows v frames n out) 0 ≡ refused r → decodeAnswer v x frames n work out ≡ refused r
+    pub call-refused : {W : ℕ} {r : Refusal} → Passed v x work W → unless {A = ℕ} (callRows v frames n out) 0 ≡ refused r → decodeAnswer v x frames n work out ≡ refused r
     unfolding decodeAnswer
-    call-refused {r} p e = rw rows-so (unless-past (firstRows v x work) (callRows v frames n out) _ (p .rows) ∙ refused-with {A = ℕ} (callRows v frames n out) 0 _ r e)
+    call-refused p e = rw rows-so (unless-past (firstRows v x work) (callRows v frames n out) _ (p .rows) ∙ refused-with {A = ℕ} (callRows v frames n out) 0 _ e)
 
     -- no row applies
     pub record Clear : Type 0 where
@@ -117,17 +95,17 @@ module _ (v x work : List ℕ) where
         let b = bounds 1 8 n (not-false _ (s .0)) in
         record { none = p; heard = q .0; some = b .0; few = b .1; room = ltb-false (length out) (8 * n) (s .1 .0) }
 
-    pub call-answer : Passed v x work → Clear → decodeAnswer v x frames n work out ≡ value (length (hits v (graphOf x) frames n))
+    pub call-answer : {W : ℕ} → Passed v x work W → Clear → decodeAnswer v x frames n work out ≡ value (length (hits v (graphOf x) frames n))
     unfolding decodeAnswer
     call-answer p c = rw rows-so (unless-past (firstRows v x work) (callRows v frames n out) _ (p .rows) ∙ unless-value (callRows v frames n out) _ (c .none))
 
-    pub call-out : Passed v x work → Clear
+    pub call-out : {W : ℕ} → Passed v x work W → Clear
         → hitBytes (hits v (graphOf x) frames n) ++ drop (length (hitBytes (hits v (graphOf x) frames n))) out ≡ decodeOut v x frames n work out
     unfolding decodeOut written
     call-out p c = rw (call-answer p c)
 
     -- a store of n tokens a place
-    pub call-run : {W : ℕ} {lists counts firsts b : List ℕ} → Passed v x work → Clear → Opened (value W) x lists counts
+    pub call-run : {W : ℕ} {lists counts firsts b : List ℕ} → Passed v x work W → Clear → Opened (value W) x lists counts
         → TableOf (sinkOf x) (firstSlot v (graphOf x) n) firsts → length b ≡ 8 * (n * placeCount v (graphOf x)) → Run v x frames n lists counts firsts b
     unfolding filled
     call-run p c o t l = record {
@@ -136,8 +114,8 @@ module _ (v x work : List ℕ) where
       heard = c .heard;
     }
 
-    pub store-few : Passed v x work → Clear → 8 * (n * placeCount v (graphOf x)) ≤ 64000
-    store-few p c = let room : n * placeCount v (graphOf x) ≤ 8 * 1000 = mul-le-mul {n₂ = 8} {m₂ = 1000} (c .few) (places-few v x (p .images)) in omega (arith, room)
+    pub store-few : {W : ℕ} → Passed v x work W → Clear → 8 * (n * placeCount v (graphOf x)) ≤ 64000
+    store-few p c = let room : n * placeCount v (graphOf x) ≤ 8 * 1000 = mul-le-mul {n₂ = 8} {m₂ = 1000} (c .few) (places-limit (accepted (p .images))) in omega (arith, room)
 
     few-hits : length (hits v (graphOf x) frames n) ≤ n
     unfolding hits

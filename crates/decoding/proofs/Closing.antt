@@ -1,37 +1,37 @@
 -- The end of a run. The search for the arc to the sink: its increment is what the successors before it add up to. And the list of hits while the
 -- tokens of each node's last state are offered to it. Assumes nothing.
 use Prim.Native.Nat.{ℕ, suc, _+_, _-_, _*_, _≤_, _<_}
-use mathlib.Core.Path.{_≡_, refl, sym, ap, ap₂, _∙_}
+use mathlib.Core.Path.{_≡_, refl, sym, ap, _∙_}
 use mathlib.Core.Bool.{Bool, true, false, _||_, true≢false}
-use mathlib.Core.List.{List, [], _∷_, _++_, map, map-append, append-nil, append-assoc, List·Memᴰ, List·Memᴰ·head as here, Memᴰ·append-right as in-right, Memᴰ·of-map, List·Memᴰ·not-nil as not-nil}
+use mathlib.Core.List.{List, [], _∷_, _++_, map, append-nil, List·Memᴰ, List·Memᴰ·head as here, Memᴰ·append-right as in-right, Memᴰ·of-map, List·Memᴰ·not-nil as not-nil}
 use native.Mathlib.Omega.{arith}
 use native.Mathlib.Nat.{add-zero, mul-add}
-use borrow.Author.Tests.{ne-eqb, ltb-false}
+use borrow.Author.Tests.{ne-eqb}
 use lib.Dec.{eqb}
 use lib.IntN.{pos}
 use lib.ListN.{length, getD, take, replicate}
 use Rattle.endian.specs.Bytes.{u16}
 use Rattle.endian.specs.Lists.{sum, has}
 use Rattle.endian.proofs.Integers.{size-sum}
-use Rattle.endian.proofs.Lists.{mem-has, sum-append}
+use Rattle.endian.proofs.Lists.{mem-has}
 use Rattle.endian.proofs.Search.{has-mem}
 use Rattle.voice.specs.Voice.{letterCount, states}
 use Rattle.voice.proofs.Letters.{states-range, states-there}
 use Rattle.voice.proofs.Scores.{letters-few}
-use Rattle.lexicon.specs.Lexicon.{nodeCount, nodeLetter, sinkOf, arcsAt, successors}
+use Rattle.lexicon.specs.Lexicon.{nodeCount, nodeLetter, sinkOf, successors}
 use Rattle.lexicon.proofs.WellFormed.{letter-known}
-use Rattle.graph.specs.Graph.{graphOf, sink, pathCount, wordCount, increment}
-use Rattle.graph.specs.Conditions.{manyWords}
-use Rattle.graph.proofs.Sound.{Sound, sound}
-use Rattle.graph.proofs.Accepted.{AcceptedImages, accepted}
-use Rattle.graph.proofs.Codes.{pathCount-sink, pathCount-below, increment-at}
+use Rattle.graph.specs.Graph.{graphOf, sink, pathCount, increment}
+use Rattle.graph.proofs.Sound.{Sound}
+use Rattle.graph.proofs.Accepted.{AcceptedImages, accepted, sound-images, words-limit}
+use Rattle.graph.proofs.Codes.{pathCount-sink, pathCount-below, arc-count}
 use Rattle.checking.proofs.Tables.{entry}
-use Rattle.checking.proofs.Arcs.{shape-of, sound-of, nodes-there, ListThere, list-there, ArcsLeft, arcs-start, ArcNext, arc-next, arcs-done}
+use Rattle.checking.specs.Tables.{WellFormed}
+use Rattle.checking.proofs.Arcs.{shape-of, sound-of, nodes-there, list-entry, ArcNext, arc-next, arcs-done}
+use Rattle.checking.proofs.Increments.{CountsPassed, counts-start, split-here, increment-here, counts-below, counts-next}
 use Rattle.checking.proofs.Reached.{count-within-words}
 use Rattle.ranking.specs.Hits.{Hit}
 use Rattle.passing.specs.Best.{shift}
 use Rattle.passing.specs.Tokens.{bestTokens, lastState, finalScore, carried, ending}
-use Rattle.passing.proofs.Bounds.{arc-count}
 use Rattle.decoding.specs.Slots.{slots, offered, Room, Falling, Offer}
 use Rattle.decoding.specs.Held.{raised, held, Storable, upOf, downOf}
 use Rattle.decoding.specs.Places.{firstPlace}
@@ -46,12 +46,8 @@ use Rattle.decoding.proofs.Storing.{place-there, place-room, slot-small
 
 -- no arc before the offset leads there
 pub record EndAhead (x : List ℕ) (w at stop total : ℕ) : Type 0 where
-  pub earlier : List ℕ
-  pub later : List ℕ
-  pub arcs : ArcsLeft x w at stop later
-  pub split : successors x w ≡ earlier ++ later
-  pub total-is : total ≡ sum (map (pathCount (graphOf x)) earlier)
-  pub none-yet : has (sinkOf x) earlier ≡ false
+  pub counts : CountsPassed x w at stop total
+  pub none-yet : has (sinkOf x) (counts .earlier) ≡ false
 
 has-more : (a : ℕ) (l : List ℕ) (y : ℕ) → has a l ≡ false → ¬ (a ≡ y) → has a (l ++ (y ∷ [])) ≡ false
 unfolding has
@@ -63,26 +59,12 @@ has-more a (z ∷ l) y h n = go (eqb a z) h (has-more a l y)
     go false e ih = ih e n
 
 module _ {x lists counts : List ℕ} (a : Arcs x lists counts) {w : ℕ} (h : w ≤ nodeCount x) where
-  ok : Sound (graphOf x)
-  ok = sound-of (a .listed .well-formed)
+  formed : WellFormed x
+  formed = a .listed .well-formed
 
   below : w < sink (graphOf x)
   unfolding sink
   below = omega arith
-
-  pub vertex-entry : w < 402
-  vertex-entry = omega (arith, shape-of (a .listed .well-formed) .few)
-
-  pub next-entry : {s : ℕ} → s ≤ sinkOf x → s < 402
-  unfolding sinkOf
-  next-entry l = omega (arith, shape-of (a .listed .well-formed) .few)
-
-  list-entry : getD lists w 0 ≡ arcsAt x w
-  unfolding sinkOf
-  list-entry = entry (a .listed .table) {u = w} (omega arith)
-
-  pub list-at : ListThere x (getD lists w 0)
-  list-at = list-there (a .listed .well-formed) h list-entry
 
   pub count-entry : {s : ℕ} → s ≤ sinkOf x → getD counts s 0 ≡ pathCount (graphOf x) s
   count-entry {s} l = entry (a .counted) {u = s} (omega arith)
@@ -92,59 +74,39 @@ module _ {x lists counts : List ℕ} (a : Arcs x lists counts) {w : ℕ} (h : w 
   count-own = count-entry (omega arith)
 
   pub ahead-start : EndAhead x w (getD lists w 0 + 2) (getD lists w 0 + 2 + 2 * u16 x (getD lists w 0)) 0
-  unfolding sum has
-  ahead-start = record {
-    earlier = [];
-    later = successors x w;
-    arcs = arcs-start (a .listed .well-formed) h list-entry;
-    split = refl;
-    total-is = refl;
-    none-yet = refl;
-  }
+  unfolding has counts-start
+  ahead-start = record { counts = counts-start formed h (list-entry (a .listed) h); none-yet = refl }
 
   module _ {at stop total : ℕ} (p : EndAhead x w at stop total) where
     module _ (l : at < stop) where
-      pub ahead-arc : ArcNext x w at stop (p .later)
-      ahead-arc = arc-next (p .arcs) l
-
-      split-here : successors x w ≡ p .earlier ++ u16 x at ∷ ahead-arc .others
-      split-here = p .split ∙ ap (λ m. p .earlier ++ m) (ahead-arc .split)
-
-      increment-here : total ≡ increment (graphOf x) w (u16 x at)
-      increment-here = p .total-is ∙ sym (increment-at ok below (p .earlier) (ahead-arc .others) (u16 x at) split-here)
-
-      member : List·Memᴰ (u16 x at) (successors x w)
-      member = rw split-here (in-right (p .earlier) (here refl))
+      pub ahead-arc : ArcNext x w at stop (p .counts .later)
+      ahead-arc = arc-next (p .counts .arcs) l
 
       pub ahead-here : u16 x at ≡ sinkOf x → LastArc (graphOf x) w total
       unfolding sink sinkOf
       ahead-here e =
+          let member : List·Memᴰ (u16 x at) (successors x w) = rw (split-here formed h (p .counts) ahead-arc) (in-right (p .counts .earlier) (here refl)) in
           let m : List·Memᴰ (suc (nodeCount x)) (successors x w) = rw e at member in
-          record { there = λ t. rw e at increment-here; none = λ f. absurd (true≢false (sym (mem-has m) ∙ f)) }
+          record { there = λ t. rw e at (increment-here formed h (p .counts) ahead-arc); none = λ f. absurd (true≢false (sym (mem-has m) ∙ f)) }
 
       pub ahead-below : total + pathCount (graphOf x) (u16 x at) ≤ pathCount (graphOf x) w
-      ahead-below = omega (arith, increment-here, arc-count ok below member)
+      ahead-below = counts-below formed h (p .counts) ahead-arc
 
       pub ahead-next : ¬ (u16 x at ≡ sinkOf x) → EndAhead x w (at + 2) stop (total + pathCount (graphOf x) (u16 x at))
-      unfolding sum
+      unfolding counts-next
       ahead-next n = record {
-        earlier = p .earlier ++ (u16 x at ∷ []);
-        later = ahead-arc .others;
-        arcs = ahead-arc .after;
-        split = split-here ∙ sym (append-assoc (p .earlier) (u16 x at ∷ []) (ahead-arc .others));
-        total-is = ap₂ _+_ (p .total-is) (sym (add-zero (pathCount (graphOf x) (u16 x at))))
-            ∙ sym (ap sum (map-append (pathCount (graphOf x)) (p .earlier) (u16 x at ∷ [])) ∙ sum-append (map (pathCount (graphOf x)) (p .earlier)) _);
-        none-yet = has-more (sinkOf x) (p .earlier) (u16 x at) (p .none-yet) (λ e. n (sym e));
+        counts = counts-next formed h (p .counts) ahead-arc;
+        none-yet = has-more (sinkOf x) (p .counts .earlier) (u16 x at) (p .none-yet) (λ e. n (sym e));
       }
 
     pub ahead-done : stop ≤ at → LastArc (graphOf x) w total
     unfolding sink sinkOf
     ahead-done l =
-        let e : successors x w ≡ p .earlier = p .split ∙ rw (arcs-done (p .arcs) l) (append-nil (p .earlier)) in
+        let e : successors x w ≡ p .counts .earlier = p .counts .split ∙ rw (arcs-done (p .counts .arcs) l) (append-nil (p .counts .earlier)) in
         let f : has (suc (nodeCount x)) (successors x w) ≡ false = rw e (p .none-yet) in
         record {
           there = λ t. absurd (true≢false (sym t ∙ f));
-          none = λ f. p .total-is ∙ ap (λ l. sum (map (pathCount (graphOf x)) l)) (sym e) ∙ sym (pathCount-below ok below);
+          none = λ f. p .counts .total-is ∙ ap (λ l. sum (map (pathCount (graphOf x)) l)) (sym e) ∙ sym (pathCount-below (sound-of formed) below);
         }
 
 -- ---- a node's last state
@@ -153,19 +115,12 @@ module _ {v x : List ℕ} {n : ℕ} {lists counts firsts : List ℕ} (r : Ready 
   pub images : AcceptedImages v x
   images = accepted (r .accepted)
 
-  pub sound-images : Sound (graphOf x)
-  sound-images = sound (letterCount v) x (images .lexicon)
-
-  pub few-words : wordCount (graphOf x) ≤ 1048576
-  unfolding manyWords
-  few-words = ltb-false _ (wordCount (graphOf x)) (images .few-words)
-
   pub arcs-of : Arcs x lists counts
   unfolding sink
   arcs-of = record {
     listed = record { well-formed = record { letters = letterCount v; judged = images .lexicon }; table = r .lists-of };
     counted = r .counts-of;
-    few = λ {u} h. omega (arith, count-within-words sound-images (images .all-reached) {u = u} (omega arith), few-words);
+    few = λ {u} h. omega (arith, count-within-words (sound-images images) (images .all-reached) {u = u} (omega arith), words-limit images);
   }
 
 -- the last state of a node, as it is read
@@ -225,11 +180,10 @@ module _ {v x : List ℕ} {n : ℕ} {lists counts firsts : List ℕ} {w : ℕ} {
   end-at = end-place (e .ready) (e .roomy) (e .low) (e .high)
 
   graph-ok : Sound (graphOf x)
-  graph-ok = sound-images (e .ready)
+  graph-ok = sound-images (images (e .ready))
 
   under : w < sink (graphOf x)
-  unfolding sink
-  under = omega (arith, e .high)
+  under = below (arcs-of (e .ready)) (e .high)
 
   -- what the last state holds
   abbrev last-tokens : List Hit
@@ -259,7 +213,7 @@ module _ {v x : List ℕ} {n : ℕ} {lists counts firsts : List ℕ} {w : ℕ} {
   end-from : (h : Hit) → List·Memᴰ h last-tokens → Storable h
   end-from h i =
       let B = e .bound (end-at .place) i in
-      record { score = B .score; code = omega (arith, B .code, few-words (e .ready)) }
+      record { score = B .score; code = omega (arith, B .code, words-limit (images (e .ready))) }
 
   keeps : bestTokens n last-tokens ≡ last-tokens
   keeps = e .stored .kept (end-at .place)
@@ -274,7 +228,7 @@ module _ {v x : List ℕ} {n : ℕ} {lists counts firsts : List ℕ} {w : ℕ} {
         let B = e .bound (end-at .place) i in
         record {
           score = omega (arith, B .score, size-sum (h .score) (pos 0));
-          code = omega (arith, B .code, few-words (e .ready), arc-count graph-ok under (has-mem (successors x w) t), q);
+          code = omega (arith, B .code, words-limit (images (e .ready)), arc-count graph-ok under (has-mem (successors x w) t), q);
         }
 
     end-moves : Moves (pos 0) d (bestTokens n last-tokens)

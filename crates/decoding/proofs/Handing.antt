@@ -17,7 +17,7 @@ use Rattle.voice.proofs.Scores.{letters-few}
 use Rattle.lexicon.specs.Lexicon.{nodeCount, nodeLetter, sinkOf, arcsAt, successors}
 use Rattle.lexicon.proofs.WellFormed.{letter-known}
 use Rattle.graph.specs.Graph.{Graph, graphOf, sink, pathCount, wordCount, increment}
-use Rattle.graph.proofs.Codes.{increment-at}
+use Rattle.graph.proofs.Codes.{increment-at, arc-count}
 use Rattle.graph.proofs.Accepted.{AcceptedImages, accepted}
 use Rattle.checking.specs.Tables.{WellFormed}
 use Rattle.checking.proofs.Tables.{entry}
@@ -29,7 +29,6 @@ use Rattle.passing.specs.InPlace.{passOn}
 use Rattle.passing.proofs.Order.{hits-strict}
 use Rattle.passing.proofs.Best.{best-from, best-best}
 use Rattle.passing.proofs.InPlace.{put-node}
-use Rattle.passing.proofs.Bounds.{arc-count}
 use Rattle.decoding.specs.Slots.{Changed}
 use Rattle.decoding.specs.Held.{held, pad, downOf}
 use Rattle.decoding.specs.Gains.{entryGain}

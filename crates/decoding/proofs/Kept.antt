@@ -1,24 +1,19 @@
 -- Places that hold the n best of candidates: what they hold after their tokens moved and after those of another were offered, what `offer` asks of
 -- them, and that tokens within the bounds of 1,000 frames can be stored. By the laws of the n best. Assumes nothing.
-use Prim.Native.Nat.{ℕ, _^_, _<_, _≤_}
+use Prim.Native.Nat.{ℕ, _≤_}
 use mathlib.Core.Path.{_≡_, sym, ap, _∙_}
 use mathlib.Core.List.{List, _++_, map}
 use native.Mathlib.Omega.{arith}
 use lib.IntN.{ℤ}
 use lib.ListN.{length, take, length-take}
-use Rattle.graph.specs.Graph.{Graph, wordCount}
 use Rattle.ranking.specs.Hits.{Hit}
 use Rattle.passing.specs.Best.{rowOf, best, byCode, shift}
 use Rattle.passing.proofs.Order.{hits-strict}
 use Rattle.passing.proofs.Best.{best-from, best-ranked, best-right}
 use Rattle.passing.proofs.Shifting.{best-shift}
-use Rattle.passing.proofs.Bounds.{Bounded}
 use Rattle.decoding.specs.Slots.{slots, offered, shifted, Room, Falling, Offer}
-use Rattle.decoding.specs.Held.{held, Storable, upOf, downOf}
+use Rattle.decoding.specs.Held.{held, upOf, downOf}
 use Rattle.decoding.proofs.Held.{AllStorable, Moves, shifted-held, offered-held, held-movable, held-falling}
-
-pub bounded-storable : {g : Graph} {t u : ℕ} {h : Hit} → Bounded g t u h → t < 1000 → wordCount g < 2 ^ 32 → Storable h
-bounded-storable b f w = record { score = omega (arith, b .score); code = omega (arith, b .code) }
 
 best-storable : (n : ℕ) (l : List Hit) → AllStorable l → AllStorable (best byCode n l)
 best-storable n l s h i = s h (best-from hits-strict n l h i)

@@ -14,12 +14,13 @@ use lib.Signed.{mag}
 use mir.Syntax.{w32}
 use mir.Val.{SFits, toZ, ofZ}
 use mir.Facts.{toZ-ofZ}
-use lib.ListN.{length, getD, set, take, drop, replicate, length-append, length-drop}
+use lib.ListN.{length, getD, set, take, drop, replicate, length-append, length-drop, drop-of-length-le}
 use lib.Seq.{sets, sets-eq, length-sets, drop-cons, drop-append-add, take-append-seam, drop-drop}
 use Rattle.endian.specs.Bytes.{i32Bytes, u32Bytes}
-use Rattle.endian.proofs.Lists.{mem-getD}
+use Rattle.endian.proofs.Lists.{mem-getD, flatMap-append}
 use Rattle.endian.proofs.Signed.{toZ-low}
 use Rattle.ranking.specs.Hits.{Hit, hit, hitBytes}
+use Rattle.ranking.proofs.Hits.{length-hitBytes}
 use Rattle.decoding.specs.Held.{raised, biased, tokenOf, pad, held, Storable}
 use Rattle.decoding.specs.Listing.{hitOf, hitsOf, Listable}
 
@@ -58,19 +59,9 @@ module _ (q : ℕ) (h : q < 268435456) where
 abbrev pub bytesOf : Hit → List ℕ
 bytesOf h = i32Bytes (h .score) ++ u32Bytes (h .code)
 
-length-bytes : (h : Hit) → length (bytesOf h) ≡ 8
-unfolding i32Bytes u32Bytes
-length-bytes h = refl
-
 hitBytes-append : (l m : List Hit) → hitBytes (l ++ m) ≡ hitBytes l ++ hitBytes m
-unfolding hitBytes flatMap
-hitBytes-append [] m = refl
-hitBytes-append (h ∷ l) m = rw (hitBytes-append l m) (sym (append-assoc (bytesOf h) (hitBytes l) (hitBytes m)))
-
-pub length-hitBytes : (l : List Hit) → length (hitBytes l) ≡ 8 * length l
-unfolding hitBytes flatMap
-length-hitBytes [] = refl
-length-hitBytes (h ∷ l) = length-append (bytesOf h) (hitBytes l) ∙ rw (length-bytes h, length-hitBytes l) (omega arith)
+unfolding hitBytes
+hitBytes-append l m = flatMap-append _ l m
 
 -- ---- writing
 
@@ -96,13 +87,7 @@ module _ {tokens out₀ out : List ℕ} {i : ℕ} (l : Listable tokens out₀) (
   -- or all eight are written
   pub write-all : length tokens ≤ i → hitsOf tokens ≡ w .done
   unfolding hitsOf
-  write-all h = w .split ∙ rw (drop-none i tokens h) (append-nil (w .done))
-    where
-      drop-none : (n : ℕ) (m : List ℕ) → length m ≤ n → drop n m ≡ []
-      drop-none zero [] h = refl
-      drop-none zero (x ∷ m) h = absurd (omega arith)
-      drop-none (suc n) [] h = refl
-      drop-none (suc n) (x ∷ m) h = drop-none n m (omega arith)
+  write-all h = w .split ∙ rw (drop-of-length-le tokens h) (append-nil (w .done))
 
   -- what is written then
   pub write-done : hitsOf tokens ≡ w .done → (out ≡ hitBytes (hitsOf tokens) ++ drop (length (hitBytes (hitsOf tokens))) out₀) × (i ≡ length (hitsOf tokens))

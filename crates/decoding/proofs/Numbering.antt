@@ -8,21 +8,19 @@ use native.Mathlib.Nat.{add-zero, mul-zero, mul-add, mul-le-mul}
 use native.Mathlib.Omega.{arith}
 use native.Mathlib.Numerals.{add-one}
 use native.Mathlib.Decide.{decLt}
-use lib.ListN.{length, getD, set, replicate}
+use lib.ListN.{getD, set, replicate}
 use lib.Dec.{ltb}
 use borrow.Author.Tests.{le-ltb}
 use Rattle.endian.specs.Lists.{from, sum}
 use Rattle.endian.proofs.Lists.{from-add, sum-append}
-use Rattle.voice.specs.Voice.{letterCount, states}
-use Rattle.voice.proofs.Letters.{states-range, states-there}
+use Rattle.voice.specs.Voice.{states}
 use Rattle.lexicon.specs.Lexicon.{nodeCount, nodeLetter, sinkOf}
-use Rattle.lexicon.proofs.WellFormed.{letter-known}
 use Rattle.graph.specs.Graph.{Graph, graphOf, sink}
 use Rattle.graph.specs.Conditions.{placeCount}
 use Rattle.checking.specs.Tables.{TableOf}
 use Rattle.checking.proofs.Tables.{table-start, table-next}
-use Rattle.checking.proofs.Arcs.{nodes-there, shape-of}
-use Rattle.checking.proofs.Counting.{Images, well-formed}
+use Rattle.checking.proofs.Arcs.{shape-of}
+use Rattle.checking.proofs.Counting.{Images, well-formed, node-read}
 use Rattle.decoding.specs.Places.{firstPlace, firstSlot}
 
 module _ (v : List ℕ) (g : Graph) where
@@ -93,39 +91,19 @@ slots-start v x n h = rw h (record {
     root zero = sym (mul-zero n)
     root (suc u) = rw (le-ltb (suc u) 0 (omega arith), le-ltb (suc u) 1 (omega arith))
 
--- the bytes that are read for a node
-pub record NodeRead (v x : List ℕ) (n node slot : ℕ) (firsts : List ℕ) : Type 0 where
-  pub node-there : 1 + node < length x
-  pub states-there : 2 + 2 * getD x (1 + node) 0 < length v
-  pub few : getD v (2 + 2 * getD x (1 + node) 0) 0 ≤ 4
-  pub slots-few : n * getD v (2 + 2 * getD x (1 + node) 0) 0 ≤ 32
-  pub after : SlotsFound v x n (node + 1) (slot + n * getD v (2 + 2 * getD x (1 + node) 0) 0) (set firsts node slot)
-
-pub node-read : {v x : List ℕ} {n node slot : ℕ} {firsts : List ℕ} → Images v x → n ≤ 8 → SlotsFound v x n node slot firsts → node ≤ nodeCount x
-    → NodeRead v x n node slot firsts
+pub slots-next : {v x : List ℕ} {n node slot : ℕ} {firsts : List ℕ} → Images v x → n ≤ 8 → SlotsFound v x n node slot firsts → node ≤ nodeCount x
+    → (n * getD v (2 + 2 * getD x (1 + node) 0) 0 ≤ 32) × SlotsFound v x n (node + 1) (slot + n * getD v (2 + 2 * getD x (1 + node) 0) 0) (set firsts node slot)
 unfolding nodeLetter states sinkOf
-node-read {v} {x} {n} {node} {slot} {firsts} i e p h = record {
-  node-there = omega (arith, nodes-there (well-formed i));
-  states-there = states-there v (i .voice) known;
-  few = few;
-  slots-few = slots-few;
-  after = rw add-one (record {
-    table = table-next (p .table) (omega (arith, shape-of (well-formed i) .few)) (p .here);
-    here = next node (p .first) (p .here);
-    first = omega arith;
-    last = omega arith;
-    few = omega (arith, p .few, slots-few);
-  });
-}
+slots-next {v} {x} {n} {node} {slot} {firsts} i e p h = (slots-few, rw add-one (record {
+  table = table-next (p .table) (omega (arith, shape-of (well-formed i) .few)) (p .here);
+  here = next node (p .first) (p .here);
+  first = omega arith;
+  last = omega arith;
+  few = omega (arith, p .few, slots-few);
+}))
   where
-    known : nodeLetter x node < letterCount v
-    known = letter-known (letterCount v) x (i .lexicon) node (p .first) h
-
-    few : states v (nodeLetter x node) ≤ 4
-    few = states-range v (i .voice) known .1
-
     slots-few : n * states v (nodeLetter x node) ≤ 32
-    slots-few = mul-le-mul {n₂ = 8} {m₂ = 4} e few
+    slots-few = mul-le-mul {n₂ = 8} {m₂ = 4} e (node-read i (p .first) h .few)
 
     next : (u : ℕ) → 1 ≤ u → slot ≡ firstSlot v (graphOf x) n u → slot + n * states v (nodeLetter x u) ≡ firstSlot v (graphOf x) n (suc u)
     next zero l q = absurd (omega arith)

@@ -1,6 +1,6 @@
--- A candidate and its number: the number is greater exactly if the candidate ranks higher, its halves tell score and code, and a move of the
+-- A candidate and its number: the number is greater exactly if the candidate ranks higher, its lower half tells the code, and a move of the
 -- candidate is a sum and a difference of the number. By linear arithmetic on the two halves. Assumes nothing.
-use Prim.Native.Nat.{ℕ, _+_, _-_, _/_, _<_, _≤_}
+use Prim.Native.Nat.{ℕ, _+_, _-_, _<_, _≤_}
 use mathlib.Core.Path.{_≡_, refl, sym, ap, _∙_}
 use mathlib.Core.Bool.{Bool, true, false}
 use mathlib.Core.Logic.{_↔_}
@@ -24,11 +24,7 @@ raised-is k (negsuc n) h = omega arith
 biased-is : (h : Hit) → Storable h → biased (h .score) + down (h .score) ≡ 134217728 + up (h .score)
 biased-is h s = raised-is 134217728 (h .score) (omega (arith, s .score))
 
--- ---- the halves
-
-pub score-half : (h : Hit) → Storable h → tokenOf h / 4294967296 ≡ biased (h .score)
-unfolding tokenOf
-score-half h s = omega (arith, s .code)
+-- ---- the lower half
 
 pub code-half : (h : Hit) → Storable h → codePart (tokenOf h) ≡ 4294967295 - h .code
 unfolding tokenOf codePart

@@ -8,14 +8,12 @@ use mathlib.Core.Option.{Option, none, some}
 use native.Mathlib.Omega.{arith}
 use native.Mathlib.Nat.{mul-le-mul, mul-le-mul-right, mul-comm, suc-mul}
 use native.Mathlib.Decide.{ℕ-discrete, decLt}
-use borrow.Author.Tests.{ltb-false}
 use lib.IntN.{ℤ, natAbs}
 use Rattle.endian.proofs.Integers.{size-sum}
-use Rattle.call.specs.Limits.{mostWords}
 use Rattle.graph.specs.Graph.{Graph, graphOf, sink, pathCount, wordCount, increment}
-use Rattle.graph.specs.Conditions.{placeCount, manyPlaces, manyWords}
+use Rattle.graph.specs.Conditions.{placeCount}
 use Rattle.graph.specs.Checking.{Accepted}
-use Rattle.graph.proofs.Accepted.{accepted}
+use Rattle.graph.proofs.Accepted.{accepted, places-limit, words-limit}
 use Rattle.ranking.specs.Hits.{Hit}
 use Rattle.decoder.specs.Score.{plus}
 use Rattle.passing.specs.Best.{shift}
@@ -106,12 +104,10 @@ module _ {v : List ℕ} {g : Graph} where
 
 module _ (v x : List ℕ) where
   pub places-few : Accepted v x → placeCount v (graphOf x) ≤ 1000
-  unfolding manyPlaces
-  places-few a = ltb-false 1000 (placeCount v (graphOf x)) (accepted a .few-places)
+  places-few a = places-limit (accepted a)
 
   pub words-few : Accepted v x → wordCount (graphOf x) < 2 ^ 32
-  unfolding manyWords
-  words-few a = omega (arith, ltb-false mostWords (wordCount (graphOf x)) (accepted a .few-words))
+  words-few a = omega (arith, words-limit (accepted a))
 
   pub place-there : {u s : ℕ} → Place v (graphOf x) u s → firstPlace v (graphOf x) u + s < placeCount v (graphOf x)
   unfolding sink

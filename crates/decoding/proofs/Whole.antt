@@ -5,8 +5,9 @@ use mathlib.Core.Path.{_≡_, refl, sym, ap, _∙_}
 use mathlib.Core.Logic.{⊎-elim}
 use mathlib.Core.List.{List, [], _∷_, _++_, flatMap, append-nil, append-assoc, List·Memᴰ, List·Memᴰ·not-nil as not-nil, List·Memᴰ·append-cases as append-cases}
 use native.Mathlib.Omega.{arith}
-use lib.ListN.{length, getD, replicate, length-take}
+use lib.ListN.{length, replicate, length-take}
 use Rattle.endian.specs.Bytes.{u16, u32}
+use Rattle.endian.proofs.Lists.{getD-copies}
 use Rattle.lexicon.specs.Lexicon.{nodeCount}
 use Rattle.graph.specs.Graph.{graphOf}
 use Rattle.ranking.specs.Hits.{Hit}
@@ -28,14 +29,9 @@ use Rattle.decoding.proofs.Closing.{end-storable}
 
 -- ---- the start
 
-getD-zeros : (m i : ℕ) → getD {A = ℕ} (replicate m 0) i 0 ≡ 0
-getD-zeros zero i = refl
-getD-zeros (suc m) zero = refl
-getD-zeros (suc m) (suc i) = getD-zeros m i
-
 pub zeros-empty : (m : ℕ) → Empty (replicate m 0)
 unfolding tokenAt u32 u16
-zeros-empty m j = simp (getD-zeros m)
+zeros-empty m j = simp (getD-copies {A = ℕ} m)
 
 -- ---- the ends
 

@@ -1,8 +1,7 @@
 // What decoding tests once the images are accepted: rows 11, 12 and 16.
 ghost use mathlib.Core.Path.{_≡_};
-ghost use mathlib.Core.Bool.{not};
 ghost use lib.Dec.{leb};
-ghost use Rattle.endian.specs.Lists.{within, any};
+ghost use Rattle.endian.specs.Lists.{any};
 ghost use Rattle.call.specs.Table.{answerOf, unless};
 ghost use Rattle.voice.specs.Fields.{wellFormed};
 ghost use Rattle.voice.specs.Voice.{voiceVerdict};
@@ -10,23 +9,12 @@ ghost use Rattle.decoding.specs.Calling.{callRows};
 use crate::scores::symbols_at;
 use call::Answer;
 use call::Refusal;
+use call::inside;
 
 // The most frames (row 11) and the most hits of a list (row 12).
 const FRAMES: usize = 1000;
 
 const HITS: usize = 8;
-
-fn outside(x: usize, low: usize, high: usize) -> bool
-    ensures { λ r. ⌜ r ≡ not (within low high x) ⌝ }
-{
-    if x < low {
-        return true;
-    }
-    if high < x {
-        return true;
-    }
-    false
-}
 
 // Whether some symbol is not below K.
 fn has_bad_symbol(symbols: u8, frames: &[u8]) -> bool
@@ -47,13 +35,13 @@ pub(crate) fn judge_call(voice: &[u8], frames: &[u8], n: u32, out: &[u8]) -> Ans
     requires { ⌜ voiceVerdict (now voice) ≡ wellFormed ⌝ }
     ensures { λ r. ⌜ answerOf r ≡ unless (callRows (now (voice .entry)) (now (frames .entry)) n (now (out .entry))) 0 ⌝ }
 {
-    if outside(frames.len(), 1, FRAMES) {
+    if !inside(frames.len(), 1, FRAMES) {
         return Answer::Refused(Refusal::Frames);
     }
     if has_bad_symbol(voice[symbols_at(voice)], frames) {
         return Answer::Refused(Refusal::Frames);
     }
-    if outside(n as usize, 1, HITS) {
+    if !inside(n as usize, 1, HITS) {
         return Answer::Refused(Refusal::Count);
     }
     if out.len() < 8 * (n as usize) {

@@ -3,13 +3,13 @@
 use mathlib.Core.Path.{_≡_, refl, sym, ap, ap₂, _∙_}
 use mathlib.Core.Logic.{_⊎_, inl, inr, ⊎-elim}
 use mathlib.Core.Bool.{Bool, true, false, cond, false≢true}
-use mathlib.Core.List.{List, [], _∷_, _++_, map, flatMap, List·Memᴰ, List·Memᴰ·head, List·Memᴰ·tail, Memᴰ·cast, Memᴰ·append-left, Memᴰ·append-right, List·Memᴰ·append-cases, List·Memᴰ·cases-cons, List·Memᴰ·not-nil}
+use mathlib.Core.List.{List, [], _∷_, _++_, map, flatMap, append-assoc, List·Memᴰ, List·Memᴰ·head, List·Memᴰ·tail, Memᴰ·cast, Memᴰ·append-left, Memᴰ·append-right, List·Memᴰ·append-cases, List·Memᴰ·cases-cons, List·Memᴰ·not-nil}
 use mathlib.Core.Option.{none, some}
 use Prim.Native.Nat.{ℕ, zero, suc, _+_, _≤_, _<_}
 use native.Mathlib.Nat.{add-assoc, zero-add, add-zero, suc-add, add-suc}
 use native.Mathlib.Decide.{ℕ-discrete}
 use native.Mathlib.Omega.{arith}
-use lib.ListN.{length, getD, take, drop, length-append, take-append-drop}
+use lib.ListN.{length, getD, take, drop, replicate, length-append, take-append-drop}
 use lib.Seq.{getD-drop, drop-drop}
 use native.Mathlib.Numerals.{add-one}
 use lib.Dec.{eqb}
@@ -25,6 +25,12 @@ module _ {A : Type 0} where
   mem-getD (a ∷ l) zero d h = List·Memᴰ·head refl
   mem-getD (a ∷ l) (suc i) d h = List·Memᴰ·tail (mem-getD l i d (omega arith))
 
+  -- in a list of copies, and past its end
+  pub getD-copies : (n i : ℕ) (a : A) → getD (replicate n a) i a ≡ a
+  getD-copies zero i a = refl
+  getD-copies (suc n) zero a = refl
+  getD-copies (suc n) (suc i) a = getD-copies n i a
+
   -- where a member stands
   pub record Place (l : List A) (d a : A) : Type 0 where
     pub index : ℕ
@@ -34,6 +40,11 @@ module _ {A : Type 0} where
   pub place : (d : A) {a : A} {l : List A} → List·Memᴰ a l → Place l d a
   place d (List·Memᴰ·head e) = record { index = 0; inside = omega arith; holds = sym e }
   place d (List·Memᴰ·tail m) = let u = place d m in let h = u .inside in record { index = suc (u .index); inside = omega arith; holds = u .holds }
+
+  -- what stands before a member, and what behind it
+  pub mem-split : {a : A} {l : List A} → List·Memᴰ a l → (x : List A) × (y : List A) × (l ≡ x ++ a ∷ y)
+  mem-split (List·Memᴰ·head {xs} e) = ([], xs, rw e)
+  mem-split (List·Memᴰ·tail {x} i) = let r = mem-split i in (x ∷ r .0, r .1, ap (λ l. x ∷ l) (r .2))
 
   pub take-out : (n : ℕ) (l : List A) {a : A} → List·Memᴰ a (take n l) → List·Memᴰ a l
   take-out n l m = rw (take-append-drop n l) at (Memᴰ·append-left (drop n l) m)
@@ -106,6 +117,11 @@ module _ {A B : Type 0} where
       go : List·Memᴰ b (f c) ⊎ List·Memᴰ b (flatMap f l) → (List·Memᴰ b (flatMap f l) → (a : A) × List·Memᴰ a l × List·Memᴰ b (f a)) → (a : A) × List·Memᴰ a (c ∷ l) × List·Memᴰ b (f a)
       go (inl k) ih = (c, List·Memᴰ·head refl, k)
       go (inr k) ih = let u = ih k in (u .0, List·Memᴰ·tail (u .1), u .2)
+
+  pub flatMap-append : (f : A → List B) (l m : List A) → flatMap f (l ++ m) ≡ flatMap f l ++ flatMap f m
+  unfolding flatMap
+  flatMap-append f [] m = refl
+  flatMap-append f (a ∷ l) m = rw (flatMap-append f l m, append-assoc)
 
   pub map-cong : (f g : A → B) (l : List A) → ((a : A) → List·Memᴰ a l → f a ≡ g a) → map f l ≡ map g l
   map-cong f g [] h = refl

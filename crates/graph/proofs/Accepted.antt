@@ -1,22 +1,27 @@
--- What acceptance says: each of the rows 2 to 10 does not apply, so both images are well formed, every letter is known, and no two full paths
--- have the same letters. Assumes nothing.
-use Prim.Native.Nat.{ℕ}
+-- What acceptance says: each of the rows 2 to 10 does not apply, so both images are well formed, every letter is known, no two full paths have
+-- the same letters, and W and the places keep their limits. And what it shows that checking has answered W. Assumes nothing.
+use Prim.Native.Nat.{ℕ, _≤_}
 use mathlib.Core.Path.{_≡_, refl}
-use mathlib.Core.Bool.{false, true≢false}
+use mathlib.Core.Bool.{true, false, true≢false}
 use mathlib.Core.List.{List, Memᴰ·of-map}
-use borrow.Author.Tests.{ltb-true, leb-true}
+use borrow.Author.Tests.{ltb-true, ltb-false, leb-true}
 use lib.Dec.{ltb, leb}
+use lib.ListN.{length}
 use Rattle.endian.specs.Lists.{select}
 use Rattle.endian.proofs.Booleans.{and-out}
 use Rattle.endian.proofs.Lists.{select-out}
-use Rattle.call.proofs.Table.{none-says}
+use Rattle.call.specs.Table.{value, noneApplies}
+use Rattle.call.specs.Limits.{workSpace, mostWords}
+use Rattle.call.specs.Buffers.{spaceRows}
+use Rattle.call.proofs.Table.{none-parts, none-says, value-passed}
 use Rattle.voice.specs.Fields.{Verdict, wellFormed, wrongLength, outOfRange, hasWrongLength, isOutOfRange}
 use Rattle.voice.specs.Voice.{letterCount, voiceVerdict, voiceRows}
 use Rattle.lexicon.specs.Lexicon.{lexiconVerdict, nodeCount}
 use Rattle.lexicon.proofs.WellFormed.{letter-known}
 use Rattle.graph.specs.Graph.{graphOf, isNode, pathLetters, wordCount}
 use Rattle.graph.specs.Conditions.{orphan, placeCount, manyPlaces, hasLongWord, manyWords, sameLetters}
-use Rattle.graph.specs.Checking.{lexiconRows, imageRows, Accepted}
+use Rattle.graph.specs.Checking.{lexiconRows, imageRows, firstRows, checkAnswer, Accepted}
+use Rattle.graph.proofs.Sound.{Sound, sound}
 use Rattle.graph.proofs.Spelling.{Known}
 
 -- neither of the two rows of a verdict applies
@@ -50,6 +55,32 @@ accepted {v} {x} h =
       few-words = g .1 .1 .1 .0;
       other-letters = g .1 .1 .1 .1 .0;
     }
+
+-- checking has answered W
+pub record Passed (v x work : List ℕ) (W : ℕ) : Type 0 where
+  pub rows : noneApplies (firstRows v x work) ≡ true
+  pub count : wordCount (graphOf x) ≡ W
+  pub room : workSpace ≤ length work
+  pub images : Accepted v x
+
+pub passed : (v x work : List ℕ) {W : ℕ} → checkAnswer v x work ≡ value W → Passed v x work W
+unfolding checkAnswer firstRows spaceRows
+passed v x work {W} e =
+    let p = value-passed (firstRows v x work) (wordCount (graphOf x)) W e in
+    let n = none-parts (spaceRows work) (imageRows v x) (p .0) in
+    record { rows = p .0; count = p .1; room = ltb-false (length work) workSpace (none-says (spaceRows work) (n .0) .0); images = n .1 }
+
+module _ {v x : List ℕ} (h : AcceptedImages v x) where
+  pub sound-images : Sound (graphOf x)
+  sound-images = sound (letterCount v) x (h .lexicon)
+
+  pub words-limit : wordCount (graphOf x) ≤ mostWords
+  unfolding manyWords
+  words-limit = ltb-false mostWords (wordCount (graphOf x)) (h .few-words)
+
+  pub places-limit : placeCount v (graphOf x) ≤ 1000
+  unfolding manyPlaces
+  places-limit = ltb-false 1000 (placeCount v (graphOf x)) (h .few-places)
 
 -- the letters on a path are letters of the model
 pub letters-known : {v x : List ℕ} → AcceptedImages v x → (p : List ℕ) → Known v (pathLetters (graphOf x) p)

@@ -1,7 +1,7 @@
 -- Path counts and codes of a sound graph. A vertex's count is the sum over its successors, so the increments along a full path count the
 -- paths that the depth-first walk completes before it: the codes of the full paths, in their order, are 0 to W - 1. Assumes nothing.
 use mathlib.Core.Path.{_≡_, refl, sym, ap, _∙_}
-use mathlib.Core.Bool.{Bool, true, false, cond}
+use mathlib.Core.Bool.{Bool, true, false}
 use mathlib.Core.List.{List, [], _∷_, _++_, map, flatMap, map-map, map-append, List·Memᴰ, List·Memᴰ·head, List·Memᴰ·tail}
 use Prim.Native.Nat.{ℕ, zero, suc, _+_, _≤_, _<_}
 use native.Mathlib.Nat.{add-zero}
@@ -9,58 +9,49 @@ use native.Mathlib.Omega.{arith}
 use lib.ListN.{length, getD, length-map, List·getD-map}
 use lib.Seq.{append-snoc}
 use lib.Dec.{eqb}
-use borrow.Author.Tests.{eqb-true, eq-eqb, ne-eqb}
+use borrow.Author.Tests.{eqb-true, eq-eqb}
 use Rattle.endian.specs.Lists.{from, sum}
-use Rattle.endian.proofs.Booleans.{cond-else}
-use Rattle.endian.proofs.Lists.{map-cong, length-flatMap, sum-append, before-first, from-add, from-shift, getD-from}
-use Rattle.graph.specs.Graph.{Graph, sink, ways, fullPaths, pathCountWithin, pathCount, wordCount, increment, codeFrom, pathCode}
+use Rattle.endian.proofs.Lists.{mem-split, map-cong, length-flatMap, sum-append, before-first, from-add, from-shift, getD-from}
+use Rattle.graph.specs.Graph.{Graph, sink, ways, fullPaths, pathCount, wordCount, increment, codeFrom, pathCode}
 use Rattle.graph.proofs.Sound.{Sound, below-sink}
-
--- ---- there are as many ways as the count says
-
-length-cond : (b : Bool) (l : List (List ℕ)) (n : ℕ) → length l ≡ n → length (cond b ([] ∷ []) l) ≡ cond b 1 n
-length-cond true l n e = refl
-length-cond false l n e = e
-
-pub length-ways : (g : Graph) (d u : ℕ) → length (ways g d u) ≡ pathCountWithin g d u
-unfolding ways pathCountWithin
-length-ways g zero u = length-cond (eqb u (sink g)) [] 0 refl
-length-ways g (suc d) u =
-    length-cond (eqb u (sink g)) _ _
-    (length-flatMap (λ s. map (λ p. s ∷ p) (ways g d s)) (g .successors u)
-    ∙ ap sum (map-cong _ _ (g .successors u) (λ s m. length-map (ways g d s) (λ p. s ∷ p) ∙ length-ways g d s)))
+use Rattle.graph.proofs.Ways.{length-ways, ways-sink, ways-below}
 
 pub length-fullPaths : (g : Graph) → length (fullPaths g) ≡ wordCount g
 unfolding fullPaths wordCount pathCount
 length-fullPaths g = length-map (ways g (sink g) 0) (λ p. 0 ∷ p) ∙ length-ways g (sink g) 0
 
+-- what stands before an element, the element, and what stands behind it
+pub sum-split : (f : ℕ → ℕ) (l : List ℕ) (a : ℕ) (m : List ℕ) → sum (map f (l ++ a ∷ m)) ≡ sum (map f l) + (f a + sum (map f m))
+unfolding sum
+sum-split f l a m = rw (map-append f l (a ∷ m), sum-append (map f l) (map f (a ∷ m)))
+
 module _ {g : Graph} (ok : Sound g) where
   -- ---- the count is 1 at the sink and below it the sum over the successors
 
-  -- a greater allowance of arcs changes nothing
-  enough : (d e u : ℕ) → u ≤ sink g → sink g ≤ u + d → sink g ≤ u + e → pathCountWithin g d u ≡ pathCountWithin g e u
-  unfolding pathCountWithin
-  enough zero zero u h k l = refl
-  enough zero (suc e) u h k l = rw (eq-eqb u (sink g) (omega arith))
-  enough (suc d) zero u h k l = rw (eq-eqb u (sink g) (omega arith))
-  enough (suc d) (suc e) u h k l =
-      cond-else (eqb u (sink g)) 1
-      (λ q. let below = below-sink g h q in
-      ap sum (map-cong _ _ (g .successors u) (λ s m. let r = ok .rises below m in enough d e s (r .1) (omega arith) (omega arith))))
-
   pub pathCount-sink : pathCount g (sink g) ≡ 1
-  unfolding pathCount pathCountWithin
-  pathCount-sink = enough (sink g) zero (sink g) (omega arith) (omega arith) (omega arith) ∙ rw (eq-eqb (sink g) (sink g) refl)
+  unfolding pathCount
+  pathCount-sink = sym (length-ways g (sink g) (sink g)) ∙ ap length (ways-sink ok)
 
   pub pathCount-below : {u : ℕ} → u < sink g → pathCount g u ≡ sum (map (pathCount g) (g .successors u))
-  unfolding pathCount pathCountWithin
-  pathCount-below {u} h = enough (sink g) (suc (sink g)) u (omega arith) (omega arith) (omega arith) ∙ rw (ne-eqb u (sink g) (omega arith))
+  unfolding pathCount
+  pathCount-below {u} h =
+      sym (length-ways g (sink g) u)
+      ∙ ap length (ways-below ok h)
+      ∙ length-flatMap (λ s. map (λ p. s ∷ p) (ways g (sink g) s)) (g .successors u)
+      ∙ ap sum (map-cong _ _ (g .successors u) (λ s m. length-map (ways g (sink g) s) (λ p. s ∷ p) ∙ length-ways g (sink g) s))
 
   -- ---- the code of the i-th full path is i
 
   pub increment-at : {u : ℕ} → u < sink g → (l m : List ℕ) (s : ℕ) → g .successors u ≡ l ++ s ∷ m → increment g u s ≡ sum (map (pathCount g) l)
   unfolding increment
   increment-at h l m s e = rw e (ap (λ (k : List ℕ). sum (map (pathCount g) k)) (before-first s l m (ok .once h l m s e)))
+
+  -- an arc's increment, and the ways behind it, are within those of its vertex
+  pub arc-within : {u : ℕ} → u < sink g → (l m : List ℕ) (s : ℕ) → g .successors u ≡ l ++ s ∷ m → increment g u s + pathCount g s ≤ pathCount g u
+  arc-within h l m s e = rw (increment-at h l m s e, pathCount-below h, e, sum-split (pathCount g) l s m) (omega arith)
+
+  pub arc-count : {u s : ℕ} → u < sink g → List·Memᴰ s (g .successors u) → increment g u s + pathCount g s ≤ pathCount g u
+  arc-count {s = s} h i = let r = mem-split i in arc-within h (r .0) (r .1) s (r .2)
 
   -- the codes of the ways from a vertex are 0, 1, .. up to its count
   abbrev CodesInOrder : ℕ → ℕ → Type 0

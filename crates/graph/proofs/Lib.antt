@@ -1,5 +1,6 @@
 pub mod Open
 pub mod Sound
+pub mod Ways
 pub mod Codes
 pub mod Paths
 pub mod Spelling

@@ -41,7 +41,7 @@ module _ {g : Graph} (ok : Sound g) where
       let r = ok .rises h m in
       rw (ne-eqb u (sink g) (omega arith)) (mem-flatMap (λ s. map (λ p. s ∷ p) (ways g d s)) m (Memᴰ·map (λ p. s ∷ p) (path-way d (omega arith) w)))
 
-  way-path : (d u : ℕ) (p : List ℕ) → u ≤ sink g → List·Memᴰ p (ways g d u) → ArcPath g u p
+  pub way-path : (d u : ℕ) (p : List ℕ) → u ≤ sink g → List·Memᴰ p (ways g d u) → ArcPath g u p
   unfolding ways
   way-path zero u p h m = go (eqb u (sink g)) refl m
     where

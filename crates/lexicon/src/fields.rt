@@ -6,6 +6,7 @@ ghost use Rattle.voice.specs.Fields.{verdict, verdictOf};
 ghost use Rattle.lexicon.specs.Lexicon.{nodeCount};
 ghost use Rattle.lexicon.specs.Sections.{numberAt, highestOf, arcAt, NodesFound, Listing, ListFound, ArcsFound, reserveFields};
 use crate::least;
+use call::inside;
 use endian::u16_at;
 use voice::Verdict;
 
@@ -29,10 +30,7 @@ fn number(lexicon: &[u8], at: usize, low: usize, high: usize) -> Found
         return Found::Bad(Verdict::WrongLength);
     }
     let n = u16_at(lexicon, at) as usize;
-    if n < low {
-        return Found::Bad(Verdict::OutOfRange);
-    }
-    if high < n {
+    if !inside(n, low, high) {
         return Found::Bad(Verdict::OutOfRange);
     }
     Found::Good(n)

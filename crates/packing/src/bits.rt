@@ -1,15 +1,17 @@
 // Bits in bytes, the highest first: a code of b bits that begins anywhere in a byte. A code is put and read in chunks, each of which lies in
 // one byte, so that a step handles up to eight bits.
 ghost use mathlib.Core.Path.{_≡_};
-ghost use Prim.Native.Nat.{_+_, _*_, _^_, _≤_, _<_, min};
+ghost use Prim.Native.Nat.{_+_, _-_, _*_, _^_, _≤_, _<_, min};
 ghost use lib.ListN.{take, drop};
 ghost use Rattle.packing.specs.Packing.{bits, numberOf, toBits};
 ghost use Rattle.packing.specs.Offsets.{overlay, InBytes};
 
-fn least(a: u32, b: u32) -> u32
-    ensures { λ r. ⌜ r ≡ min a b ⌝ }
+// A chunk ends with its byte, or with the code, of which `left` bits are left.
+fn chunk_size(used: u32, left: u32) -> u32
+    requires { ⌜ used < 8 ⌝ }
+    ensures { λ r. ⌜ r ≡ min (8 - used) left ⌝ }
 {
-    if a < b { a } else { b }
+    if left < 8 - used { left } else { 8 - used }
 }
 
 // 2^k.
@@ -49,7 +51,7 @@ pub(crate) fn put_code(out: &mut [u8], byte: usize, bit: u32, b: u32, code: u32)
     let mut at = bit;
     while at < end {
         let used = at % 8;
-        let size = least(8 - used, end - at);
+        let size = chunk_size(used, end - at);
         let chunk = (code >> (end - at - size)) % power(size);
         let i = byte + (at / 8) as usize;
         out[i] = with_chunk(out[i], used, size, chunk);
@@ -67,7 +69,7 @@ pub(crate) fn code_at(packed: &[u8], byte: usize, bit: u32, b: u32) -> u32
     let mut code = 0;
     while at < end {
         let used = at % 8;
-        let size = least(8 - used, end - at);
+        let size = chunk_size(used, end - at);
         let chunk = chunk_of(packed[byte + (at / 8) as usize], used, size);
         code = code * power(size) + chunk;
         at += size;

@@ -1,10 +1,9 @@
 // Packed codes: their width, packing and unpacking (document 01, Lexicon; rows 9, 12 and 14 to 16 of its refusal table).
 ghost use mathlib.Core.Path.{_≡_};
-ghost use mathlib.Core.Bool.{not};
 ghost use mathlib.Core.List.{_++_, flatMap};
 ghost use Prim.Native.Nat.{_+_, _*_, _≤_, _<_};
 ghost use lib.ListN.{length, take, drop};
-ghost use Rattle.endian.specs.Lists.{within, any};
+ghost use Rattle.endian.specs.Lists.{any};
 ghost use Rattle.endian.specs.Bytes.{u32Bytes};
 ghost use Rattle.call.specs.Table.{answerOf};
 ghost use Rattle.call.specs.Limits.{badCode};
@@ -16,6 +15,7 @@ use crate::bits::code_at;
 use crate::bits::put_code;
 use call::Answer;
 use call::Refusal;
+use call::inside;
 use call::zero;
 use endian::u32_bytes;
 
@@ -26,19 +26,6 @@ const WORDS: usize = 1048576;
 
 // The most codes that are packed together (row 12).
 const CODES: usize = 8;
-
-// Rows 9 and 12 refuse a number outside its limits.
-fn outside(x: usize, low: usize, high: usize) -> bool
-    ensures { λ r. ⌜ r ≡ not (within low high x) ⌝ }
-{
-    if x < low {
-        return true;
-    }
-    if high < x {
-        return true;
-    }
-    false
-}
 
 // The bits of a code below a number of words: none where there is one word, else the length of the greatest code in binary.
 fn width_of(words: u32) -> u32
@@ -55,7 +42,7 @@ fn width_of(words: u32) -> u32
 pub fn width(words: u32) -> Answer
     ensures { λ r. ⌜ answerOf r ≡ widthAnswer words ⌝ }
 {
-    if outside(words as usize, 1, WORDS) {
+    if !inside(words as usize, 1, WORDS) {
         return Answer::Refused(Refusal::WordCount);
     }
     Answer::Value(width_of(words))
@@ -105,10 +92,10 @@ fn has_bad_code(words: u32, codes: &[u32]) -> bool
 fn judge_pack(words: u32, codes: &[u32], out: &[u8]) -> Answer
     ensures { λ r. ⌜ answerOf r ≡ packAnswer words (now (codes .entry)) (now (out .entry)) ⌝ }
 {
-    if outside(words as usize, 1, WORDS) {
+    if !inside(words as usize, 1, WORDS) {
         return Answer::Refused(Refusal::WordCount);
     }
-    if outside(codes.len(), 1, CODES) {
+    if !inside(codes.len(), 1, CODES) {
         return Answer::Refused(Refusal::Count);
     }
     if has_bad_code(words, codes) {
@@ -200,10 +187,10 @@ fn judge_unpack(words: u32, n: u32, packed: &[u8], out: &[u8]) -> Answer
     ensures { λ r. ⌜ answerOf r ≡ unpackAnswer words n (now (packed .entry)) (now (out .entry)) ⌝ }
 {
     let count = n as usize;
-    if outside(words as usize, 1, WORDS) {
+    if !inside(words as usize, 1, WORDS) {
         return Answer::Refused(Refusal::WordCount);
     }
-    if outside(count, 1, CODES) {
+    if !inside(count, 1, CODES) {
         return Answer::Refused(Refusal::Count);
     }
     let b = width_of(words);

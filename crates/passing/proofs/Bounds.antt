@@ -1,28 +1,24 @@
 -- Tokens stay within bounds. A frame changes a score by at most 2^16, a move and an emission of 16 bits each. A token's code and the number of
 -- paths that go on from its node are together at most W, since a vertex's paths are counted successor by successor. Assumes nothing.
 use Prim.Native.Nat.{ℕ, suc, _+_, _*_, _^_, _≤_, _<_}
-use mathlib.Core.Path.{_∙_, ap}
-use mathlib.Core.List.{List, _∷_, map, map-append}
+use mathlib.Core.List.{List}
 use native.Mathlib.Omega.{arith}
 use lib.IntN.{ℤ, pos, negsuc, _+ℤ_, natAbs}
 use lib.Signed.{mag}
 use lib.Dec.{ltb}
-use Rattle.endian.specs.Lists.{sum}
 use Rattle.endian.specs.Bytes.{i16}
 use Rattle.endian.proofs.Booleans.{cond-cases}
 use Rattle.endian.proofs.Integers.{size-sum}
 use Rattle.endian.proofs.Bytes.{i16-range}
-use Rattle.endian.proofs.Lists.{sum-append}
 use Rattle.voice.specs.Voice.{symbolCount, symbolsAt, loopScore, stepScore, linkScore, emission, impossible}
-use Rattle.graph.specs.Graph.{Graph, sink, pathCount, wordCount, increment}
+use Rattle.graph.specs.Graph.{Graph, sink, pathCount, wordCount}
 use Rattle.graph.proofs.Sound.{Sound}
-use Rattle.graph.proofs.Codes.{pathCount-below, increment-at}
+use Rattle.graph.proofs.Codes.{arc-count}
 use Rattle.ranking.specs.Hits.{Hit}
 use Rattle.decoder.proofs.Runs.{Run, begin, loop, step, link, Adds, latest}
 use Rattle.passing.specs.Tokens.{tokens}
 use Rattle.passing.proofs.Order.{_∈_, hits-strict}
 use Rattle.passing.proofs.Best.{best-from}
-use Rattle.passing.proofs.Members.{mem-split}
 use Rattle.passing.proofs.Uncut.{paths, tokens-best}
 use Rattle.passing.proofs.Chains.{Chain, first, next}
 use Rattle.passing.proofs.Walks.{path-out}
@@ -58,19 +54,10 @@ module _ (v : List ℕ) where
 -- ---- codes
 
 module _ {g : Graph} (ok : Sound g) where
-  pub arc-count : {u s : ℕ} → u < sink g → s ∈ g .successors u → increment g u s + pathCount g s ≤ pathCount g u
-  unfolding sum
-  arc-count {u} {s} h i =
-      let r = mem-split i in
-      let count = ap (λ (l : List ℕ). sum (map (pathCount g) l)) (r .2)
-      ∙ ap sum (map-append (pathCount g) (r .0) (s ∷ r .1))
-      ∙ sum-append (map (pathCount g) (r .0)) (map (pathCount g) (s ∷ r .1)) in
-      omega (arith, pathCount-below ok h, increment-at ok h (r .0) (r .1) s (r .2), count)
-
   chain-count : {us : List ℕ} {c : ℕ} → Chain g us c → c + pathCount g (latest us) ≤ wordCount g
   unfolding wordCount sink
-  chain-count (first m e) = omega (arith, arc-count (omega arith) m)
-  chain-count (next m h k e) = omega (arith, arc-count h m, chain-count k)
+  chain-count (first m e) = omega (arith, arc-count ok (omega arith) m)
+  chain-count (next m h k e) = omega (arith, arc-count ok h m, chain-count k)
 
 pub record Bounded (g : Graph) (t u : ℕ) (h : Hit) : Type 0 where
   pub score : natAbs (h .score) ≤ 65536 * suc t

@@ -14,7 +14,7 @@ use lib.IntN.{ℤ, pos}
 use lib.ListN.{getD}
 use lib.Seq.{take-nil}
 use Rattle.endian.specs.Lists.{has}
-use Rattle.endian.proofs.Lists.{mem-has}
+use Rattle.endian.proofs.Lists.{mem-has, flatMap-append}
 use Rattle.endian.proofs.Pairs.{Pairs, none, next}
 use Rattle.endian.proofs.Search.{has-mem}
 use Rattle.voice.specs.Voice.{states}
@@ -26,7 +26,7 @@ use Rattle.passing.specs.Tokens.{bestTokens, Store, downFrom, lastState,
 use Rattle.passing.specs.InPlace.{put, renewDown, passOn, passNode, passDown, passRoot}
 use Rattle.passing.proofs.Order.{_∈_, by-test, never, hits-strict}
 use Rattle.passing.proofs.Best.{best-left}
-use Rattle.passing.proofs.Members.{Apart, once-apart, flatMap-append, flatMap-nothing}
+use Rattle.passing.proofs.Members.{Apart, once-apart, flatMap-nothing}
 
 -- ---- one place is changed
 

@@ -1,4 +1,4 @@
--- Members of lists: where a member stands, and lists made from others. Assumes nothing.
+-- Members of lists that none is in twice, of lists made from others, and of the nodes from high to low. Assumes nothing.
 use Prim.Native.Nat.{ℕ, zero, suc, _≤_, _<_}
 use mathlib.Core.Path.{_≡_, refl, sym, _∙_, ap}
 use mathlib.Core.Logic.{⊎-elim}
@@ -6,15 +6,11 @@ use mathlib.Core.List.{List, [], _∷_, _++_, flatMap, append-assoc, Memᴰ·app
 use native.Mathlib.Omega.{arith}
 use native.Mathlib.Decide.{ℕ-discrete}
 use Rattle.endian.proofs.Pairs.{Pairs, none, next}
+use Rattle.endian.proofs.Lists.{mem-split}
 use Rattle.passing.specs.Tokens.{downFrom}
 use Rattle.passing.proofs.Order.{_∈_}
 
 module _ {A : Type 0} where
-  -- what stands before a member, and what behind it
-  pub mem-split : {a : A} {l : List A} → a ∈ l → (x : List A) × (y : List A) × (l ≡ x ++ a ∷ y)
-  mem-split (here {xs} e) = ([], xs, rw e)
-  mem-split (there {x} i) = let r = mem-split i in (x ∷ r .0, r .1, ap (λ l. x ∷ l) (r .2))
-
   abbrev pub Apart : A → A → Type 0
   Apart a b = ¬ (a ≡ b)
 
@@ -28,11 +24,6 @@ module _ {A : Type 0} where
       (once-apart (x ++ (a ∷ [])) l (λ y z b e. h y z b (sym (append-assoc x (a ∷ []) l) ∙ e)))
 
 module _ {A B : Type 0} (f : A → List B) where
-  pub flatMap-append : (l m : List A) → flatMap f (l ++ m) ≡ flatMap f l ++ flatMap f m
-  unfolding flatMap
-  flatMap-append [] m = refl
-  flatMap-append (a ∷ l) m = ap (λ r. f a ++ r) (flatMap-append l m) ∙ sym (append-assoc (f a) (flatMap f l) (flatMap f m))
-
   pub flatMap-nothing : (l : List A) → ((a : A) → a ∈ l → f a ≡ []) → flatMap f l ≡ []
   unfolding flatMap
   flatMap-nothing [] h = refl

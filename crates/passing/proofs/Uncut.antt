@@ -10,11 +10,10 @@ use lib.ListN.{getD}
 use Rattle.endian.specs.Lists.{has}
 use Rattle.graph.specs.Graph.{Graph, sink, increment}
 use Rattle.ranking.specs.Hits.{Hit}
-use Rattle.passing.specs.Best.{byCode, shift}
+use Rattle.passing.specs.Best.{shift}
 use Rattle.passing.specs.Tokens.{bestTokens, Store, carried, downFrom, lastState, finalScore, begun, renewed, entering, enteringFrom, arrivals, ending, arrived, tokens}
 use Rattle.passing.proofs.Order.{hits-strict}
-use Rattle.passing.proofs.Insertion.{Ranked}
-use Rattle.passing.proofs.Best.{best-ranked, best-best, best-join, best-flat}
+use Rattle.passing.proofs.Best.{best-best, best-join, best-flat}
 use Rattle.passing.proofs.Shifting.{best-shift}
 
 module _ (n : ℕ) where
@@ -68,10 +67,3 @@ module _ (v : List ℕ) (g : Graph) (frames : List ℕ) where
   unfolding tokens paths
   tokens-best n zero u s = refl
   tokens-best n (suc t) u s = best-arrivals n v g (paths t) (tokens v g frames n t) (tokens-best n t) (getD frames (suc t) 0) u s
-
-  -- so they are ranked, and their own n best
-  pub tokens-ranked : (n t u s : ℕ) → Ranked byCode (tokens v g frames n t u s)
-  tokens-ranked n t u s = rw (tokens-best n t u s) (best-ranked hits-strict n (paths t u s))
-
-  pub tokens-kept : (n t u s : ℕ) → bestTokens n (tokens v g frames n t u s) ≡ tokens v g frames n t u s
-  tokens-kept n t u s = rw (tokens-best n t u s) (best-best hits-strict n (paths t u s))

@@ -14,7 +14,7 @@ use Rattle.call.specs.declared.Refusal.the-variants.{Code, Output}
 use Rattle.call.specs.Table.{value, refused, on, noneApplies, unless}
 use Rattle.call.specs.Limits.{workSpace, badFrameCount, badCode}
 use Rattle.call.specs.Buffers.{spaceRows, written}
-use Rattle.call.proofs.Table.{none-join, passed-none, unless-value}
+use Rattle.call.proofs.Table.{none-join, passed-none, unless-value, same-value}
 use Rattle.graph.specs.Graph.{graphOf, wordCount}
 use Rattle.graph.specs.Words.{wordOfCode}
 use Rattle.graph.specs.Checking.{imageRows, firstRows, checkAnswer}
@@ -26,9 +26,6 @@ use Rattle.codes.proofs.Words.{word-short}
 use Rattle.report.specs.Lines.{Ready}
 use Rattle.report.specs.Put.{Put}
 use Rattle.report.specs.Report.{decimal, signedDecimal, hitLine}
-
-pub same-value : {A : Type 0} {a b : A} → value a ≡ value b → a ≡ b
-same-value e = cc
 
 pub no-refusal : {A : Type 0} {a : A} {r : Refusal} → value a ≡ refused r → ⊥
 no-refusal e = let z : _≡_ {A = ℕ} 0 1 = cc in omega arith

@@ -1,5 +1,5 @@
 -- The parts of the input: cut off at its end, each part is the definition's. Assumes nothing.
-use Prim.Native.Nat.{ℕ, _+_, _-_, _≤_, _<_}
+use Prim.Native.Nat.{ℕ, _+_, _-_, _<_}
 use mathlib.Core.Path.{_≡_, sym, ap, _∙_}
 use mathlib.Core.List.{List, []}
 use native.Mathlib.Omega.{arith}
@@ -12,9 +12,6 @@ use Rattle.report.specs.Report.{imageIn, afterImage}
 pub to-end : (n : ℕ) (b : List ℕ) → take (length b - n) (drop n b) ≡ drop n b
 to-end n b = take-all (length b - n) (drop n b) (omega (arith, length-drop n b))
 
-pub none-left : (n : ℕ) (b : List ℕ) → length b ≤ n → drop n b ≡ []
-none-left n b h = drop-of-length-le b h
-
 pub first-missing : (b : List ℕ) → length b ≡ 0 → 0 ≡ getD b 0 0
 first-missing b h = sym (List·getD-eq-default b 0 {n = 0} (omega arith))
 
@@ -22,7 +19,7 @@ first-missing b h = sym (List·getD-eq-default b 0 {n = 0} (omega arith))
 module _ (b : List ℕ) where
   pub image-none : length b < 2 → imageIn b ≡ []
   unfolding imageIn
-  image-none h = ap (take (u16 b 0)) (none-left 2 b (omega arith)) ∙ take-nil (u16 b 0)
+  image-none h = ap (take (u16 b 0)) (drop-of-length-le b {i = 2} (omega arith)) ∙ take-nil (u16 b 0)
 
   pub image-short : {s : ℕ} → s ≡ u16 b 0 → length b < 2 + s → take (length b - 2) (drop 2 b) ≡ imageIn b
   unfolding imageIn
@@ -34,7 +31,7 @@ module _ (b : List ℕ) where
 
   pub after-none : {s : ℕ} → s ≡ u16 b 0 → length b < 2 + s → afterImage b ≡ []
   unfolding afterImage
-  after-none e h = none-left (2 + u16 b 0) b (omega arith)
+  after-none e h = drop-of-length-le b {i = 2 + u16 b 0} (omega arith)
 
   pub after-rest : {s : ℕ} → s ≡ u16 b 0 → take (length b - (2 + s)) (drop (2 + s) b) ≡ afterImage b
   unfolding afterImage

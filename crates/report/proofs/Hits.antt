@@ -16,6 +16,7 @@ use mir.Syntax.{w32}
 use mir.Val.{SFits, sel, toZ, ofZ}
 use mir.Facts.{toZ-ofZ}
 use Rattle.endian.specs.Bytes.{u16, u32, i32}
+use Rattle.endian.proofs.Lists.{flatMap-append}
 use Rattle.graph.specs.Graph.{graphOf, wordCount}
 use Rattle.graph.specs.Conditions.{manyWords}
 use Rattle.graph.specs.Checking.{Accepted}
@@ -23,7 +24,6 @@ use Rattle.graph.proofs.Accepted.{accepted}
 use Rattle.ranking.specs.Mean.{mean, floorQuotient}
 use Rattle.ranking.specs.Hits.{Hit, hit, hitsAt, hitsRead}
 use Rattle.codes.proofs.Words.{word-short}
-use Rattle.passing.proofs.Members.{flatMap-append}
 use Rattle.report.specs.Lines.{Ready, Listed}
 use Rattle.report.specs.Put.{Put}
 use Rattle.report.specs.Report.{hitLine}

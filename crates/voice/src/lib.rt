@@ -8,6 +8,7 @@ ghost use Rattle.endian.specs.Bytes.{u8};
 ghost use Rattle.voice.specs.Fields.{wellFormed, verdictOf, verdict};
 ghost use Rattle.voice.specs.Voice.{printByte, rising, letterFields, linksAt, voiceVerdict};
 ghost use Rattle.voice.specs.Sections.{fieldVerdict, firstBad, lettersPart, statesPart, lastPart};
+use call::inside;
 use endian::u16_at;
 
 pub enum Verdict {
@@ -26,15 +27,6 @@ fn byte_at(voice: &[u8], at: usize) -> u8
         return 0;
     }
     voice[at]
-}
-
-fn inside(x: u8, low: u8, high: u8) -> bool
-    ensures { λ r. ⌜ r ≡ within low high x ⌝ }
-{
-    if x < low {
-        return false;
-    }
-    x <= high
 }
 
 // One field, from where its bytes end: that they are missing comes before its range.
@@ -56,7 +48,7 @@ fn good_print(voice: &[u8], i: usize) -> bool
     ensures { λ r. ⌜ r ≡ within 33 126 (printByte (now (voice .entry)) i) && rising (now (voice .entry)) i ⌝ }
 {
     let print = byte_at(voice, 1 + 2 * i);
-    if !inside(print, 33, 126) {
+    if !inside(print as usize, 33, 126) {
         return false;
     }
     if i == 0 {
@@ -74,19 +66,18 @@ fn judge_letter(voice: &[u8], i: usize) -> Verdict
         return print;
     };
     let states = byte_at(voice, 2 + 2 * i);
-    judge_field(voice.len(), 3 + 2 * i, inside(states, 1, 4))
+    judge_field(voice.len(), 3 + 2 * i, inside(states as usize, 1, 4))
 }
 
 // The letters, and S with them: its range is the sum of their states, which are added up on the way.
 fn judge_letters(voice: &[u8]) -> Verdict
     ensures { λ r. ⌜ verdictOf r ≡ firstBad (length (now (voice .entry))) (lettersPart (now (voice .entry))) ⌝ }
 {
-    let count = byte_at(voice, 0);
-    let first = judge_field(voice.len(), 1, inside(count, 1, 64));
+    let letters = byte_at(voice, 0) as usize;
+    let first = judge_field(voice.len(), 1, inside(letters, 1, 64));
     let Verdict::WellFormed = first else {
         return first;
     };
-    let letters = count as usize;
     let mut sum: usize = 0;
     let mut i = 0;
     while i < letters {
@@ -133,7 +124,7 @@ fn judge_last(voice: &[u8]) -> Verdict
         return links;
     };
     let symbols = byte_at(voice, at + 3);
-    let count = judge_field(voice.len(), at + 4, inside(symbols, 1, 64));
+    let count = judge_field(voice.len(), at + 4, inside(symbols as usize, 1, 64));
     let Verdict::WellFormed = count else {
         return count;
     };

@@ -7,22 +7,21 @@ use native.Mathlib.Nat.{mul-le-mul}
 use native.Mathlib.Decide.{decLe}
 use native.Mathlib.Omega.{arith}
 use lib.ListN.{length, length-take}
-use borrow.Author.Tests.{ltb-false, leb-false}
+use borrow.Author.Tests.{leb-false}
 use Rattle.endian.specs.Lists.{isNone}
-use Rattle.call.specs.Limits.{mostWords, badCode}
-use Rattle.call.specs.Table.{value, noneApplies}
+use Rattle.call.specs.Limits.{badCode}
+use Rattle.call.specs.Table.{noneApplies}
 use Rattle.call.specs.Buffers.{spaceRows}
 use Rattle.call.proofs.Table.{none-parts, none-says, value-passed}
 use Rattle.voice.specs.Voice.{letterCount}
 use Rattle.lexicon.proofs.Shape.{shape}
 use Rattle.graph.specs.Graph.{graphOf, sink, wordCount}
 use Rattle.graph.specs.Words.{LexiconWord, pathOfWord, codeOf, wordOfCode}
-use Rattle.graph.specs.Conditions.{manyWords}
 use Rattle.graph.specs.Checking.{Accepted, imageRows, firstRows, checkAnswer}
-use Rattle.graph.proofs.Accepted.{accepted}
+use Rattle.graph.proofs.Accepted.{accepted, sound-images, passed, words-limit}
 use Rattle.codes.specs.Lookup.{wordToCodeRows, wordToCodeAnswer, codeToWordRows, codeToWordAnswer, listing, listRows, listAnswer}
 use Rattle.codes.proofs.Theorems.{code-theorems}
-use Rattle.codes.proofs.Words.{sound-images, word-short}
+use Rattle.codes.proofs.Words.{word-short}
 use Rattle.codes.proofs.Sizes.{listing-size, arcs-most}
 use Rattle.decoder.specs.Decoding.{hits, row, decodeAnswer}
 use Rattle.decoder.proofs.Listed.{answered}
@@ -38,10 +37,6 @@ unfolding firstRows
 images-accepted v x work h = none-parts (spaceRows work) (imageRows v x) h .1
 
 module _ (v x : List ℕ) (h : Accepted v x) where
-  words-limit : wordCount (graphOf x) ≤ mostWords
-  unfolding manyWords
-  words-limit = ltb-false mostWords (wordCount (graphOf x)) (accepted h .few-words)
-
   -- bytes that spell a word have a code below W
   code-limit : (word : List ℕ) → isNone (pathOfWord v (graphOf x) word) ≡ false
       → codeOf (graphOf x) (pathOfWord v (graphOf x) word) < wordCount (graphOf x)
@@ -62,12 +57,7 @@ module _ (v x : List ℕ) (h : Accepted v x) where
       omega (arith, listing-size ok v (omega arith), arcs-most ok (omega arith) 0)
 
 pub check-small : (v x work : List ℕ) → Small (checkAnswer v x work)
-unfolding checkAnswer
-check-small v x work = record {
-  below = λ n e.
-      let p = value-passed (firstRows v x work) (wordCount (graphOf x)) n e in
-      omega (arith, p .1, words-limit v x (images-accepted v x work (p .0)));
-}
+check-small v x work = record { below = λ n e. let p = passed v x work e in omega (arith, p .count, words-limit (accepted (p .images))) }
 
 pub word-to-code-small : (v x word work : List ℕ) → Small (wordToCodeAnswer v x word work)
 unfolding wordToCodeAnswer wordToCodeRows
@@ -76,7 +66,7 @@ word-to-code-small v x word work = record {
       let p = value-passed (wordToCodeRows v x word work) (codeOf (graphOf x) (pathOfWord v (graphOf x) word)) n e in
       let r = none-parts (firstRows v x work) _ (p .0) in
       let h = images-accepted v x work (r .0) in
-      omega (arith, p .1, words-limit v x h, code-limit v x h word (none-says _ (r .1) .0));
+      omega (arith, p .1, words-limit (accepted h), code-limit v x h word (none-says _ (r .1) .0));
 }
 
 pub code-to-word-small : (v x : List ℕ) (code : ℕ) (work out : List ℕ) → Small (codeToWordAnswer v x code work out)
@@ -96,7 +86,7 @@ list-small v x work out = record {
   below = λ n e.
       let p = value-passed (listRows v x work out) (length (listing v (graphOf x))) n e in
       let h = images-accepted v x work (none-parts (firstRows v x work) _ (p .0) .0) in
-      omega (arith, p .1, words-limit v x h, listing-limit v x h);
+      omega (arith, p .1, words-limit (accepted h), listing-limit v x h);
 }
 
 -- at most n hits, and n is at most 8

@@ -8,8 +8,8 @@ use borrow.Author.Needs.{needs}
 use Rattle.call.specs.Limits.{workSpace}
 use Rattle.call.specs.Table.{answerOf}
 use Rattle.call.specs.Buffers.{cleared}
-use Rattle.call.proofs.Buffers.{cleared-short, cleared-length}
-use Rattle.checking.proofs.Judging.{short-answer, long-answer, part-cleared, opened-refused}
+use Rattle.call.proofs.Buffers.{cleared-short, cleared-length, part-cleared}
+use Rattle.checking.proofs.Judging.{short-answer, long-answer, opened-refused}
 use Rattle.checking.proofs.open.Statement.{statement}
 use Rattle.checking.proofs.open.Tie as tie
 

@@ -7,9 +7,10 @@ use native.Mathlib.Omega.{arith}
 use borrow.Author.Needs.{needs}
 use Rattle.call.specs.Table.{answerOf, refused}
 use Rattle.call.specs.Buffers.{written}
+use Rattle.graph.proofs.Accepted.{Passed, passed}
 use Rattle.codes.specs.Lookup.{codeToWordAnswer}
 use Rattle.codes.specs.Steps.{Ready, roomAnswer}
-use Rattle.codes.proofs.Calls.{Passed, passed, ready, code-refused, code-bad, code-good, out-refused, out-written}
+use Rattle.codes.proofs.Calls.{ready, code-refused, code-bad, code-good, out-refused, out-written}
 use Rattle.codes.proofs.code_to_word.Statement.{statement}
 use Rattle.codes.proofs.code_to_word.Tie as tie
 
@@ -33,7 +34,7 @@ passes : (c : tie.After-opened) →
     Passed (a .voice .now) (a .lexicon .now) (a .work .now) (c .opened .given .0 .0)
 passes c =
     let o = c .before .before .before .before in
-    passed _ _ _ _ (sym (o .«open» .ensures .0) ∙ ap answerOf (c .opened .given .1))
+    passed _ _ _ (sym (o .«open» .ensures .0) ∙ ap answerOf (c .opened .given .1))
 
 prepared : (c : tie.After-opened) →
     let o = c .before .before .before .before in

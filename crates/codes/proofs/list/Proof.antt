@@ -3,24 +3,25 @@ use mathlib.Core.Path.{_≡_, sym, ap, _∙_}
 use borrow.Author.Needs.{needs}
 use Rattle.call.specs.Table.{answerOf, value}
 use Rattle.graph.specs.Checking.{checkAnswer}
-use Rattle.codes.proofs.Shells.{ready, list-refused, list-kept, list-written}
+use Rattle.graph.proofs.Accepted.{passed}
 use Rattle.codes.proofs.list.Statement.{statement}
 use Rattle.codes.proofs.list.Tie as tie
+use Rattle.codes.proofs.Calls.{ready, list-refused, list-kept, list-written}
 
 -- checking has answered a value
-passed : (c : tie.After-enum-told) → let a = c .before .before .before .before .before .before .before .before .before .before .before .before .args in checkAnswer (a .voice .now) (a .lexicon .now) (a .work .now) ≡ value (c .enum-told .given .0 .0)
-passed c = sym (c .before .before .before .before .«open» .ensures .0) ∙ ap answerOf (c .enum-told .given .1)
+answered : (c : tie.After-enum-told) → let a = c .before .before .before .before .before .before .before .before .before .before .before .before .args in checkAnswer (a .voice .now) (a .lexicon .now) (a .work .now) ≡ value (c .enum-told .given .0 .0)
+answered c = sym (c .before .before .before .before .«open» .ensures .0) ∙ ap answerOf (c .enum-told .given .1)
 
 put-listing-requires : tie.Need-put-listing-requires
 put-listing-requires c κs =
     let t = c .before .before .before in
     let opened = c .before .before .before .before .before .before .before .«open» .ensures .1 .1 in
-    ready _ _ _ (passed t) (rw (ap answerOf (t .enum-told .given .1)) at opened)
+    ready _ _ _ _ _ (passed _ _ _ (answered t)) (rw (ap answerOf (t .enum-told .given .1)) at opened)
 
 returns : tie.Need-returns
 returns c =
     let a = c .before .before .before .before .before .before .before .before .before .before .before .before .before .before .before .before .before .before .args in
-    let w = list-written (a .voice .now) (a .lexicon .now) (a .work .now) (a .out .now) (passed (c .before .before .before .before .before .before)) (c .before .before .put-listing .ensures) in
+    let w = list-written (a .voice .now) (a .lexicon .now) (a .work .now) (a .out .now) (answered (c .before .before .before .before .before .before)) (c .before .before .put-listing .ensures) in
     (w .0, (c .before .before .before .before .before .before .before .before .before .before .«open» .ensures .1 .0, w .1))
 
 returns-2 : tie.Need-returns-2

@@ -8,9 +8,10 @@ use native.Mathlib.Omega.{arith}
 use borrow.Author.Needs.{needs}
 use Rattle.call.specs.Table.{answerOf}
 use Rattle.call.specs.Buffers.{cleared}
-use Rattle.call.proofs.Buffers.{cleared-length}
+use Rattle.call.proofs.Buffers.{cleared-length, part-cleared, cleared-twice}
+use Rattle.graph.proofs.Accepted.{Passed, passed}
 use Rattle.codes.specs.Steps.{Ready}
-use Rattle.codes.proofs.Calls.{Passed, passed, ready, word-refused, word-looked, part-cleared}
+use Rattle.codes.proofs.Calls.{ready, word-refused, word-looked}
 use Rattle.codes.proofs.word_to_code.Statement.{statement}
 use Rattle.codes.proofs.word_to_code.Tie as tie
 
@@ -27,7 +28,7 @@ passes : (c : tie.After-enum-told) →
     Passed (a .voice .now) (a .lexicon .now) (a .work .now) (c .enum-told .given .0 .0)
 passes c =
     let o = c .before .before .before .before in
-    passed _ _ _ _ (sym (o .«open» .ensures .0) ∙ ap answerOf (c .enum-told .given .1))
+    passed _ _ _ (sym (o .«open» .ensures .0) ∙ ap answerOf (c .enum-told .given .1))
 
 prepared : (c : tie.After-enum-told) →
     let o = c .before .before .before .before in
@@ -59,7 +60,9 @@ returns-2 c =
       l .look-up .ensures ∙ sym (word-looked (a .voice .now) (a .lexicon .now) (a .work .now) (a .word .now) (passes k)),
       c .before .before .clear .ensures
           ∙ ap (λ (w : List ℕ). cleared (part ++ drop 13266 w)) (o .«open» .ensures .1 .0)
-          ∙ part-cleared 13266 (a .work .now) part (omega arith) (passes k .room) (l .look-up .kept .1 .1 .1 .1 .1 .0 ∙ length-take-le 13266 (o .«open» .last .1 .1 .0) (room k)),
+          ∙ part-cleared part (cleared (a .work .now)) (l .look-up .kept .1 .1 .1 .1 .1 .0 ∙ length-take-le 13266 (o .«open» .last .1 .1 .0) (room k)) (omega arith)
+          (omega (arith, cleared-length (a .work .now), passes k .room))
+          ∙ cleared-twice (a .work .now) (passes k .room),
     )
 
 pub word-to-code-spec : {M : Type 1} → statement M

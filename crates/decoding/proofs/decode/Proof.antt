@@ -11,10 +11,10 @@ use Rattle.call.specs.Buffers.{cleared}
 use Rattle.call.proofs.Buffers.{cleared-length}
 use Rattle.graph.specs.Graph.{graphOf}
 use Rattle.graph.specs.Conditions.{placeCount}
-use Rattle.graph.proofs.Accepted.{accepted}
+use Rattle.graph.proofs.Accepted.{accepted, Passed, passed}
 use Rattle.ranking.specs.Hits.{Hit, hitBytes}
 use Rattle.decoder.proofs.Demanded.{left-meets}
-use Rattle.decoding.proofs.Calling.{Passed, passed, decode-refused, out-refused, call-refused, Clear, call-clear, call-answer, call-out, call-run, store-few, says-hits, listable, part-empty, part-zeroed}
+use Rattle.decoding.proofs.Calling.{decode-refused, out-refused, call-refused, Clear, call-clear, call-answer, call-out, call-run, store-few, says-hits, listable, part-empty, part-zeroed}
 use Rattle.decoding.proofs.decode.Statement.{statement}
 use Rattle.decoding.proofs.decode.Tie as tie
 
@@ -33,7 +33,7 @@ begin c = c .before .before .before .before .before .before .before .before .bef
 -- checking has answered W
 passes : (c : tie.After-enum-told) →
     let a = begin c .args in
-    Passed (a .voice .now) (a .lexicon .now) (a .work .now)
+    Passed (a .voice .now) (a .lexicon .now) (a .work .now) (c .enum-told .given .0 .0)
 passes c =
     let o = c .before .before .before .before in
     passed _ _ _ (sym (o .«open» .ensures .0) ∙ ap answerOf (c .enum-told .given .1))

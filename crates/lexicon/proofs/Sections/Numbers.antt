@@ -7,10 +7,10 @@ use Prim.Native.Nat.{ℕ, _+_, _≤_, _<_}
 use native.Mathlib.Omega.{arith}
 use lib.ListN.{length}
 use lib.Dec.{leb}
-use borrow.Author.Tests.{leb-true, leb-false, le-leb, lt-leb}
+use borrow.Author.Tests.{leb-true, leb-false}
 use Rattle.endian.specs.Lists.{within}
 use Rattle.endian.specs.Bytes.{u16}
-use Rattle.endian.proofs.Ranges.{inside, below, above, bounds}
+use Rattle.endian.proofs.Ranges.{bounds}
 use Rattle.voice.specs.declared.Verdict as declared
 use Rattle.voice.specs.declared.Verdict.the-variants.{WrongLength, OutOfRange}
 use Rattle.voice.specs.Fields.{Field, field, verdict, verdictOf}
@@ -27,22 +27,6 @@ pub record Number (x : List ℕ) (at low high n : ℕ) : Type 0 where
   pub most : n ≤ high
 
 module _ (x : List ℕ) (at low high : ℕ) where
-  pub number-missing : length x < at + 2 → Bad WrongLength ≡ numberAt x at low high
-  unfolding numberAt
-  number-missing h = rw (lt-leb (at + 2) (length x) h)
-
-  pub number-below : at + 2 ≤ length x → u16 x at < low → Bad OutOfRange ≡ numberAt x at low high
-  unfolding numberAt
-  number-below h k = rw (le-leb (at + 2) (length x) h, below low high (u16 x at) k)
-
-  pub number-above : at + 2 ≤ length x → high < u16 x at → Bad OutOfRange ≡ numberAt x at low high
-  unfolding numberAt
-  number-above h k = rw (le-leb (at + 2) (length x) h, above low high (u16 x at) k)
-
-  pub number-in : (n : ℕ) → Number x at low high n → Good n ≡ numberAt x at low high
-  unfolding numberAt
-  number-in n h = rw (le-leb (at + 2) (length x) (h .there), inside low high (u16 x at) (rw (h .value) at (h .least)) (rw (h .value) at (h .most)), h .value)
-
   -- the three cases in which it is read
   data Cases : Found → Type 0 where
     missing : length x < at + 2 → Cases (Bad WrongLength)

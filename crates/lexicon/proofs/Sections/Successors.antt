@@ -3,7 +3,7 @@
 use mathlib.Core.Path.{_≡_, refl, sym, ap, _∙_}
 use mathlib.Core.Bool.{Bool, true, false, cond, not, _&&_, _||_, true≢false}
 use mathlib.Core.List.{List, [], _∷_}
-use Prim.Native.Nat.{ℕ, zero, suc, _+_, _≤_, _<_}
+use Prim.Native.Nat.{ℕ, suc, _+_, _≤_, _<_}
 use native.Mathlib.Omega.{arith}
 use native.Mathlib.Decide.{ℕ-discrete}
 use lib.ListN.{length, getD, set, replicate, length-set}
@@ -13,6 +13,7 @@ use borrow.Author.Tests.{eq-eqb, ne-eqb, lt-ltb, le-leb}
 use Rattle.endian.specs.Lists.{within, has}
 use Rattle.endian.specs.Bytes.{u16}
 use Rattle.endian.proofs.Ranges.{inside}
+use Rattle.endian.proofs.Lists.{getD-copies}
 use Rattle.voice.specs.declared.Verdict as declared
 use Rattle.voice.specs.declared.Verdict.the-variants.{OutOfRange}
 use Rattle.voice.specs.Fields.{Field, field, verdict, verdictOf}
@@ -31,12 +32,7 @@ pub record Marks (seen : List ℕ) (u : ℕ) (earlier : List ℕ) : Type 0 where
 
 -- a table of zeros has no mark
 pub blank : Table 0 (replicate 402 0)
-blank = record { long = refl; low = each 402 }
-  where
-    each : (n s : ℕ) → getD (replicate n 0) s 0 ≤ 0
-    each zero s = omega arith
-    each (suc n) zero = omega arith
-    each (suc n) (suc s) = each n s
+blank = record { long = refl; low = λ s. omega (arith, getD-copies {A = ℕ} 402 s 0) }
 
 pub marks-none : (seen : List ℕ) (u : ℕ) → Table u seen → Marks seen u []
 unfolding has

@@ -11,7 +11,8 @@ use lib.Arith.{digits-lt}
 use lib.Pow.{mod-pow-add, shr-shr, field, mod-mod-pow, high, low}
 use lib.ListN.{length, take, drop, getD, replicate, length-append, length-take, length-drop, replicate-append-replicate, take-append-drop, drop-of-length-le}
 use lib.Seq.{take-append-add, take-at, drop-at, take-append-le}
-use Rattle.packing.proofs.Laws.Stretches.{length-flat, flat-append, flat-take, flat-drop, flat-at, Below, below-append, below-take, below-drop, below-replicate, below-flat}
+use Rattle.endian.proofs.Lists.{flatMap-append}
+use Rattle.packing.proofs.Laws.Stretches.{length-flat, flat-take, flat-drop, flat-at, Below, below-append, below-take, below-drop, below-replicate, below-flat}
 use Rattle.packing.specs.Packing.{bits, numberAfter, numberOf, toBytes, toBits}
 
 -- ---- bits
@@ -43,9 +44,6 @@ bits-add m zero x = rw (add-zero, div-one) (sym (append-nil (bits m x)))
 bits-add m (suc n) x =
     let q : x / 2 / 2 ^ n ≡ x / 2 ^ suc n = shr-shr x 1 n ∙ ap (λ (k : ℕ). x / 2 ^ k) (omega arith) in
     rw (add-suc, bits-add m n (x / 2), q, append-assoc)
-
-pub bits-add-mod : (m n x : ℕ) → bits (m + n) x ≡ bits m (x / 2 ^ n) ++ bits n (x % 2 ^ n)
-bits-add-mod m n x = bits-add m n x ∙ ap (λ (t : List ℕ). bits m (x / 2 ^ n) ++ t) (sym (bits-mod n x))
 
 -- the first u of d bits, and the others
 pub take-bits : (d u x : ℕ) → u ≤ d → take u (bits d x) ≡ bits u (x / 2 ^ (d - u))
@@ -146,7 +144,7 @@ toBits-cons x xs = refl
 
 pub toBits-append : (xs ys : List ℕ) → toBits (xs ++ ys) ≡ toBits xs ++ toBits ys
 unfolding toBits
-toBits-append xs ys = flat-append (bits 8) xs ys
+toBits-append xs ys = flatMap-append (bits 8) xs ys
 
 -- zero bytes have zero bits
 pub toBits-zeros : (n : ℕ) → toBits (replicate n 0) ≡ replicate (n * 8) 0

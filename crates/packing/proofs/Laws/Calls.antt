@@ -16,6 +16,7 @@ use Rattle.endian.proofs.Booleans.{and-out, or-none}
 use Rattle.endian.proofs.Ranges.{bounds}
 use Rattle.call.specs.declared.Refusal.{Refusal}
 use Rattle.call.specs.Table.{Answer, value, refused, unless}
+use Rattle.call.proofs.Table.{same-value}
 use Rattle.packing.specs.Width.{width, givenRows, badWordCount}
 use Rattle.call.specs.Buffers.{written}
 use Rattle.call.specs.Limits.{badCount, badCode}
@@ -42,9 +43,6 @@ pub record Packs (W : ℕ) (codes out : List ℕ) (k : ℕ) : Type 0 where
   pub room : packedSize (width W) (length codes) ≤ length out
   pub size : packedSize (width W) (length codes) ≡ k
 
-same-value : (m k : ℕ) → value m ≡ value k → m ≡ k
-same-value m k e = cc
-
 pub packs : (W : ℕ) (codes out : List ℕ) (k : ℕ) → packAnswer W codes out ≡ value k → Packs W codes out k
 unfolding packAnswer packRows givenRows unless badWordCount badCount
 packs W codes out k e =
@@ -57,7 +55,7 @@ packs W codes out k e =
       count = inside 1 8 (length codes) (b .0);
       low = d .0;
       room = ltb-false (length out) (packedSize (width W) (length codes)) (f .0);
-      size = same-value _ k (f .1);
+      size = same-value (f .1);
     }
 
 -- what packing leaves in the output
@@ -103,7 +101,7 @@ unpacks W n bytes out k e =
       padded = p .1;
       low = f .0;
       room = ltb-false (length out) (4 * n) (g .0);
-      all = same-value n k (g .1);
+      all = same-value (g .1);
     }
 
 -- what unpacking leaves in the output

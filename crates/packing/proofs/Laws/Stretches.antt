@@ -8,6 +8,7 @@ use native.Mathlib.Numerals.{add-one}
 use native.Mathlib.Omega.{arith}
 use lib.ListN.{length, take, drop, getD, replicate, length-append, length-take, length-drop, take-append-drop}
 use lib.Seq.{sets, sets-eq, take-suc, take-nil, drop-nil, length-take-le, take-at, take-take, drop-drop, take-add, drop-append-le, take-append-add, drop-append-add}
+use Rattle.endian.proofs.Lists.{flatMap-append}
 use Rattle.packing.specs.Offsets.{overlay}
 
 -- ---- lists of numbers below k
@@ -112,12 +113,6 @@ overlay-inner p u k xs l h m =
 
 -- ---- stretches of one length
 
-module _ (f : ℕ → List ℕ) where
-  pub flat-append : (xs ys : List ℕ) → flatMap f (xs ++ ys) ≡ flatMap f xs ++ flatMap f ys
-  unfolding flatMap
-  flat-append [] ys = refl
-  flat-append (x ∷ xs) ys = rw (flat-append xs ys) (sym (append-assoc (f x) (flatMap f xs) (flatMap f ys)))
-
 module _ (f : ℕ → List ℕ) (b : ℕ) (each : (x : ℕ) → length (f x) ≡ b) where
   next : (i x : ℕ) → suc i * b ≡ length (f x) + i * b
   next i x = omega (arith, suc-mul i b, each x)
@@ -156,5 +151,5 @@ module _ (f : ℕ → List ℕ) (b : ℕ) (each : (x : ℕ) → length (f x) ≡
       sym (zero-add (length done) ∙ length-flat (take i xs) ∙ ap (λ (k : ℕ). k * b) (length-take-le i xs (omega arith))) in
       let e : flatMap f (take (i + 1) xs) ≡ done ++ next =
       ap (λ (k : ℕ). flatMap f (take k xs)) (add-one i) ∙ ap (flatMap f) (take-suc xs i 0 h)
-      ∙ flat-append f (take i xs) (getD xs i 0 ∷ []) ∙ ap (λ (t : List ℕ). done ++ t) (append-nil next) in
+      ∙ flatMap-append f (take i xs) (getD xs i 0 ∷ []) ∙ ap (λ (t : List ℕ). done ++ t) (append-nil next) in
       ap (λ (k : ℕ). overlay k next (overlay 0 done l)) n ∙ overlay-more 0 done next l (omega arith) ∙ ap (λ (t : List ℕ). overlay 0 t l) (sym e)

@@ -19,17 +19,17 @@ use Rattle.packing.proofs.judge_pack.Tie as tie
 
 returns : tie.Need-returns
 unfolding packAnswer packRows givenRows unless badWordCount
-returns c = rw (sym (c .before .outside .ensures) ∙ c .if1 .taken)
+returns c = rw (← c .before .inside .ensures, c .if1 .taken)
 
 -- the rows that were passed
 
 words-good : (c : tie.Else1) → badWordCount (c .before .before .before .before .args .words) ≡ false
 unfolding badWordCount
-words-good c = sym (c .before .outside .ensures) ∙ c .if1 .left
+words-good c = rw (← c .before .inside .ensures) (c .if1 .left)
 
 count-good : (c : tie.Else2) → badCount (length (c .before .before .before .before .before .before .args .codes .now)) ≡ false
 unfolding badCount
-count-good c = sym (c .before .outside2 .ensures) ∙ c .if2 .left
+count-good c = rw (← c .before .inside2 .ensures) (c .if2 .left)
 
 codes-good : (c : tie.Else3) →
     let a = c .before .before .before .before .before .before .before .before .args in
@@ -52,7 +52,7 @@ size-is c = let e = c .before .width-of .ensures in rw (c .packed-size .ensures,
 
 returns-2 : tie.Need-returns-2
 unfolding packAnswer packRows givenRows unless badCount
-returns-2 c = rw (words-good (c .before .before), sym (c .before .outside2 .ensures) ∙ c .if2 .taken)
+returns-2 c = rw (words-good (c .before .before), ← c .before .inside2 .ensures, c .if2 .taken)
 
 returns-3 : tie.Need-returns-3
 unfolding packAnswer packRows givenRows unless

@@ -18,17 +18,17 @@ use Rattle.packing.proofs.judge_unpack.Tie as tie
 
 returns : tie.Need-returns
 unfolding unpackAnswer unpackRows givenRows unless badWordCount
-returns c = rw (sym (c .before .outside .ensures) ∙ c .if1 .taken)
+returns c = rw (← c .before .inside .ensures, c .if1 .taken)
 
 -- the rows that were passed
 
 words-good : (c : tie.Else1) → badWordCount (c .before .before .before .before .args .words) ≡ false
 unfolding badWordCount
-words-good c = sym (c .before .outside .ensures) ∙ c .if1 .left
+words-good c = rw (← c .before .inside .ensures) (c .if1 .left)
 
 count-good : (c : tie.Else2) → badCount (c .before .before .before .before .before .before .args .n) ≡ false
 unfolding badCount
-count-good c = sym (c .before .outside2 .ensures) ∙ c .if2 .left
+count-good c = rw (← c .before .inside2 .ensures) (c .if2 .left)
 
 small : (c : tie.After-width-of) → Small (c .before .before .before .before .before .before .before .args .n) (c .width-of .result)
 unfolding badWordCount badCount
@@ -51,7 +51,7 @@ codes-good c = let e = c .before .before .before .before .width-of .ensures in r
 
 returns-2 : tie.Need-returns-2
 unfolding unpackAnswer unpackRows givenRows unless badCount
-returns-2 c = rw (words-good (c .before .before), sym (c .before .outside2 .ensures) ∙ c .if2 .taken)
+returns-2 c = rw (words-good (c .before .before), ← c .before .inside2 .ensures, c .if2 .taken)
 
 width-of-requires : tie.Need-width-of-requires
 unfolding badWordCount

@@ -1,5 +1,5 @@
 -- `width` meets its contract: 9 outside 1 to 1,048,576, and the width inside. Assumes nothing.
-use mathlib.Core.Path.{_≡_, sym, ap, _∙_}
+use mathlib.Core.Path.{_≡_, ap}
 use mathlib.Core.Bool.{false}
 use borrow.Author.Needs.{needs}
 use Rattle.call.specs.Table.{value, unless}
@@ -10,12 +10,12 @@ use Rattle.packing.proofs.width.Tie as tie
 
 returns : tie.Need-returns
 unfolding widthAnswer givenRows badWordCount unless
-returns c = rw (sym (c .before .outside .ensures) ∙ c .if1 .taken)
+returns c = rw (← c .before .inside .ensures, c .if1 .taken)
 
 -- row 9 was passed
 words-good : (c : tie.Else1) → badWordCount (c .before .before .args .words) ≡ false
 unfolding badWordCount
-words-good c = sym (c .before .outside .ensures) ∙ c .if1 .left
+words-good c = rw (← c .before .inside .ensures) (c .if1 .left)
 
 width-of-requires : tie.Need-width-of-requires
 unfolding badWordCount

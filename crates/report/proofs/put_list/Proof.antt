@@ -3,12 +3,13 @@ use mathlib.Core.Path.{_≡_, sym, ap, _∙_}
 use native.Mathlib.Omega.{arith}
 use borrow.Author.Needs.{needs}
 use Rattle.call.specs.Table.{answerOf}
+use Rattle.call.proofs.Table.{same-value}
 use Rattle.graph.specs.Graph.{graphOf, wordCount}
 use Rattle.packing.specs.Width.{width, widthAnswer}
 use Rattle.report.specs.Put.{Put}
 use Rattle.report.specs.Report.{firstLine}
 use Rattle.report.proofs.Putting.{put-more}
-use Rattle.report.proofs.Answers.{same-value, no-refusal, check-answer}
+use Rattle.report.proofs.Answers.{no-refusal, check-answer}
 use Rattle.report.proofs.Counts.{width-answer, first-short}
 use Rattle.report.proofs.put_list.Statement.{statement}
 use Rattle.report.proofs.put_list.Tie as tie

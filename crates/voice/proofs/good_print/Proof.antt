@@ -29,6 +29,7 @@ good-print-spec =
     (search needs)
     (search needs)
     (search needs)
+    (search needs)
     returns
     returns-2
     (search needs)

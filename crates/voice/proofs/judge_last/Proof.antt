@@ -92,6 +92,7 @@ judge-last-spec =
     (search needs)
     (search needs)
     (search needs)
+    (search needs)
     returns-2
     (search needs)
     (search needs)

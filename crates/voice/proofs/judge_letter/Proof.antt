@@ -45,4 +45,5 @@ judge-letter-spec =
     (search needs)
     (search needs)
     (search needs)
+    (search needs)
     returns-2)

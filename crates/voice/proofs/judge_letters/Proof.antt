@@ -25,10 +25,10 @@ record Passed (v : List ℕ) (letters total i : ℕ) : Type 0 where
       ≡ andThen (firstBad (length v) (rowsLeft (letterFields v) i letters)) (fieldVerdict (length v) (statesAt v + 2) (eqb (stateCount v) (firstState v letters)))
 
 abbrev Inv-loop : tie.InvT-loop
-Inv-loop voice count letters sum₀ i₀ sum i = Passed voice letters sum i
+Inv-loop voice letters sum₀ i₀ sum i = Passed voice letters sum i
 
 abbrev μ-loop : tie.MeasureT-loop
-μ-loop voice count letters sum₀ i₀ sum i = letters - i
+μ-loop voice letters sum₀ i₀ sum i = letters - i
 
 returns : tie.Need-returns Inv-loop μ-loop
 returns c =
@@ -86,8 +86,8 @@ judge-letters-spec =
     (search needs)
     (search needs)
     (search needs)
-    returns
     (search needs)
+    returns
     loop-holds
     (search needs)
     (search needs)

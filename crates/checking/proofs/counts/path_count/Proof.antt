@@ -4,7 +4,7 @@ use Prim.Native.Nat.{_-_, _<_}
 use native.Mathlib.Omega.{arith}
 use borrow.Author.Needs.{needs}
 use Rattle.checking.proofs.Arcs.{arc-next}
-use Rattle.checking.proofs.Filling.{vertex-small, list-at, list-there, entry-above, successor-small}
+use Rattle.checking.proofs.Filling.{vertex-small, list-begins, list-ends, entry-above, successor-small}
 use Rattle.checking.proofs.Capped.{CountLeft, count-start, count-next, count-done}
 use Rattle.checking.proofs.counts.path_count.Statement.{statement}
 use Rattle.checking.proofs.counts.path_count.Tie as tie
@@ -18,7 +18,7 @@ abbrev μ-loop : tie.MeasureT-loop
 loop-holds : tie.Need-loop-holds Inv-loop μ-loop
 loop-holds c =
     let p = c .before .before .before .pre in
-    rw (c .number-at .ensures) (count-start (p .listed .well-formed) (p .vertex) (list-at p))
+    rw (c .number-at .ensures) (count-start (p .listed .well-formed) (p .vertex) (list-begins p))
 
 number-at-requires-2 : tie.Need-number-at-requires-2 Inv-loop μ-loop
 number-at-requires-2 c κs =
@@ -54,12 +54,12 @@ path-count-spec =
     μ-loop
     (λ c. let h = vertex-small (c .before .pre) in search needs)
     (λ c. let h = vertex-small (c .before .pre) in search needs)
-    (λ c. let h = list-there (c .before .before .pre) in search needs)
-    (λ c. let h = list-there (c .before .before .pre) in search needs)
-    (λ c κs. let h = list-there (c .before .before .pre) in search needs)
-    (λ c. let h = list-there (c .before .before .before .pre) in search needs)
-    (λ c. let h = list-there (c .before .before .before .pre) in search needs)
-    (λ c. let h = list-there (c .before .before .before .pre) in search needs)
+    (λ c. let h = list-ends (c .before .before .pre) in search needs)
+    (λ c. let h = list-ends (c .before .before .pre) in search needs)
+    (λ c κs. let h = list-ends (c .before .before .pre) in search needs)
+    (λ c. let h = list-ends (c .before .before .before .pre) in search needs)
+    (λ c. let h = list-ends (c .before .before .before .pre) in search needs)
+    (λ c. let h = list-ends (c .before .before .before .pre) in search needs)
     loop-holds
     number-at-requires-2
     (λ c. let h = entry c in search needs)

@@ -5,7 +5,7 @@ use mathlib.Core.Logic.{⊎-elim}
 use native.Mathlib.Omega.{arith}
 use borrow.Author.Needs.{needs}
 use Rattle.checking.proofs.Arcs.{arc-next}
-use Rattle.checking.proofs.Filling.{vertex-small, list-at, list-there, entry-above, successor-small}
+use Rattle.checking.proofs.Filling.{vertex-small, list-begins, list-ends, entry-above, successor-small}
 use Rattle.checking.proofs.Longest.{HeightLeft, height-start, height-next, height-done}
 use Rattle.checking.proofs.heights.height_above.Statement.{statement}
 use Rattle.checking.proofs.heights.height_above.Tie as tie
@@ -19,7 +19,7 @@ abbrev μ-loop : tie.MeasureT-loop
 loop-holds : tie.Need-loop-holds Inv-loop μ-loop
 loop-holds c =
     let p = c .before .before .before .pre in
-    rw (c .number-at .ensures) (height-start (p .listed .well-formed) (p .vertex) (list-at p))
+    rw (c .number-at .ensures) (height-start (p .listed .well-formed) (p .vertex) (list-begins p))
 
 number-at-requires-2 : tie.Need-number-at-requires-2 Inv-loop μ-loop
 number-at-requires-2 c κs =
@@ -56,12 +56,12 @@ height-above-spec =
     μ-loop
     (λ c. let h = vertex-small (c .before .pre) in search needs)
     (λ c. let h = vertex-small (c .before .pre) in search needs)
-    (λ c. let h = list-there (c .before .before .pre) in search needs)
-    (λ c. let h = list-there (c .before .before .pre) in search needs)
-    (λ c κs. let h = list-there (c .before .before .pre) in search needs)
-    (λ c. let h = list-there (c .before .before .before .pre) in search needs)
-    (λ c. let h = list-there (c .before .before .before .pre) in search needs)
-    (λ c. let h = list-there (c .before .before .before .pre) in search needs)
+    (λ c. let h = list-ends (c .before .before .pre) in search needs)
+    (λ c. let h = list-ends (c .before .before .pre) in search needs)
+    (λ c κs. let h = list-ends (c .before .before .pre) in search needs)
+    (λ c. let h = list-ends (c .before .before .before .pre) in search needs)
+    (λ c. let h = list-ends (c .before .before .before .pre) in search needs)
+    (λ c. let h = list-ends (c .before .before .before .pre) in search needs)
     loop-holds
     number-at-requires-2
     (λ c. let h = entry c in search needs)

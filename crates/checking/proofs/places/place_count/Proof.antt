@@ -7,7 +7,7 @@ use lib.ListN.{getD}
 use borrow.Author.Needs.{needs}
 use Rattle.lexicon.specs.Lexicon.{nodeCount}
 use Rattle.checking.proofs.Arcs.{nodes-there, shape-of}
-use Rattle.checking.proofs.Counting.{Images, PlacesLeft, NodeRead, well-formed, places-start, node-read, places-done}
+use Rattle.checking.proofs.Counting.{Images, PlacesLeft, NodeRead, well-formed, places-start, node-read, places-next, places-done}
 use Rattle.checking.proofs.places.place_count.Statement.{statement}
 use Rattle.checking.proofs.places.place_count.Tie as tie
 
@@ -35,14 +35,11 @@ loop-holds : tie.Need-loop-holds Inv-loop μ-loop
 loop-holds c = places-start _ _
 
 -- the node whose turn it is
-node : (c : tie.In-loop Inv-loop μ-loop) →
-    let l = c .before in
-    let a = l .before .before .before .before .args in
-    NodeRead (a .voice .now) (a .lexicon .now) (l .loop .count) (l .loop .node)
-node c =
-    let n = c .before .before in
-    let h = c .loop-test .taken in
-    node-read (images (n .before .before .before)) (c .before .loop .inv) (omega (arith, counted n))
+high : (c : tie.In-loop Inv-loop μ-loop) → c .before .loop .node ≤ nodeCount (c .before .before .before .before .before .args .lexicon .now)
+high c = let h = c .loop-test .taken in omega (arith, counted (c .before .before))
+
+node : (c : tie.In-loop Inv-loop μ-loop) → let a = c .before .before .before .before .before .args in NodeRead (a .voice .now) (a .lexicon .now) (c .before .loop .node)
+node c = node-read (images (c .before .before .before .before .before)) (c .before .loop .inv .first) (high c)
 
 -- a letter index is a byte
 letter : (c : tie.After-shared-slice-known3 Inv-loop μ-loop) → getD (c .before .before .before .before .before .before .args .lexicon .now) (1 + c .before .before .loop .node) 0 < 256
@@ -55,7 +52,7 @@ add-count-2 c =
     omega (arith, l .before .loop .inv .few, node l .few, few (l .before .before))
 
 loop-again : tie.Need-loop-again Inv-loop μ-loop
-loop-again c = node (c .before .before) .after
+loop-again c = let l = c .before .before in places-next (images (l .before .before .before .before .before)) (l .before .loop .inv) (high l)
 
 returns : tie.Need-returns Inv-loop μ-loop
 returns c = places-done (c .before .loop .inv) (let h = c .loop-test .left in omega (arith, counted (c .before .before)))

@@ -8,8 +8,8 @@ use borrow.Author.Needs.{needs}
 use Rattle.endian.specs.Bytes.{u16}
 use Rattle.lexicon.specs.Lexicon.{sinkOf}
 use Rattle.graph.specs.Graph.{graphOf, pathCount}
-use Rattle.checking.proofs.Arcs.{ArcNext}
-use Rattle.codes.proofs.Walks.{has-entry, list-entry, list-small, count-entry, ArcsToPass, pass-start, pass-arc, pass-here, pass-on}
+use Rattle.checking.proofs.Arcs.{ArcNext, has-entry, list-entry, list-at}
+use Rattle.codes.proofs.Walks.{count-entry, ArcsToPass, pass-start, pass-arc, pass-here, pass-on}
 use Rattle.codes.proofs.descent.descend.Statement.{statement}
 use Rattle.codes.proofs.descent.descend.Tie as tie
 
@@ -24,7 +24,7 @@ unfolding sinkOf
 low c = has-entry (c .before .pre .0 .listed .well-formed) (omega (arith, c .before .pre .1 .0))
 
 small : (c : tie.After-at Inv-loop μ-loop) → let a = c .before .before .args in getD (a .lists .now) (a .vertex) 0 ≤ 9204
-small c = let p = c .before .before .pre in list-small (p .0 .listed) (p .1 .0)
+small c = let p = c .before .before .pre in omega (arith, list-at (p .0 .listed) (p .1 .0) .small)
 
 loop-holds : tie.Need-loop-holds Inv-loop μ-loop
 loop-holds c = let p = c .before .before .pre in pass-start (p .0) (p .1 .0) (list-entry (p .0 .listed) (p .1 .0)) (p .1 .1)

@@ -1,5 +1,5 @@
 -- `descent::put_word` meets its contract: the letters passed stand at the output's start. The measure is the letters left. Assumes nothing.
-use Prim.Native.Nat.{ℕ, _+_, _-_, _≤_}
+use Prim.Native.Nat.{ℕ, _-_, _≤_}
 use mathlib.Core.Path.{_≡_, refl, sym, ap, _∙_}
 use mathlib.Core.List.{List, _++_}
 use lib.ListN.{length, getD, take, drop, set, length-set}

@@ -8,8 +8,10 @@ use lib.ListN.{length}
 use Rattle.lexicon.specs.Lexicon.{nodeCount, sinkOf}
 use Rattle.graph.specs.Graph.{sink, wordCount}
 use Rattle.graph.proofs.Accepted.{accepted}
+use Rattle.checking.proofs.Arcs.{shape-of}
+use Rattle.checking.proofs.Filling.{count-there}
 use Rattle.codes.proofs.Words.{readable}
-use Rattle.codes.proofs.Walks.{nodes-there, step-rises, LettersLeft, letters-start, letters-room, letters-next, letters-done}
+use Rattle.codes.proofs.Walks.{step-rises, LettersLeft, letters-start, letters-room, letters-next, letters-done}
 use Rattle.codes.proofs.descent.spell.Statement.{statement}
 use Rattle.codes.proofs.descent.spell.Tie as tie
 
@@ -20,13 +22,13 @@ abbrev μ-loop : tie.MeasureT-loop
 μ-loop voice lexicon lists counts code letters₀ sink vertex₀ left₀ length₀ letters vertex left length = sink - vertex
 
 number-at-requires : tie.Need-number-at-requires Inv-loop μ-loop
-number-at-requires c κs = nodes-there (c .before .before .pre .0 .tabled .listed .well-formed) .0
+number-at-requires c κs = count-there (c .before .before .pre .0 .tabled .listed .well-formed)
 
 -- N
 nodes : (c : tie.After-number-at Inv-loop μ-loop) →
     let a = c .before .before .before .args in (c .number-at .result ≡ nodeCount (a .lexicon .now)) × (c .number-at .result ≤ 400)
 unfolding nodeCount
-nodes c = let e = c .number-at .ensures in (e, rw e (nodes-there (c .before .before .before .pre .0 .tabled .listed .well-formed) .1))
+nodes c = let e = c .number-at .ensures in (e, rw e (shape-of (c .before .before .before .pre .0 .tabled .listed .well-formed) .few))
 
 descend-requires : tie.Need-descend-requires Inv-loop μ-loop
 unfolding wordCount

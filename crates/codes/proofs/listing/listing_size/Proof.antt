@@ -7,9 +7,10 @@ use native.Mathlib.Numerals.{add-one}
 use native.Mathlib.Omega.{arith}
 use borrow.Author.Needs.{needs}
 use lib.ListN.{length, length-set}
+use Rattle.endian.proofs.Lists.{getD-copies}
 use Rattle.lexicon.specs.Lexicon.{nodeCount, sinkOf}
 use Rattle.codes.specs.Lines.{CountedFrom}
-use Rattle.codes.proofs.Totals.{nodes, counted-none, counted-more, blank}
+use Rattle.codes.proofs.Totals.{nodes, counted-none, counted-more}
 use Rattle.codes.proofs.listing.listing_size.Statement.{statement}
 use Rattle.codes.proofs.listing.listing_size.Tie as tie
 
@@ -32,7 +33,7 @@ loop-holds : tie.Need-loop-holds Inv-loop μ-loop
 unfolding sinkOf nodeCount
 loop-holds c =
     let e : c .number-at .result + 1 ≡ sinkOf (c .before .before .args .lexicon .now) = add-one (c .number-at .result) ∙ rw (c .number-at .ensures) in
-    rw e (record { inside = omega arith; long = refl; counted = counted-none (c .before .before .pre) (blank 402 (sinkOf (c .before .before .args .lexicon .now))) })
+    rw e (record { inside = omega arith; long = refl; counted = counted-none (c .before .before .pre) (getD-copies 402 (sinkOf (c .before .before .args .lexicon .now)) 0) })
 
 -- the vertex before is the root or a node
 below : (c : tie.In-loop Inv-loop μ-loop) → (c .before .loop .vertex - 1 ≤ nodeCount (c .before .before .before .before .args .lexicon .now)) × (c .before .loop .vertex - 1 < 402)

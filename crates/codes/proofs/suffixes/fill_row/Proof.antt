@@ -6,7 +6,8 @@ use native.Mathlib.Omega.{arith}
 use borrow.Author.Needs.{needs}
 use Rattle.lexicon.specs.Lexicon.{nodeCount, sinkOf}
 use Rattle.graph.specs.Graph.{graphOf, sink}
-use Rattle.codes.proofs.Walks.{nodes-there}
+use Rattle.checking.proofs.Arcs.{shape-of}
+use Rattle.checking.proofs.Filling.{count-there}
 use Rattle.codes.proofs.Marks.{RowFilled, row-start, row-next, row-done}
 use Rattle.codes.proofs.suffixes.fill_row.Statement.{statement}
 use Rattle.codes.proofs.suffixes.fill_row.Tie as tie
@@ -18,7 +19,7 @@ abbrev μ-loop : tie.MeasureT-loop
 μ-loop voice lexicon lists word table₀ i sink vertex₀ table vertex = sink + 1 - vertex
 
 number-at-requires : tie.Need-number-at-requires Inv-loop μ-loop
-number-at-requires c κs = nodes-there (c .before .before .before .before .pre .0 .0 .listed .well-formed) .0
+number-at-requires c κs = count-there (c .before .before .before .before .pre .0 .0 .listed .well-formed)
 
 -- the sink, and how high it is
 sink-is : (c : tie.After-number-at Inv-loop μ-loop) →
@@ -26,7 +27,7 @@ sink-is : (c : tie.After-number-at Inv-loop μ-loop) →
 unfolding nodeCount sink
 sink-is c =
     let e = c .number-at .ensures in
-    (omega arith, rw e (nodes-there (c .before .before .before .before .before .pre .0 .0 .listed .well-formed) .1))
+    (omega arith, rw e (shape-of (c .before .before .before .before .before .pre .0 .0 .listed .well-formed) .few))
 
 loop-holds : tie.Need-loop-holds Inv-loop μ-loop
 loop-holds c = row-start (c .before .before .before .before .before .pre .1)

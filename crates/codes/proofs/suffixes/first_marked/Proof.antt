@@ -8,9 +8,10 @@ use borrow.Author.Needs.{needs}
 use Rattle.endian.specs.Bytes.{u16}
 use Rattle.lexicon.specs.Lexicon.{sinkOf}
 use Rattle.graph.specs.Graph.{graphOf, pathCount}
-use Rattle.checking.proofs.Arcs.{ArcNext}
-use Rattle.codes.proofs.Walks.{has-entry, list-entry, list-small, count-entry}
-use Rattle.codes.proofs.Search.{is-marked, not-marked, MarkAhead, ahead-start, ahead-arc, ahead-here, ahead-below, ahead-next}
+use Rattle.checking.proofs.Arcs.{ArcNext, has-entry, list-entry, list-at}
+use Rattle.checking.proofs.Increments.{counts-below}
+use Rattle.codes.proofs.Walks.{count-entry}
+use Rattle.codes.proofs.Search.{is-marked, not-marked, MarkAhead, ahead-start, ahead-arc, ahead-here, ahead-next}
 use Rattle.codes.proofs.suffixes.first_marked.Statement.{statement}
 use Rattle.codes.proofs.suffixes.first_marked.Tie as tie
 
@@ -25,18 +26,18 @@ unfolding sinkOf
 low c = let p = c .before .before .pre in has-entry (p .0 .listed .well-formed) (omega (arith, p .1 .0 .0))
 
 small : (c : tie.After-at Inv-loop μ-loop) → let a = c .before .before .before .args in getD (a .lists .now) (a .vertex) 0 ≤ 9204
-small c = let p = c .before .before .before .pre in list-small (p .0 .listed) (p .1 .0 .0)
+small c = let p = c .before .before .before .pre in omega (arith, list-at (p .0 .listed) (p .1 .0 .0) .small)
 
 loop-holds : tie.Need-loop-holds Inv-loop μ-loop
-loop-holds c = let p = c .before .before .before .pre in ahead-start (p .0) (p .1 .0 .0) (list-entry (p .0 .listed) (p .1 .0 .0)) (p .1 .1 .0)
+loop-holds c = let p = c .before .before .before .pre in ahead-start (p .0 .listed .well-formed) (p .1 .0 .0) (list-entry (p .0 .listed) (p .1 .0 .0)) (p .1 .1 .0)
 
 next : (c : tie.At-loop Inv-loop μ-loop) →
     let a = c .before .before .before .before .args in
-    ArcNext (a .lexicon .now) (a .vertex) (c .loop .at) (c .loop .inv .stop) (c .loop .inv .later)
-next c = let p = c .before .before .before .before .pre in ahead-arc (p .0) (p .1 .0 .0) (c .loop .inv)
+    ArcNext (a .lexicon .now) (a .vertex) (c .loop .at) (c .loop .inv .stop) (c .loop .inv .counts .later)
+next c = let p = c .before .before .before .before .pre in ahead-arc (p .0 .listed .well-formed) (p .1 .0 .0) (c .loop .inv)
 
 there : (c : tie.At-loop Inv-loop μ-loop) → c .loop .at + 2 ≤ length (c .before .before .before .before .args .lexicon .now)
-there c = omega (arith, next c .room, c .loop .inv .arcs .there)
+there c = omega (arith, next c .room, c .loop .inv .counts .arcs .there)
 
 leads : (c : tie.After-number-at Inv-loop μ-loop) → c .number-at .result < 402
 leads c =
@@ -52,7 +53,7 @@ returns : tie.Need-returns Inv-loop μ-loop
 returns c =
     let n = c .before .before in
     let s = n .before .before .before .before .before in
-    rw (n .number-at .ensures) (ahead-here (s .pre .0) (s .pre .1 .0 .0) (n .before .loop .inv) (rw (n .number-at .ensures) at (is-marked (s .args .table .now) (s .args .row) (n .number-at .result) (c .if1 .taken))))
+    rw (n .number-at .ensures) (ahead-here (s .pre .0 .listed .well-formed) (s .pre .1 .0 .0) (n .before .loop .inv) (rw (n .number-at .ensures) at (is-marked (s .args .table .now) (s .args .row) (n .number-at .result) (c .if1 .taken))))
 
 -- the count that is read is the successor's path count
 count : (c : tie.After-code Inv-loop μ-loop) →
@@ -68,7 +69,7 @@ add-code : tie.Need-add-code Inv-loop μ-loop
 add-code c =
     let n = c .before .before .before in
     let p = n .before .before .before .before .before .pre in
-    omega (arith, count c, p .1 .1 .1, ahead-below (p .0) (p .1 .0 .0) (n .before .loop .inv))
+    omega (arith, count c, p .1 .1 .1, counts-below (p .0 .listed .well-formed) (p .1 .0 .0) (n .before .loop .inv .counts) (next (n .before)))
 
 loop-less : tie.Need-loop-less Inv-loop μ-loop
 loop-less c = omega (arith, there (c .before .before .before .before))
@@ -77,7 +78,7 @@ loop-again : tie.Need-loop-again Inv-loop μ-loop
 loop-again c =
     let n = c .before .before .before in
     let s = n .before .before .before .before .before in
-    rw (count c) (ahead-next (s .pre .0) (s .pre .1 .0 .0) (n .before .loop .inv) (rw (n .number-at .ensures) at (not-marked (s .args .table .now) (s .args .row) (n .number-at .result) (c .before .if1 .left))))
+    rw (count c) (ahead-next (s .pre .0 .listed .well-formed) (s .pre .1 .0 .0) (n .before .loop .inv) (rw (n .number-at .ensures) at (not-marked (s .args .table .now) (s .args .row) (n .number-at .result) (c .before .if1 .left))))
 
 pub first-marked-spec : {M : Type 1} → statement M
 first-marked-spec =

@@ -4,16 +4,16 @@ use mathlib.Core.Path.{sym}
 use lib.ListN.{length, getD}
 use native.Mathlib.Omega.{arith}
 use borrow.Author.Needs.{needs}
-use Rattle.endian.specs.Bytes.{u16}
 use Rattle.lexicon.specs.Lexicon.{sinkOf}
-use Rattle.checking.proofs.Arcs.{ArcNext, arc-next}
-use Rattle.codes.proofs.Walks.{has-entry, list-entry, list-there, list-end}
-use Rattle.codes.proofs.Search.{is-marked, not-marked, Unmarked, unmarked-start, unmarked-found, unmarked-next, unmarked-none}
+use Rattle.checking.proofs.Arcs.{ArcNext, arc-next, ListThere, has-entry, list-entry, list-at}
+use Rattle.checking.proofs.Masks.{Searching, search-start, search-found, search-next, search-done}
+use Rattle.codes.specs.Marks.{marked}
+use Rattle.codes.proofs.Search.{is-marked, not-marked}
 use Rattle.codes.proofs.suffixes.leads.Statement.{statement}
 use Rattle.codes.proofs.suffixes.leads.Tie as tie
 
 abbrev Inv-loop : tie.InvT-loop
-Inv-loop lexicon lists table vertex row start end at₀ at = Unmarked lexicon table row vertex at end
+Inv-loop lexicon lists table vertex row start end at₀ at = Searching (marked table row) lexicon vertex at end
 
 abbrev μ-loop : tie.MeasureT-loop
 μ-loop lexicon lists table vertex row start end at₀ at = end - at
@@ -26,20 +26,19 @@ low c = let p = c .before .before .pre in has-entry (p .0 .well-formed) (omega (
 abbrev start : tie.After-start Inv-loop μ-loop → ℕ
 start c = let a = c .before .before .before .args in getD (a .lists .now) (a .vertex) 0
 
-ends : (c : tie.After-start Inv-loop μ-loop) →
-    let x = c .before .before .before .args .lexicon .now in (start c + 2 + 2 * u16 x (start c) ≤ length x) × (start c + 2 + 2 * u16 x (start c) ≤ 9204)
-ends c = let p = c .before .before .before .pre in (list-there (p .0) (p .1 .0), list-end (p .0) (p .1 .0))
+ends : (c : tie.After-start Inv-loop μ-loop) → ListThere (c .before .before .before .args .lexicon .now) (start c)
+ends c = let p = c .before .before .before .pre in list-at (p .0) (p .1 .0)
 
 number-at-requires : tie.Need-number-at-requires Inv-loop μ-loop
-number-at-requires c κs = omega (arith, ends c .0)
+number-at-requires c κs = omega (arith, ends c .there)
 
 ended : (c : tie.After-number-at Inv-loop μ-loop) → start (c .before) + 2 + 2 * c .number-at .result ≤ 9204
-ended c = rw (c .number-at .ensures) (ends (c .before) .1)
+ended c = rw (c .number-at .ensures) (ends (c .before) .small)
 
 loop-holds : tie.Need-loop-holds Inv-loop μ-loop
 loop-holds c =
     let p = c .before .before .before .before .pre in
-    rw (c .number-at .ensures) (unmarked-start (p .0) (p .1 .0) (list-entry (p .0) (p .1 .0)))
+    rw (c .number-at .ensures) (search-start _ (p .0 .well-formed) (p .1 .0) (list-entry (p .0) (p .1 .0)))
 
 next : (c : tie.In-loop Inv-loop μ-loop) →
     let l = c .before in
@@ -62,16 +61,16 @@ returns : tie.Need-returns Inv-loop μ-loop
 returns c =
     let n = c .before .before in
     let a = n .before .before .before .before .before .before .before .args in
-    sym (unmarked-found (n .before .before .loop .inv) (n .before .loop-test .taken) (rw (n .number-at2 .ensures) at (is-marked (a .table .now) (a .row) (n .number-at2 .result) (c .if1 .taken))))
+    sym (search-found _ (n .before .before .loop .inv) (n .before .loop-test .taken) (rw (n .number-at2 .ensures) at (is-marked (a .table .now) (a .row) (n .number-at2 .result) (c .if1 .taken))))
 
 loop-again : tie.Need-loop-again Inv-loop μ-loop
 loop-again c =
     let n = c .before .before in
     let a = n .before .before .before .before .before .before .before .args in
-    unmarked-next (n .before .before .loop .inv) (n .before .loop-test .taken) (rw (n .number-at2 .ensures) at (not-marked (a .table .now) (a .row) (n .number-at2 .result) (c .if1 .left)))
+    search-next _ (n .before .before .loop .inv) (n .before .loop-test .taken) (rw (n .number-at2 .ensures) at (not-marked (a .table .now) (a .row) (n .number-at2 .result) (c .if1 .left)))
 
 returns-2 : tie.Need-returns-2 Inv-loop μ-loop
-returns-2 c = sym (unmarked-none (c .before .loop .inv) (c .loop-test .left))
+returns-2 c = sym (search-done _ (c .before .loop .inv) (c .loop-test .left))
 
 pub leads-spec : {M : Type 1} → statement M
 leads-spec =
@@ -81,8 +80,8 @@ leads-spec =
     μ-loop
     (λ c. let h = low c in search needs)
     low
-    (λ c. let h = ends c .1 in search needs)
-    (λ c. let h = ends c .1 in search needs)
+    (λ c. let h = ends c .small in search needs)
+    (λ c. let h = ends c .small in search needs)
     number-at-requires
     (λ c. let h = ended c in search needs)
     (λ c. let h = ended c in search needs)

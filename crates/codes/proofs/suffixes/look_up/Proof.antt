@@ -8,8 +8,9 @@ use borrow.Author.Needs.{needs}
 use borrow.Author.Tests.{not-true, not-false}
 use Rattle.lexicon.specs.Lexicon.{nodeCount, sinkOf}
 use Rattle.graph.specs.Graph.{graphOf}
+use Rattle.checking.proofs.Arcs.{shape-of}
+use Rattle.checking.proofs.Filling.{count-there}
 use Rattle.codes.specs.Marks.{fitsAfter, RowsFrom}
-use Rattle.codes.proofs.Walks.{nodes-there}
 use Rattle.codes.proofs.Lookups.{CodeSought, sought-start, sought-room, sought-few, sought-ahead, sought-rises, sought-next, sought-done, root-says, looked-found, looked-unfit, looked-long}
 use Rattle.codes.proofs.suffixes.look_up.Statement.{statement}
 use Rattle.codes.proofs.suffixes.look_up.Tie as tie
@@ -65,7 +66,7 @@ returns-2 c =
 number-at-requires : tie.Need-number-at-requires Inv-loop μ-loop
 number-at-requires c κs =
     let f = c .before .before .before .before .before in
-    nodes-there (f .before .before .before .before .before .before .before .pre .0 .tabled .listed .well-formed) .0
+    count-there (f .before .before .before .before .before .before .before .pre .0 .tabled .listed .well-formed)
 
 -- N
 nodes : (c : tie.After-number-at Inv-loop μ-loop) →
@@ -76,7 +77,7 @@ unfolding nodeCount
 nodes c =
     let f = c .before .before .before .before .before .before in
     let e = c .number-at .ensures in
-    (e, rw e (nodes-there (f .before .before .before .before .before .before .before .pre .0 .tabled .listed .well-formed) .1))
+    (e, rw e (shape-of (f .before .before .before .before .before .before .before .pre .0 .tabled .listed .well-formed) .few))
 
 -- the word is one
 found : (c : tie.After-number-at Inv-loop μ-loop) →

@@ -6,20 +6,21 @@ use native.Mathlib.Omega.{arith}
 use borrow.Author.Needs.{needs}
 use Rattle.lexicon.specs.Lexicon.{nodeCount, sinkOf}
 use Rattle.graph.specs.Graph.{graphOf, sink}
-use Rattle.graph.proofs.Accepted.{accepted}
+use Rattle.graph.proofs.Accepted.{accepted, sound-images}
+use Rattle.checking.proofs.Arcs.{shape-of}
+use Rattle.checking.proofs.Filling.{count-there}
 use Rattle.codes.specs.Marks.{fits, markOf}
-use Rattle.codes.proofs.Words.{readable, sound-images}
-use Rattle.codes.proofs.Walks.{nodes-there}
+use Rattle.codes.proofs.Words.{readable}
 use Rattle.codes.proofs.Marks.{mark-end, mark-no-end, mark-beyond, mark-other, mark-after, marks-say}
 use Rattle.codes.proofs.suffixes.mark.Statement.{statement}
 use Rattle.codes.proofs.suffixes.mark.Tie as tie
 
 number-at-requires : tie.Need-number-at-requires
-number-at-requires c κs = nodes-there (c .before .before .before .before .pre .0 .listed .well-formed) .0
+number-at-requires c κs = count-there (c .before .before .before .before .pre .0 .listed .well-formed)
 
 add-sink : tie.Need-add-sink
 unfolding nodeCount
-add-sink c = omega (arith, c .number-at .ensures, nodes-there (c .before .before .before .before .before .pre .0 .listed .well-formed) .1)
+add-sink c = omega (arith, c .number-at .ensures, shape-of (c .before .before .before .before .before .pre .0 .listed .well-formed) .few)
 
 sink-is : (c : tie.After-number-at) → c .number-at .result + 1 ≡ sink (graphOf (c .before .before .before .before .before .args .lexicon .now))
 unfolding nodeCount sink

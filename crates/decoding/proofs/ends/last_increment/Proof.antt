@@ -8,8 +8,8 @@ use borrow.Author.Needs.{needs}
 use Rattle.endian.specs.Bytes.{u16}
 use Rattle.lexicon.specs.Lexicon.{nodeCount, sinkOf}
 use Rattle.graph.specs.Graph.{graphOf, pathCount}
-use Rattle.checking.proofs.Arcs.{ArcNext}
-use Rattle.decoding.proofs.Closing.{EndAhead, vertex-entry, next-entry, list-at, count-entry, ahead-start, ahead-arc, ahead-here, ahead-below, ahead-next, ahead-done}
+use Rattle.checking.proofs.Arcs.{ArcNext, has-entry, list-at}
+use Rattle.decoding.proofs.Closing.{EndAhead, count-entry, ahead-start, ahead-arc, ahead-here, ahead-below, ahead-next, ahead-done}
 use Rattle.decoding.proofs.ends.last_increment.Statement.{statement}
 use Rattle.decoding.proofs.ends.last_increment.Tie as tie
 
@@ -20,12 +20,13 @@ abbrev μ-loop : tie.MeasureT-loop
 μ-loop lexicon lists counts node sink start stop at₀ increment₀ at increment = stop - at
 
 low : (c : tie.After-u16-at Inv-loop μ-loop) → c .before .before .args .node < 402
-low c = let p = c .before .before .pre in vertex-entry (p .0) (p .1)
+unfolding sinkOf
+low c = let p = c .before .before .pre in has-entry (p .0 .listed .well-formed) (omega (arith, p .1))
 
 small : (c : tie.After-start Inv-loop μ-loop) →
     let a = c .before .before .before .args in
     getD (a .lists .now) (a .node) 0 + 2 + 2 * u16 (a .lexicon .now) (getD (a .lists .now) (a .node) 0) ≤ 9204
-small c = let p = c .before .before .before .pre in list-at (p .0) (p .1) .small
+small c = let p = c .before .before .before .pre in list-at (p .0 .listed) (p .1) .small
 
 size : (c : tie.After-u16-at2 Inv-loop μ-loop) →
     let a = c .before .before .before .before .args in
@@ -39,13 +40,13 @@ loop-holds c = let p = c .before .before .before .before .pre in rw (c .u16-at2 
 next : (c : tie.In-loop Inv-loop μ-loop) →
     let l = c .before in
     let a = l .before .before .before .before .before .args in
-    ArcNext (a .lexicon .now) (a .node) (l .loop .at) (getD (a .lists .now) (a .node) 0 + 2 + 2 * l .before .u16-at2 .result) (l .loop .inv .later)
+    ArcNext (a .lexicon .now) (a .node) (l .loop .at) (getD (a .lists .now) (a .node) 0 + 2 + 2 * l .before .u16-at2 .result) (l .loop .inv .counts .later)
 next c = let p = c .before .before .before .before .before .before .pre in ahead-arc (p .0) (p .1) (c .before .loop .inv) (c .loop-test .taken)
 
 leads : (c : tie.After-u16-at3 Inv-loop μ-loop) → c .u16-at3 .result < 402
 leads c =
     let p = c .before .before .before .before .before .before .before .pre in
-    rw (c .u16-at3 .ensures) (next-entry (p .0) (p .1) (next (c .before) .bounded))
+    rw (c .u16-at3 .ensures) (has-entry (p .0 .listed .well-formed) (next (c .before) .bounded))
 
 -- the number of the sink
 to-sink : (c : tie.After-u16-at Inv-loop μ-loop) → c .u16-at .result + 1 ≡ sinkOf (c .before .before .args .lexicon .now)

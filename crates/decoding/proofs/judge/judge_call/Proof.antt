@@ -18,7 +18,7 @@ use Rattle.decoding.proofs.judge.judge_call.Tie as tie
 
 returns : tie.Need-returns
 unfolding callRows frameRows unless badFrameCount
-returns c = rw (sym (c .before .outside .ensures) ∙ c .if1 .taken)
+returns c = rw (← c .before .inside .ensures, c .if1 .taken)
 
 -- the symbols that are judged
 judged : (c : tie.After-has-bad-symbol) →
@@ -33,7 +33,7 @@ judged c =
 
 frames-good : (c : tie.Else1) → badFrameCount (length (c .before .before .before .before .before .args .frames .now)) ≡ false
 unfolding badFrameCount
-frames-good c = sym (c .before .outside .ensures) ∙ c .if1 .left
+frames-good c = rw (← c .before .inside .ensures) (c .if1 .left)
 
 symbols-good : (c : tie.Else2) →
     let a = c .before .before .before .before .before .before .before .before .before .args in
@@ -42,7 +42,7 @@ symbols-good c = sym (judged (c .before)) ∙ c .if2 .left
 
 count-good : (c : tie.Else3) → badCount (c .before .before .before .before .before .before .before .before .before .before .before .args .n) ≡ false
 unfolding badCount
-count-good c = sym (c .before .outside2 .ensures) ∙ c .if3 .left
+count-good c = rw (← c .before .inside2 .ensures) (c .if3 .left)
 
 returns-2 : tie.Need-returns-2
 unfolding callRows frameRows unless
@@ -52,7 +52,7 @@ returns-3 : tie.Need-returns-3
 unfolding callRows frameRows unless badCount
 returns-3 c =
     let e = c .before .before in
-    rw (frames-good (e .before .before .before .before), symbols-good e, sym (c .before .outside2 .ensures) ∙ c .if3 .taken)
+    rw (frames-good (e .before .before .before .before), symbols-good e, ← c .before .inside2 .ensures, c .if3 .taken)
 
 returns-4 : tie.Need-returns-4
 unfolding callRows frameRows unless

@@ -29,18 +29,18 @@ appended : (c : tie.After-power Inv-loop μ-loop) →
     let a = c .before .before .before .before .before .before .before .args in
     let l = c .before .before .before .before .before .loop in
     l .code * c .power .result + c .before .chunk-of .result
-    ≡ numberOf (take (l .at + c .before .before .before .least .result - a .bit) (drop (a .byte * 8 + a .bit) (toBits (a .packed .now))))
+    ≡ numberOf (take (l .at + c .before .before .before .chunk-size .result - a .bit) (drop (a .byte * 8 + a .bit) (toBits (a .packed .now))))
 appended c =
     let a = c .before .before .before .before .before .before .before .args in
     let l = c .before .before .before .before .before .loop in
     ap₂ (λ (x y : ℕ). x + y) (ap₂ (λ (x y : ℕ). x * y) (l .inv .2) (c .power .ensures)) (c .before .chunk-of .ensures)
-    ∙ read-step (a .byte) (a .bit) (a .b) (l .at) (c .before .before .before .least .result) (search needs) (search needs) (search needs) (search needs)
+    ∙ read-step (a .byte) (a .bit) (a .b) (l .at) (c .before .before .before .chunk-size .result) (search needs) (search needs) (search needs) (search needs)
     (a .packed .now) (search needs)
 
 small : (c : tie.After-power Inv-loop μ-loop) → c .before .before .before .before .before .loop .code * c .power .result + c .before .chunk-of .result < 2 ^ 20
 small c =
     let a = c .before .before .before .before .before .before .before .args in
-    let n = c .before .before .before .before .before .loop .at + c .before .before .before .least .result - a .bit in
+    let n = c .before .before .before .before .before .loop .at + c .before .before .before .chunk-size .result - a .bit in
     let short : n ≤ 20 = omega arith in
     rw (appended c) (lt-of-lt-of-le (read-below n (a .byte * 8 + a .bit) (a .packed .now)) (pow-mono short))
 
@@ -68,7 +68,6 @@ code-at-spec =
     μ-loop
     (λ c. search needs)
     loop-holds
-    (λ c. search needs)
     (λ c. search needs)
     (λ c κs. search needs)
     (λ c. search needs)

@@ -26,16 +26,16 @@ loop-holds : tie.Need-loop-holds Inv-loop μ-loop
 loop-holds c = (search needs, search needs, refl, put-none _ _ _ _)
 
 rem-chunk : tie.Need-rem-chunk Inv-loop μ-loop
-rem-chunk c = rw (c .power .ensures) (pow-pos (c .before .least .result))
+rem-chunk c = rw (c .power .ensures) (pow-pos (c .before .chunk-size .result))
 
 with-chunk-requires : tie.Need-with-chunk-requires Inv-loop μ-loop
-with-chunk-requires c κs = (search needs, rw (c .before .power .ensures) (mod-lt _ (pow-pos (c .before .before .least .result))))
+with-chunk-requires c κs = (search needs, rw (c .before .power .ensures) (mod-lt _ (pow-pos (c .before .before .chunk-size .result))))
 
 loop-again : tie.Need-loop-again Inv-loop μ-loop
 loop-again c =
     let a = c .before .before .before .before .before .before .before .args in
     let l = c .before .before .before .before .before .loop in
-    let size = c .before .before .before .least .result in (
+    let size = c .before .before .before .chunk-size .result in (
       search needs,
       search needs,
       simp length-set (l .inv .2),
@@ -57,7 +57,6 @@ put-code-spec =
     μ-loop
     (λ c. search needs)
     loop-holds
-    (λ c. search needs)
     (λ c. search needs)
     (λ c κs. search needs)
     (λ c. search needs)

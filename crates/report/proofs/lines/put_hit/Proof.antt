@@ -7,13 +7,14 @@ use borrow.Author.Needs.{needs}
 use lib.ListN.{length, take, length-take}
 use mir.Facts.{toZ-ofZ}
 use Rattle.call.specs.Table.{value, answerOf}
+use Rattle.call.proofs.Table.{same-value}
 use Rattle.graph.specs.Graph.{graphOf}
 use Rattle.graph.specs.Words.{wordOfCode}
 use Rattle.graph.proofs.Accepted.{accepted}
 use Rattle.ranking.specs.Mean.{meanOf, mean}
 use Rattle.codes.proofs.Words.{word-short}
 use Rattle.report.proofs.Hits.{mean-again}
-use Rattle.report.proofs.Answers.{same-value, no-refusal, mean-answer, word-answer, word-is, part-there, line-is, put-same}
+use Rattle.report.proofs.Answers.{no-refusal, mean-answer, word-answer, word-is, part-there, line-is, put-same}
 use Rattle.report.proofs.lines.put_hit.Statement.{statement}
 use Rattle.report.proofs.lines.put_hit.Tie as tie
 

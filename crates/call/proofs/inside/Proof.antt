@@ -1,7 +1,7 @@
--- `inside` meets its contract: below the low limit the test fails, else the high limit decides. Assumes nothing.
+-- `call::inside` meets its contract: below the low limit the test fails, else the high limit decides. Assumes nothing.
 use borrow.Author.Tests.{le-leb, lt-leb}
-use Rattle.voice.proofs.inside.Statement.{statement}
-use Rattle.voice.proofs.inside.Tie as tie
+use Rattle.call.proofs.inside.Statement.{statement}
+use Rattle.call.proofs.inside.Tie as tie
 
 returns : tie.Need-returns
 returns c = rw (lt-leb _ _ (c .if1 .taken))

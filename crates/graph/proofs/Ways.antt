@@ -1,19 +1,37 @@
 -- The ways from a vertex to the sink, by recursion over the vertices of a sound graph: at the sink nothing is left to go, and below it each way
--- goes to a successor and on from there. Each vertex has a way, and none has more arcs than vertices are left. Assumes nothing.
+-- goes to a successor and on from there. Each vertex has a way, so its path count is at least 1, and none has more arcs than vertices are left.
+-- Assumes nothing.
 use mathlib.Core.Path.{_≡_, refl, ap, _∙_}
 use mathlib.Core.Bool.{Bool, true, false, cond}
 use mathlib.Core.List.{List, [], _∷_, map, flatMap, List·Memᴰ, List·Memᴰ·head, List·Memᴰ·tail, List·Memᴰ·not-nil, Memᴰ·map, Memᴰ·of-map}
 use Prim.Native.Nat.{ℕ, zero, suc, _+_, _≤_, _<_}
 use native.Mathlib.Omega.{arith}
-use lib.ListN.{length, getD}
+use lib.ListN.{length, getD, length-map}
 use lib.Dec.{eqb}
 use borrow.Author.Tests.{eq-eqb, ne-eqb}
+use Rattle.endian.specs.Lists.{sum}
 use Rattle.endian.proofs.Booleans.{cond-else}
-use Rattle.endian.proofs.Lists.{mem-getD, mem-flatMap, of-flatMap, flatMap-cong}
-use Rattle.graph.specs.Graph.{Graph, sink, ways}
+use Rattle.endian.proofs.Lists.{mem-getD, place, mem-flatMap, of-flatMap, map-cong, length-flatMap, flatMap-cong}
+use Rattle.graph.specs.Graph.{Graph, sink, ways, pathCountWithin, pathCount}
 use Rattle.graph.proofs.Sound.{Sound, below-sink}
+
+-- ---- there are as many ways as the count says
+
+length-cond : (b : Bool) (l : List (List ℕ)) (n : ℕ) → length l ≡ n → length (cond b ([] ∷ []) l) ≡ cond b 1 n
+length-cond true l n e = refl
+length-cond false l n e = e
+
+pub length-ways : (g : Graph) (d u : ℕ) → length (ways g d u) ≡ pathCountWithin g d u
+unfolding ways pathCountWithin
+length-ways g zero u = length-cond (eqb u (sink g)) [] 0 refl
+length-ways g (suc d) u =
+    length-cond (eqb u (sink g)) _ _
+    (length-flatMap (λ s. map (λ p. s ∷ p) (ways g d s)) (g .successors u)
+    ∙ ap sum (map-cong _ _ (g .successors u) (λ s m. length-map (ways g d s) (λ p. s ∷ p) ∙ length-ways g d s)))
 
 module _ {g : Graph} (ok : Sound g) where
+  -- ---- by recursion
+
   -- a greater allowance of arcs changes nothing
   enough : (d e u : ℕ) → u ≤ sink g → sink g ≤ u + d → sink g ≤ u + e → ways g d u ≡ ways g e u
   unfolding ways
@@ -57,6 +75,10 @@ module _ {g : Graph} (ok : Sound g) where
 
   pub some-way : {u : ℕ} → u ≤ sink g → (p : List ℕ) × List·Memᴰ p (ways g (sink g) u)
   some-way {u} h = a-way (sink g) u h (omega arith)
+
+  pub some-path : {u : ℕ} → u ≤ sink g → 1 ≤ pathCount g u
+  unfolding pathCount
+  some-path {u} h = omega (arith, place [] (some-way h .1) .inside, length-ways g (sink g) u)
 
   -- ---- and no way is long
 
