@@ -4,24 +4,23 @@ use Prim.Native.Nat.{ℕ, zero, suc, _+_, _*_, _^_, _≤_, _<_}
 use mathlib.Core.Path.{_≡_, refl, sym, ap, _∙_}
 use mathlib.Core.Bool.{Bool, true, false}
 use mathlib.Core.Logic.{inl, ⊎-elim}
-use mathlib.Core.List.{List, [], _∷_, _++_, map, map-append, append-assoc, List·Memᴰ, List·Memᴰ·head as here, List·Memᴰ·tail as there, List·Memᴰ·append-cases as append-cases}
+use mathlib.Core.List.{List, [], _∷_, _++_, Memᴰ·append-right, List·Memᴰ, List·Memᴰ·head as here, List·Memᴰ·tail as there, List·Memᴰ·append-cases as append-cases}
 use native.Mathlib.Omega.{arith}
 use native.Mathlib.Nat.{add-zero}
 use lib.ListN.{length, getD}
-use Rattle.endian.specs.Lists.{sum}
 use Rattle.endian.specs.Bytes.{u16}
-use Rattle.endian.proofs.Lists.{sum-append}
 use Rattle.voice.specs.Voice.{letterCount, states, firstState, emission}
 use Rattle.voice.proofs.Letters.{states-range}
 use Rattle.voice.proofs.Scores.{letters-few}
-use Rattle.lexicon.specs.Lexicon.{nodeCount, nodeLetter, sinkOf, arcsAt, successors}
+use Rattle.lexicon.specs.Lexicon.{nodeCount, nodeLetter, sinkOf, successors}
 use Rattle.lexicon.proofs.WellFormed.{letter-known}
 use Rattle.graph.specs.Graph.{Graph, graphOf, sink, pathCount, wordCount, increment}
-use Rattle.graph.proofs.Codes.{increment-at, arc-count}
+use Rattle.graph.proofs.Codes.{arc-count}
 use Rattle.graph.proofs.Accepted.{AcceptedImages, accepted}
-use Rattle.checking.specs.Tables.{WellFormed}
+use Rattle.checking.specs.Tables.{WellFormed, Listed}
 use Rattle.checking.proofs.Tables.{entry}
-use Rattle.checking.proofs.Arcs.{shape-of, sound-of, nodes-there, ListThere, list-there, ArcsLeft, arcs-start, ArcNext, arc-next, arcs-done}
+use Rattle.checking.proofs.Arcs.{shape-of, sound-of, nodes-there, has-entry, ListThere, list-entry, list-at, ArcNext, arc-next, arcs-done}
+use Rattle.checking.proofs.Increments.{CountsPassed, counts-start, split-here, increment-here, counts-below, counts-next}
 use Rattle.ranking.specs.Hits.{Hit}
 use Rattle.decoder.specs.Score.{plus}
 use Rattle.passing.specs.Tokens.{Store, bestTokens, stateOf, heard, overArc}
@@ -183,24 +182,18 @@ module _ {x : List ℕ} {n nodes : ℕ} {firsts entries : List ℕ} {root : Bool
 
 -- ---- all arcs
 
-mem-middle : (l : List ℕ) {u : ℕ} (m : List ℕ) → List·Memᴰ u (l ++ u ∷ m)
-mem-middle [] m = here refl
-mem-middle (x ∷ l) m = there (mem-middle l m)
-
 module _ {x : List ℕ} {n : ℕ} {lists counts firsts entries : List ℕ} {w : ℕ} {root : Bool} {from : ℕ} {b₀ : List ℕ} (t : Handing x n lists counts firsts entries w root from b₀) where
   -- Q is the store when the arcs to the earlier successors are done
   pub record HandingLeft (at stop down : ℕ) (b : List ℕ) : Type 0 where
     pub Q : Store
-    pub earlier : List ℕ
-    pub left : List ℕ
-    pub arcs : ArcsLeft x w at stop left
-    pub split : successors x w ≡ earlier ++ left
-    pub counted : down ≡ downOf (sum (map (pathCount (graphOf x)) earlier))
+    pub total : ℕ
+    pub sums : CountsPassed x w at stop total
+    pub down-is : down ≡ downOf total
     pub stored : Stored (t .v) (graphOf x) n Q b
     pub above : {u s : ℕ} {y : Hit} → Place (t .v) (graphOf x) u s → w < u → List·Memᴰ y (Q u s) → Bound (graphOf x) (t .M + 65536) u y
     pub long : length b ≡ length b₀
     pub source-kept : source root n from b ≡ source root n from b₀
-    pub passed : passOn (t .v) (graphOf x) n (t .k) (λ u. t .score) w (t .l) left Q ≡ handedOn t
+    pub passed : passOn (t .v) (graphOf x) n (t .k) (λ u. t .score) w (t .l) (sums .later) Q ≡ handedOn t
 
   -- some token is handed on, so that the paths from w are among all
   some-words : ¬ (getD (source root n from b₀) 0 0 ≡ 0) → pathCount (graphOf x) w ≤ wordCount (graphOf x)
@@ -216,25 +209,25 @@ module _ {x : List ℕ} {n : ℕ} {lists counts firsts entries : List ℕ} {w : 
   pub source-room : root ≡ false → 8 * from + 8 ≤ length b₀
   source-room z = let r = t .inside z in omega (arith, r .room, r .some)
 
-  list-at : getD lists w 0 ≡ arcsAt x w
-  unfolding sinkOf
-  list-at = entry (t .ready .lists-of) (omega (arith, t .vertex))
+  abbrev formed : WellFormed x
+  formed = lexicon-formed (t .ready)
+
+  listed : Listed x lists
+  listed = record { well-formed = formed; table = t .ready .lists-of }
 
   pub vertex-few : w ≤ 400
-  vertex-few = omega (arith, t .vertex, shape-of (lexicon-formed (t .ready)) .few)
+  vertex-few = omega (arith, t .vertex, shape-of formed .few)
 
   pub list-of : ListThere x (getD lists w 0)
-  list-of = list-there (lexicon-formed (t .ready)) (t .vertex) list-at
+  list-of = list-at listed (t .vertex)
 
   pub handing-start : HandingLeft (getD lists w 0 + 2) (getD lists w 0 + 2 + 2 * u16 x (getD lists w 0)) 281474976710656 b₀
-  unfolding downOf sum handedOn
+  unfolding downOf handedOn counts-start
   handing-start = record {
     Q = t .Q;
-    earlier = [];
-    left = successors x w;
-    arcs = arcs-start (lexicon-formed (t .ready)) (t .vertex) list-at;
-    split = refl;
-    counted = refl;
+    total = 0;
+    sums = counts-start formed (t .vertex) (list-entry listed (t .vertex));
+    down-is = refl;
     stored = t .stored;
     above = t .above;
     long = refl;
@@ -269,24 +262,11 @@ module _ {x : List ℕ} {n : ℕ} {lists counts firsts entries : List ℕ} {w : 
     }
 
     module _ (h : at < stop) {u : ℕ} (e : u ≡ u16 x at) where
-      pub next : ArcNext x w at stop (L .left)
-      next = arc-next (L .arcs) h
-
-      left-is : L .left ≡ u ∷ next .others
-      left-is = next .split ∙ ap (λ (a : ℕ). a ∷ next .others) (sym e)
-
-      split-is : successors x w ≡ L .earlier ++ u ∷ next .others
-      split-is = L .split ∙ ap (λ l. L .earlier ++ l) left-is
+      pub next : ArcNext x w at stop (L .sums .later)
+      next = arc-next (L .sums .arcs) h
 
       in-list : List·Memᴰ u (successors x w)
-      in-list = rw split-is (mem-middle (L .earlier) (next .others))
-
-      below : w < sink (graphOf x)
-      unfolding sink
-      below = omega (arith, t .vertex)
-
-      increment-is : increment (graphOf x) w u ≡ sum (map (pathCount (graphOf x)) (L .earlier))
-      increment-is = increment-at (sound-of (lexicon-formed (t .ready))) below (L .earlier) (next .others) u split-is
+      in-list = rw (e, split-here formed (t .vertex) (L .sums) next) (Memᴰ·append-right (L .sums .earlier) (here refl))
 
       pub left-arc : {nodes : ℕ} → nodes ≡ nodeCount x → Arc x n nodes firsts entries root from u down b
       left-arc q = record {
@@ -296,45 +276,40 @@ module _ {x : List ℕ} {n : ℕ} {lists counts firsts entries : List ℕ} {w : 
         handing = so-far;
         nodes-is = q;
         arc = in-list;
-        down-is = rw increment-is (L .counted);
+        down-is = rw e (L .down-is ∙ ap downOf (increment-here formed (t .vertex) (L .sums) next));
       }
 
       pub successor-few : u ≤ 401
       unfolding sinkOf
-      successor-few = omega (arith, next .bounded, shape-of (lexicon-formed (t .ready)) .few)
+      successor-few = omega (arith, e, has-entry formed (next .bounded))
 
-      count-is : getD counts u 0 ≡ pathCount (graphOf x) u
-      count-is = entry (t .ready .counts-of) (omega (arith, next .bounded))
+      count-is : getD counts u 0 ≡ pathCount (graphOf x) (u16 x at)
+      count-is = rw e (entry (t .ready .counts-of) (omega (arith, next .bounded)))
 
       -- the counts don't overflow where there are tokens
       pub down-few : ¬ (getD (source root n from b₀) 0 0 ≡ 0) → down + getD counts u 0 < 281474976710656 + 4294967296
       unfolding downOf
-      down-few z = omega (arith, L .counted, increment-is, count-is, arc-count (sound-of (lexicon-formed (t .ready))) below in-list, some-words z, words-few (t .v) x (t .ready .accepted))
+      down-few z = omega (arith, L .down-is, count-is, counts-below formed (t .vertex) (L .sums) next, some-words z, words-few (t .v) x (t .ready .accepted))
 
       pub handing-next : {nodes : ℕ} (q : nodes ≡ nodeCount x) {b′ : List ℕ} → Stored (left-arc q .handing .v) (graphOf x) n (overOne (left-arc q)) b′ → source root n from b′ ≡ source root n from b → length b′ ≡ length b
           → HandingLeft (at + 2) stop (down + getD counts u 0) b′
-      unfolding passOn overOne downOf sum left-arc so-far
-      handing-next q S e l = record {
+      unfolding passOn overOne downOf left-arc so-far counts-next
+      handing-next q S f l = record {
         Q = overOne (left-arc q);
-        earlier = L .earlier ++ (u ∷ []);
-        left = next .others;
-        arcs = next .after;
-        split = split-is ∙ sym (append-assoc (L .earlier) (u ∷ []) (next .others));
-        counted = counted-next;
+        total = L .total + pathCount (graphOf x) (u16 x at);
+        sums = counts-next formed (t .vertex) (L .sums) next;
+        down-is = omega (arith, L .down-is, count-is);
         stored = S;
         above = arc-above (left-arc q);
         long = l ∙ L .long;
-        source-kept = e ∙ L .source-kept;
-        passed = rw left-is at (L .passed);
+        source-kept = f ∙ L .source-kept;
+        passed = rw (next .split, ← e) at (L .passed);
       }
-        where
-          counted-next : down + getD counts u 0 ≡ downOf (sum (map (pathCount (graphOf x)) (L .earlier ++ (u ∷ []))))
-          counted-next = rw (map-append, sum-append, count-is, L .counted) (omega arith)
 
     pub handing-done : stop ≤ at → Handed t b
     unfolding passOn
     handing-done end =
-        let e : L .Q ≡ handedOn t = rw (arcs-done (L .arcs) end) at (L .passed) in
+        let e : L .Q ≡ handedOn t = rw (arcs-done (L .sums .arcs) end) at (L .passed) in
         record { stored = rw e at (L .stored); above = λ {u} {s} p l i. L .above p l (rw (sym (ap (λ (P : Store). P u s) e)) at i); long = L .long }
 
   no-tokens : (m : ℕ) (l : List Hit) → 1 ≤ m → source root n from b₀ ≡ held m l → ((y : Hit) → List·Memᴰ y l → Bound (graphOf x) (t .M) w y)

@@ -94,13 +94,16 @@ slots-start v x n h = rw h (record {
 pub slots-next : {v x : List ℕ} {n node slot : ℕ} {firsts : List ℕ} → Images v x → n ≤ 8 → SlotsFound v x n node slot firsts → node ≤ nodeCount x
     → (n * getD v (2 + 2 * getD x (1 + node) 0) 0 ≤ 32) × SlotsFound v x n (node + 1) (slot + n * getD v (2 + 2 * getD x (1 + node) 0) 0) (set firsts node slot)
 unfolding nodeLetter states sinkOf
-slots-next {v} {x} {n} {node} {slot} {firsts} i e p h = (slots-few, rw add-one (record {
-  table = table-next (p .table) (omega (arith, shape-of (well-formed i) .few)) (p .here);
-  here = next node (p .first) (p .here);
-  first = omega arith;
-  last = omega arith;
-  few = omega (arith, p .few, slots-few);
-}))
+slots-next {v} {x} {n} {node} {slot} {firsts} i e p h = (
+  slots-few,
+  rw add-one (record {
+    table = table-next (p .table) (omega (arith, shape-of (well-formed i) .few)) (p .here);
+    here = next node (p .first) (p .here);
+    first = omega arith;
+    last = omega arith;
+    few = omega (arith, p .few, slots-few);
+  }),
+)
   where
     slots-few : n * states v (nodeLetter x node) ≤ 32
     slots-few = mul-le-mul {n₂ = 8} {m₂ = 4} e (node-read i (p .first) h .few)

@@ -19,7 +19,7 @@ use Rattle.call.specs.Limits.{badFrameCount}
 use Rattle.call.proofs.Table.{none-says}
 use Rattle.voice.specs.Voice.{letterCount, symbolCount, linkScore, impossible}
 use Rattle.lexicon.specs.Lexicon.{nodeCount}
-use Rattle.graph.specs.Graph.{Graph, graphOf, sink, wordCount}
+use Rattle.graph.specs.Graph.{graphOf, sink, wordCount}
 use Rattle.graph.proofs.Sound.{Sound, sound}
 use Rattle.graph.proofs.Accepted.{accepted}
 use Rattle.ranking.specs.Hits.{Hit, hit}
@@ -32,20 +32,13 @@ use Rattle.passing.specs.InPlace.{passNode, passDown, passRoot}
 use Rattle.passing.proofs.InPlace.{first-frame, next-frame}
 use Rattle.passing.proofs.Bounds.{token-bounded}
 use Rattle.decoding.specs.Slots.{slots}
-use Rattle.decoding.specs.Held.{held}
 use Rattle.decoding.specs.Gains.{MoveGains, EntryGains, Hearing}
-use Rattle.decoding.specs.Stored.{Roomy, Bound, Place, Stored, Within, source, Handing, handedOn, Handed, Turn, turned, TurnDone}
+use Rattle.decoding.specs.Stored.{Roomy, Bound, Stored, Within, source, Handing, handedOn, Handed, Turn, turned, TurnDone}
 use Rattle.decoding.specs.Running.{Empty, Run, StoredAt}
 use Rattle.decoding.proofs.Held.{held-none}
+use Rattle.decoding.proofs.Storing.{stored-ext}
 
 -- ---- stores
-
-pub stored-same : {v : List ℕ} {g : Graph} {n : ℕ} {P Q : Store} {b : List ℕ} → ((u s : ℕ) → Place v g u s → P u s ≡ Q u s)
-    → Stored v g n P b → Stored v g n Q b
-stored-same {n} e t = record {
-  holds = λ {u} {s} p. t .holds p ∙ ap (held n) (e u s p);
-  kept = λ {u} {s} p. ap (bestTokens n) (sym (e u s p)) ∙ t .kept p ∙ e u s p;
-}
 
 pub roomy-same : {v x : List ℕ} {n : ℕ} {b b′ : List ℕ} → length b′ ≡ length b → Roomy v x n b → Roomy v x n b′
 roomy-same e r = record { some = r .some; few = r .few; room = rw e (r .room) }
@@ -126,7 +119,7 @@ module _ {v x frames : List ℕ} {n : ℕ} {lists counts firsts b : List ℕ} (r
 
     pub root-stored : {b′ : List ℕ} → Handed root-handing b′ → StoredAt v x frames n 0 b′
     unfolding root-handing handedOn passRoot initialScore
-    root-stored h = stored-same (λ u s p. first-frame v sound-run frames n u s) (h .stored)
+    root-stored h = stored-ext (h .stored) (λ u s p. sym (first-frame v sound-run frames n u s))
 
 -- ---- a later frame
 
@@ -198,7 +191,7 @@ module _ {v x frames : List ℕ} {n : ℕ} {lists counts firsts b₀ : List ℕ}
       let z : m ≡ 0 = omega arith in
       let e : passDown v (graphOf x) n (getD frames (suc t) 0) 0 (d .Q) ≡ passDown v (graphOf x) n (getD frames (suc t) 0) (nodeCount x) (tokens v (graphOf x) frames n t) =
       ap (λ j. passDown v (graphOf x) n (getD frames (suc t) 0) j (d .Q)) (sym z) ∙ d .left in
-      stored-same (λ u s p. ap (λ (P : Store). P u s) e ∙ next-frame v (sound-run r) frames n u s t (p .low) (p .high) (p .state)) (d .stored)
+      stored-ext (d .stored) (λ u s p. sym (ap (λ (P : Store). P u s) e ∙ next-frame v (sound-run r) frames n u s t (p .low) (p .high) (p .state)))
 
 -- ---- all frames
 

@@ -48,7 +48,7 @@ number-at-requires-2 : tie.Need-number-at-requires-2 Inv-loop μ-loop
 number-at-requires-2 c κs =
     let t = start (c .before) .pre .0 in
     let i = c .before .loop .inv t in
-    omega (arith, arc-next (i .arcs) (c .loop-test .taken) .room, i .arcs .there)
+    omega (arith, arc-next (i .sums .arcs) (c .loop-test .taken) .room, i .sums .arcs .there)
 
 hand-over-requires : tie.Need-hand-over-requires Inv-loop μ-loop
 hand-over-requires c κs =
@@ -78,7 +78,7 @@ add-at-2 : tie.Need-add-at-2 Inv-loop μ-loop
 add-at-2 c =
     let i = c .before .before .before .before .before .before in
     let l = i .before in
-    let h = arc-next (l .loop .inv (start l .pre .0) .arcs) (i .loop-test .taken) .room in
+    let h = arc-next (l .loop .inv (start l .pre .0) .sums .arcs) (i .loop-test .taken) .room in
     let g = small (l .before) in
     search needs
 
