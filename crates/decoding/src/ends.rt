@@ -12,10 +12,8 @@ use crate::frames::all_frames;
 use crate::parts::copy_at;
 use crate::store::copy_place;
 use crate::store::offer;
+use crate::tokens::LIFT;
 use endian::u16_at;
-
-// 2^16 × 2^32, which a move of score 0 adds to a token and takes again.
-const LEVEL: u64 = 281474976710656;
 
 // The increment of the arc to the sink: the path counts of the successors stored before it. Without such an arc it is the sum of all, the node's
 // own path count, which no increment reaches.
@@ -62,7 +60,8 @@ fn offer_end(
     let last = voice[2 + 2 * letter] as usize - 1;
     let mut tokens = [0; 8];
     copy_at(store, n, firsts[node] as usize + n * last, &mut tokens);
-    offer(list, n, &tokens, LEVEL, LEVEL + increment as u64);
+    // the move to the sink scores 0
+    offer(list, n, &tokens, LIFT, LIFT + increment as u64);
 }
 
 // The list of hits as tokens: all frames, and then each node's end.

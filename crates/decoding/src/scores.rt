@@ -20,7 +20,7 @@ use endian::u16_at;
 const IMPOSSIBLE: i16 = -32768;
 
 // The bias of a score, less 2^15.
-const LIFT: u32 = 134184960;
+const BASE: u32 = 134184960;
 
 // A stored score raised by 32,768, and 0 where it is impossible.
 pub(crate) fn raise(stored: i16) -> u32
@@ -32,7 +32,7 @@ pub(crate) fn raise(stored: i16) -> u32
         return none.0;
     }
     let score = Score::from_stored(stored);
-    score.0 - LIFT
+    score.0 - BASE
 }
 
 // The move scorer: of one letter's pairs, the raised loop (0) or step (1) of a state.

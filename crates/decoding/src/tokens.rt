@@ -9,6 +9,9 @@ ghost use Rattle.decoding.specs.Slots.{tokenAt, Put, sameCode};
 use endian::u32_bytes;
 use endian::u32_of;
 
+// 2^16 in the half of the score: what every gain holds above the score that it adds, so that it has no sign. A move takes it again.
+pub(crate) const LIFT: u64 = 281474976710656;
+
 // The token in slot k.
 pub(crate) fn token_at(part: &[u8], k: usize) -> u64
     requires { ⌜ 8 * k + 8 ≤ length (now part) ⌝ }

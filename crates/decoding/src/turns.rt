@@ -16,14 +16,12 @@ use crate::parts::clear_at;
 use crate::parts::offer_at;
 use crate::parts::offer_from;
 use crate::parts::shift_at;
+use crate::tokens::LIFT;
 use crate::tokens::token_at;
 use endian::u16_of;
 
 // The root's token: score 0 and code 0.
 const ROOT: u64 = 576460756598390783;
-
-// 2^16 in the half of the score, which every gain holds above the score that it adds.
-const LIFT: u64 = 281474976710656;
 
 // The number at an offset inside the image.
 fn number_at(lexicon: &[u8], at: usize) -> usize
