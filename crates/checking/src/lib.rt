@@ -31,7 +31,7 @@ mod places;
 // The most places of a lexicon (row 7), letters of a word (row 8), and words (row 9).
 const PLACES: usize = 1000;
 
-const LETTERS: u16 = 32;
+pub const LETTERS: u16 = 32;
 
 const WORDS: u32 = 1048576;
 

@@ -17,15 +17,13 @@ use crate::image::number_at;
 use crate::image::print_byte;
 use call::Answer;
 use call::Refusal;
+use checking::LETTERS;
 
 // The bytes of a row, one for each vertex.
 const ROW: usize = 402;
 
 // A row for each letter of a word, and one for its end.
 pub(crate) const TABLE: usize = 13266;
-
-// The most letters of a word (row 8), so that no more bytes can be one.
-const LETTERS: usize = 32;
 
 // Whether a successor of the vertex has a mark in the row that begins at an offset.
 fn leads(lexicon: &[u8], lists: &[u16; 402], table: &[u8], vertex: usize, row: usize) -> bool
@@ -148,7 +146,8 @@ pub(crate) fn look_up(
     requires { ⌜ Ready (now voice) (now lexicon) (now lists) (now counts) × (length (now table) ≡ 13266) ⌝ }
     ensures { λ r. ⌜ answerOf r ≡ lookedUp (now (voice .entry)) (graphOf (now (lexicon .entry))) (now (word .entry)) ⌝ }
 {
-    if LETTERS < word.len() {
+    // more bytes can be no word (row 8)
+    if (LETTERS as usize) < word.len() {
         return Answer::Refused(Refusal::NoWord);
     }
     fill(voice, lexicon, lists, word, table);

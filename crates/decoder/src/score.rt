@@ -12,7 +12,7 @@ ghost use Rattle.decoder.specs.Score.{meaning, possible, plus, isHigher,
 const BIAS: u32 = 134217728;
 
 // The score of the voice model that means impossible.
-const STORED_IMPOSSIBLE: i16 = -32768;
+pub const STORED_IMPOSSIBLE: i16 = -32768;
 
 pub struct Score(pub u32);
 

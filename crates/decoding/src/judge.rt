@@ -10,10 +10,9 @@ use crate::scores::symbols_at;
 use call::Answer;
 use call::Refusal;
 use call::inside;
+use ranking::FRAMES;
 
-// The most frames (row 11) and the most hits of a list (row 12).
-const FRAMES: usize = 1000;
-
+// The most hits of a list (row 12).
 const HITS: usize = 8;
 
 // Whether some symbol is not below K.
@@ -35,7 +34,7 @@ pub(crate) fn judge_call(voice: &[u8], frames: &[u8], n: u32, out: &[u8]) -> Ans
     requires { ⌜ voiceVerdict (now voice) ≡ wellFormed ⌝ }
     ensures { λ r. ⌜ answerOf r ≡ unless (callRows (now (voice .entry)) (now (frames .entry)) n (now (out .entry))) 0 ⌝ }
 {
-    if !inside(frames.len(), 1, FRAMES) {
+    if !inside(frames.len(), 1, FRAMES as usize) {
         return Answer::Refused(Refusal::Frames);
     }
     if has_bad_symbol(voice[symbols_at(voice)], frames) {

@@ -12,12 +12,10 @@ ghost use Rattle.lexicon.specs.Lexicon.{nodeCount, nodeLetter, lexiconVerdict};
 ghost use Rattle.checking.specs.Tables.{WellFormed};
 ghost use Rattle.decoder.specs.Score.{possible};
 ghost use Rattle.decoding.specs.Gains.{raisedOf, letterPairs, pairScore, Stored, loopRaised, stepRaised, Marked, Letters, InUse, Begins, Entries, Filled, AtLetter};
+use decoder::score::STORED_IMPOSSIBLE;
 use decoder::score::Score;
 use endian::i16_of;
 use endian::u16_at;
-
-// The score of the voice model that means impossible.
-const IMPOSSIBLE: i16 = -32768;
 
 // The bias of a score, less 2^15.
 const BASE: u32 = 134184960;
@@ -27,7 +25,7 @@ pub(crate) fn raise(stored: i16) -> u32
     ensures { λ r. ⌜ r ≡ raisedOf (possible stored) ⌝ }
 {
     // tested first, since the compiler then sees that a sum without a test does the same
-    if stored == IMPOSSIBLE {
+    if stored == STORED_IMPOSSIBLE {
         let none = Score::IMPOSSIBLE;
         return none.0;
     }
@@ -60,7 +58,7 @@ fn pair_at(voice: &[u8], at: usize, there: bool) -> [i16; 2]
     if there {
         return [score_at(voice, at), score_at(voice, at + 2)];
     }
-    [IMPOSSIBLE, IMPOSSIBLE]
+    [STORED_IMPOSSIBLE, STORED_IMPOSSIBLE]
 }
 
 // One letter's scores: four pairs of loop and step.

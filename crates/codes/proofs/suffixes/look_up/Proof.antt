@@ -169,6 +169,7 @@ look-up-spec =
     (tie.spec
     Inv-loop
     μ-loop
+    (λ c. search needs)
     returns
     fill-requires
     leads-requires

@@ -73,6 +73,7 @@ pub judge-call-spec : {M : Type 1} → statement M
 judge-call-spec =
     tie.close
     (tie.spec
+    (λ c. search needs)
     (λ c κs. search needs)
     returns
     (λ c κs. c .before .before .before .before .before .pre)
