@@ -67,8 +67,8 @@ int32_t wundaleth_list(const uint8_t *voice, size_t voice_length, const uint8_t 
 
 /* Decodes frames, one symbol a byte, frames_length of them, against the lexicon, and writes the hits, the best first: at most n, 1 to 8, each in
  * 8 bytes, int32_t score and uint32_t code, both little-endian. The output needs no alignment, but 8 x n bytes, however many hits are found.
- * Answers how many, 0 to n, or refuses with 1 to 12 or 16. The list is complete and exact: of all words that have a permitted state path the n with the highest scores, equal scores by rising
- * code; fewer than n are all that have one. */
+ * Answers how many, 0 to n, or refuses with 1 to 12 or 16. The list is complete and exact: of all words that have a permitted state path the n
+ * with the highest scores, equal scores by rising code; fewer than n are all that have one. */
 int32_t wundaleth_decode(const uint8_t *voice, size_t voice_length, const uint8_t *lexicon, size_t lexicon_length, const uint8_t *frames,
                          size_t frames_length, uint32_t n, uint8_t *work, size_t work_length, uint8_t *out, size_t out_length);
 

@@ -56,7 +56,8 @@ pub record ArcsLeft (x : List ℕ) (u at stop : ℕ) (left : List ℕ) : Type 0 
   pub rise : {s : ℕ} → List·Memᴰ s left → (u < s) × (s ≤ sinkOf x)
 
 -- at the list's first arc, all are left
-pub arcs-start : {x : List ℕ} → WellFormed x → {u at : ℕ} → u ≤ nodeCount x → at ≡ arcsAt x u → ArcsLeft x u (at + 2) (at + 2 + 2 * u16 x at) (successors x u)
+pub arcs-start : {x : List ℕ} → WellFormed x → {u at : ℕ} → u ≤ nodeCount x → at ≡ arcsAt x u
+    → ArcsLeft x u (at + 2) (at + 2 + 2 * u16 x at) (successors x u)
 unfolding sinkOf sink arcCount successors
 arcs-start {x} w {u} {at} h e = rw e (record {
   read = rw (length-successors x u) refl;

@@ -104,7 +104,8 @@ pub filling-sink : {f : ℕ → ℕ} {x table : List ℕ} {k v : ℕ} → WellFo
     → Filling f x (set table k v) k
 filling-sink {f} {x} {table} {k} {v} w blank e h = record {
   low = omega arith;
-  entries = filled-next {table = table} (rw (← blank) at (filled-none (suc (sinkOf x)) f)) (ap suc e) (rw e h) (omega arith) (omega (arith, sink-small w));
+  entries =
+      filled-next {table = table} (rw (← blank) at (filled-none (suc (sinkOf x)) f)) (ap suc e) (rw e h) (omega arith) (omega (arith, sink-small w));
 }
 
 pub filling-blank : {f : ℕ → ℕ} {x : List ℕ} → f (sinkOf x) ≡ 0 → Filling f x (replicate 402 0) (sinkOf x)

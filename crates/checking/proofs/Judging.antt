@@ -32,7 +32,8 @@ refused-no-value : {r : Refusal} {W : ℕ} → refused r ≡ value W → ⊥
 refused-no-value e = let z : _≡_ {A = ℕ} 0 1 = cc in omega arith
 
 -- a refusal by the rows promises nothing of the tables
-pub refusal : {rows : List Row} {r : Refusal} {x lists counts : List ℕ} → unless rows (wordCount (graphOf x)) ≡ refused r → Judged rows (refused r) x lists counts
+pub refusal : {rows : List Row} {r : Refusal} {x lists counts : List ℕ} → unless rows (wordCount (graphOf x)) ≡ refused r
+    → Judged rows (refused r) x lists counts
 refusal e = record { answered = sym e; opened = λ W q. absurd (refused-no-value q) }
 
 -- what the later rows answer, where the earlier ones are passed
@@ -52,7 +53,8 @@ module _ (v : List ℕ) {x lists counts : List ℕ} where
   unfolding imageRows voiceRows unless hasWrongLength isOutOfRange
   voice-range e = refusal (rw e)
 
-  pub voice-passed : {answer : Answer ℕ} → voiceVerdict v ≡ wellFormed → Judged (lexiconRows v x) answer x lists counts → Judged (imageRows v x) answer x lists counts
+  pub voice-passed : {answer : Answer ℕ} → voiceVerdict v ≡ wellFormed → Judged (lexiconRows v x) answer x lists counts
+      → Judged (imageRows v x) answer x lists counts
   unfolding imageRows voiceRows unless hasWrongLength isOutOfRange
   voice-passed e j = passed (rw e) j
 
@@ -66,7 +68,8 @@ module _ (v : List ℕ) {x lists counts : List ℕ} where
   unfolding lexiconRows unless hasWrongLength isOutOfRange
   lexicon-range e = refusal (rw e)
 
-  pub lexicon-passed : {answer : Answer ℕ} → lexiconVerdict (letterCount v) x ≡ wellFormed → Judged (graphRows v x) answer x lists counts → Judged (lexiconRows v x) answer x lists counts
+  pub lexicon-passed : {answer : Answer ℕ} → lexiconVerdict (letterCount v) x ≡ wellFormed → Judged (graphRows v x) answer x lists counts
+      → Judged (lexiconRows v x) answer x lists counts
   unfolding lexiconRows graphRows unless hasWrongLength isOutOfRange
   lexicon-passed e j = passed (rw e) j
 
@@ -129,12 +132,14 @@ module _ (x : List ℕ) {counts : List ℕ} (t : TableOf (suc (sinkOf x)) (cappe
                 capped-few (omega (arith, k, limit))
             go false e = refl
 
-    pub opened-value : {W : ℕ} {lists : List ℕ} → WellFormed x → orphan (graphOf x) ≡ false → TableOf (sinkOf x) (arcsAt x) lists → Opened (value W) x lists counts
+    pub opened-value : {W : ℕ} {lists : List ℕ} → WellFormed x → orphan (graphOf x) ≡ false → TableOf (sinkOf x) (arcsAt x) lists
+        → Opened (value W) x lists counts
     unfolding filled
     opened-value w reached l = record { listed = l; counted = counts-exact w reached }
 
 -- ---- after a refusal the tables are blank
 
-pub opened-refused : {answer : Answer ℕ} {r : Refusal} {x lists counts : List ℕ} → answer ≡ refused r → lists ≡ replicate 402 0 → counts ≡ replicate 402 0 → Opened answer x lists counts
+pub opened-refused : {answer : Answer ℕ} {r : Refusal} {x lists counts : List ℕ} → answer ≡ refused r → lists ≡ replicate 402 0
+    → counts ≡ replicate 402 0 → Opened answer x lists counts
 unfolding filled
 opened-refused q e f = rw (q, e, f) (record { listed = table-start _; counted = table-start _ })

@@ -39,7 +39,8 @@ greatest-most f k [] h = omega arith
 greatest-most f k (a ∷ l) h = omega (arith, h a (List·Memᴰ·head refl), greatest-most f k l (λ b m. h b (List·Memᴰ·tail m)))
 
 -- the greatest of all parts is the greatest of their greatest
-greatest-flatMap : {A B : Type 0} (f : B → ℕ) (g : A → List B) (l : List A) → greatest (map f (flatMap g l)) ≡ greatest (map (λ s. greatest (map f (g s))) l)
+greatest-flatMap : {A B : Type 0} (f : B → ℕ) (g : A → List B) (l : List A)
+    → greatest (map f (flatMap g l)) ≡ greatest (map (λ s. greatest (map f (g s))) l)
 unfolding greatest flatMap
 greatest-flatMap f g [] = refl
 greatest-flatMap f g (s ∷ l) =
@@ -99,7 +100,8 @@ module _ {g : Graph} (ok : Sound g) where
   unfolding height heightAbove
   height-below {u} h =
       ap greatest (map-cong _ _ (ways g (sink g) u) (λ p m. letters-cons g u p) ∙ sym (map-map (λ a. ownLetters g u + a) letters (ways g (sink g) u)))
-      ∙ greatest-add (ownLetters g u) (map letters (ways g (sink g) u)) (omega (arith, length-map (ways g (sink g) u) letters, place [] (some-way ok {u = u} (omega arith) .1) .inside))
+      ∙ greatest-add (ownLetters g u) (map letters (ways g (sink g) u))
+      (omega (arith, length-map (ways g (sink g) u) letters, place [] (some-way ok {u = u} (omega arith) .1) .inside))
       ∙ ap (λ (n : ℕ). ownLetters g u + n) by-successor
     where
       by-successor : greatest (map letters (ways g (sink g) u)) ≡ greatest (map (height g) (g .successors u))

@@ -78,7 +78,8 @@ module _ {x : List ℕ} {u at stop : ℕ} {marks : List Bool} (m : MarksLeft x u
       entry : u16 x at < 402
       entry = omega (arith, a .bounded, shape-of w .few)
 
-      marked : (s : ℕ) → Dec (s ≡ u16 x at) → getD (set marks (u16 x at) true) s false || has s (a .others) ≡ getD marks s false || (eqb s (u16 x at) || has s (a .others))
+      marked : (s : ℕ) → Dec (s ≡ u16 x at)
+          → getD (set marks (u16 x at) true) s false || has s (a .others) ≡ getD marks s false || (eqb s (u16 x at) || has s (a .others))
       marked s (yes e) =
           let k : u16 x at < length marks = omega (arith, entry, m .long) in
           rw (e, getD-set-same marks (u16 x at) true false, eq-eqb (u16 x at) (u16 x at) refl) (sym (or-true (getD marks (u16 x at) false)))

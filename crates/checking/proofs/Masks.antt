@@ -15,7 +15,7 @@ use Rattle.checking.specs.Bits.{bit, Joined}
 use Rattle.checking.specs.Pairs.{common, meets, clashAfter, clashAt}
 use Rattle.checking.specs.PairTable.{pairBit, Marked, Gathered}
 use Rattle.checking.proofs.Tables.{entry}
-use Rattle.checking.proofs.Arcs.{shape-of, ArcsLeft, arcs-start, arc-next, arcs-done, nodes-there}
+use Rattle.checking.proofs.Arcs.{shape-of, ArcsLeft, arcs-start, arc-next, arcs-done}
 use Rattle.checking.proofs.Bits.{bit-zero}
 
 -- ---- where the list of a vertex stands
@@ -42,10 +42,6 @@ list-room {x} {lists} l {v} h =
 pub few-vertices : {x lists : List ℕ} → Listed x lists → sink (graphOf x) < 402
 unfolding sink
 few-vertices l = omega (arith, shape-of (l .well-formed) .few)
-
--- the letters of the nodes stand before the lists
-pub letters-room : {x lists : List ℕ} → Listed x lists → 2 + nodeCount x ≤ length x
-letters-room l = nodes-there (l .well-formed)
 
 -- ---- a search through the successors of a vertex
 

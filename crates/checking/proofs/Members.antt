@@ -39,7 +39,7 @@ module _ (c : ℕ → ℕ → Bool) where
   pub pair-in : {l m : List ℕ} {s t : ℕ} → List·Memᴰ s l → List·Memᴰ t m → c s t ≡ true → anyPair c l m ≡ true
   pair-in {m = m} i j h = any-in (λ s. any (c s) m) i (any-in (c _) j h)
 
--- the two lists may change places
+-- the two lists may be swapped
 pub pair-swap : (c : ℕ → ℕ → Bool) (l m : List ℕ) → anyPair c l m ≡ anyPair (λ t s. c s t) m l
 pair-swap c l m = same-test (anyPair c l m) (anyPair (λ t s. c s t) m l)
     (λ h. let r = pair-out c l m h in pair-in (λ t s. c s t) (r .t-member) (r .s-member) (r .passes))

@@ -1,4 +1,5 @@
--- Bits in bytes, the lowest of a byte first: the words of this crate's own helpers; no public contract cites them. Assumes nothing.
+-- Bits in bytes, the lowest of a byte first: the vocabulary of the contracts of private functions. No public contract cites it.
+-- Assumes nothing.
 use Prim.Native.Nat.{ℕ, _+_, _*_, _/_, _%_, _^_, _<_}
 use mathlib.Core.Path.{_≡_}
 use mathlib.Core.Bool.{Bool, _||_}

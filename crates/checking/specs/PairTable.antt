@@ -1,5 +1,5 @@
--- The table of pairs, one bit each: a row for each vertex, and in it a bit for each. The words of this crate's own helpers; no public contract
--- cites them. Assumes nothing.
+-- The table of pairs, one bit each: a row for each vertex, and in it a bit for each. The vocabulary of the contracts of private functions; no
+-- public contract cites it. Assumes nothing.
 use Prim.Native.Nat.{ℕ, _+_, _*_, _≤_, _<_, min}
 use mathlib.Core.Path.{_≡_}
 use mathlib.Core.Bool.{Bool, false, _&&_, _||_}

@@ -1,5 +1,5 @@
--- Refusal 10 by pairs of vertices, as the code finds it: two successors of one vertex from which ways with the same letters go on. The words
--- of this crate's own helpers; no public contract cites them (proofs/Forks.antt: where 6 does not apply, `clash` is 10).
+-- Refusal 10 by pairs of vertices, as the code finds it: two successors of one vertex from which ways with the same letters go on. The
+-- vocabulary of the contracts of private functions; no public contract cites it (proofs/Forks.antt: where 6 does not apply, `clash` is 10).
 -- Assumes nothing.
 use Prim.Native.Nat.{ℕ, zero, suc}
 use mathlib.Core.Bool.{Bool, false, _&&_, _||_}

@@ -9,7 +9,7 @@ ghost use Rattle.checking.specs.Tables.{TableOf, Listed, cappedCount};
 ghost use Rattle.checking.specs.Filling.{AtVertex};
 use crate::lists::number_at;
 
-// One more than the most words of a lexicon: a count above that stays here, so that nothing wraps.
+// One more than the most words of a lexicon: a count stops here, so that nothing wraps.
 const CAP: u32 = 1048577;
 
 fn capped_sum(a: u32, b: u32) -> u32

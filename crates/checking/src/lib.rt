@@ -1,4 +1,5 @@
-// Checking: the conditions 6 to 10 of document 01's refusal table, and the call that tests them all.
+// Checking: the conditions 6 to 10 of document 01's refusal table, and the calls that test 1 to 10: `open`, which leaves tables for the work that
+// follows, and `check`.
 ghost use mathlib.Core.Path.{_≡_};
 ghost use lib.ListN.{replicate};
 ghost use Rattle.call.specs.Table.{answerOf};
@@ -84,7 +85,7 @@ fn judge_graph(
     Answer::Value(words)
 }
 
-// Rows 4 to 10, or W: the lexicon is judged with the L of a voice model that is accepted.
+// Rows 4 to 10, or W: the lexicon is judged with the L of a well-formed voice model.
 fn judge_lexicon(
     voice: &[u8],
     lexicon: &[u8],

@@ -75,7 +75,8 @@ module _ (v x work : List ℕ) where
     unfolding codeToWordOut
     out-refused e = written-refused _ out e
 
-    pub out-written : {a : Answer ℕ} → codeToWordAnswer v x code work out ≡ a → written a (wordOfCode v (graphOf x) code) out ≡ codeToWordOut v x code work out
+    pub out-written : {a : Answer ℕ} → codeToWordAnswer v x code work out ≡ a
+        → written a (wordOfCode v (graphOf x) code) out ≡ codeToWordOut v x code work out
     unfolding codeToWordOut
     out-written e = rw e
 
@@ -101,7 +102,8 @@ module _ (v x work : List ℕ) where
     unfolding listOut
     list-kept h = written-refused (listing v (graphOf x)) out (list-refused h)
 
-    pub list-value : {W : ℕ} → checkAnswer v x work ≡ value W → listAnswer v x work out ≡ unless (roomRows (listing v (graphOf x)) out) (length (listing v (graphOf x)))
+    pub list-value : {W : ℕ} → checkAnswer v x work ≡ value W
+        → listAnswer v x work out ≡ unless (roomRows (listing v (graphOf x)) out) (length (listing v (graphOf x)))
     unfolding listAnswer listRows roomRows
     list-value h = unless-past (firstRows v x work) _ _ (passed v x work h .rows)
 

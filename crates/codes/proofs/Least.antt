@@ -30,13 +30,15 @@ module _ {g : Graph} (ok : Sound g) where
   code-below (along h m w) = omega (arith, code-below w, arc-count ok h m)
 
   -- a later arc counts the ways by this one
-  pub later-above : {u : ℕ} → u < sink g → (l m : List ℕ) (s : ℕ) → g .successors u ≡ l ++ s ∷ m → {t : ℕ} → List·Memᴰ t m → increment g u s + pathCount g s ≤ increment g u t
+  pub later-above : {u : ℕ} → u < sink g → (l m : List ℕ) (s : ℕ) → g .successors u ≡ l ++ s ∷ m → {t : ℕ} → List·Memᴰ t m
+      → increment g u s + pathCount g s ≤ increment g u t
   later-above h l m s e {t} i =
       let d = mem-split i in
       let f = e ∙ ap (λ (r : List ℕ). l ++ s ∷ r) (d .2) ∙ sym (append-assoc l (s ∷ d .0) (t ∷ d .1)) in
       rw (increment-at ok h l m s e, increment-at ok h (l ++ s ∷ d .0) (d .1) t f, sum-split (pathCount g) l s (d .0)) (omega arith)
 
-  pub first-code : (v word q : List ℕ) → ArcPath g 0 q → wordOfPath v g q ≡ word → Least v g 0 word q → codeOf g (pathOfWord v g word) ≡ codeFrom g 0 q
+  pub first-code : (v word q : List ℕ) → ArcPath g 0 q → wordOfPath v g q ≡ word → Least v g 0 word q
+      → codeOf g (pathOfWord v g word) ≡ codeFrom g 0 q
   unfolding pathOfWord codeOf pathCode
   first-code v word q w e least =
       rw (first-at (λ p. same (wordOfPath v g p) word) (fullPaths g) (codeFrom g 0 q) [] (omega (arith, a .0, length-fullPaths g)) test
@@ -53,7 +55,8 @@ module _ {g : Graph} (ok : Sound g) where
       beaten : {p : List ℕ} {j : ℕ} → FullPath g p → pathCode g p ≡ j → wordOfPath v g p ≡ word → codeFrom g 0 q ≤ j
       beaten (from-root {p = p} w) c f = omega (arith, c, least p w (sym (word-root v g p) ∙ f))
 
-      other : (j : ℕ) → j < codeFrom g 0 q → (b : Bool) → same (wordOfPath v g (getD (fullPaths g) j [])) word ≡ b → same (wordOfPath v g (getD (fullPaths g) j [])) word ≡ false
+      other : (j : ℕ) → j < codeFrom g 0 q → (b : Bool) → same (wordOfPath v g (getD (fullPaths g) j [])) word ≡ b
+          → same (wordOfPath v g (getD (fullPaths g) j [])) word ≡ false
       other j l true t =
           let k : j < wordCount g = omega (arith, a .0) in
           let m = mem-getD (fullPaths g) j [] (omega (arith, length-fullPaths g)) in

@@ -33,7 +33,8 @@ module _ (v : List ℕ) (g : Graph) (w : List ℕ) where
   pub over-more : (l : List ℕ) (i : ℕ) → i < length l → linesOver v g (take (i + 1) l) w ≡ linesOver v g (take i l) w ++ linesFrom v g (getD l i 0) w
   unfolding linesOver flatMap
   over-more l i h =
-      rw (add-one i, take-suc l i 0 h) (flatMap-append (λ s. linesFrom v g s w) (take i l) (getD l i 0 ∷ []) ∙ rw (append-nil (linesFrom v g (getD l i 0) w)))
+      rw (add-one i, take-suc l i 0 h)
+      (flatMap-append (λ s. linesFrom v g s w) (take i l) (getD l i 0 ∷ []) ∙ rw (append-nil (linesFrom v g (getD l i 0) w)))
 
   over-both : (l : List ℕ) (i : ℕ) → linesOver v g l w ≡ linesOver v g (take i l) w ++ linesOver v g (drop i l) w
   unfolding linesOver
@@ -108,7 +109,9 @@ wrote-letter {l} {l′} {depth} {at} {end} {word′} {out} {out′} word b e a =
   ends = rw e (a .ends);
   before = rw e (a .before);
   after = a .after;
-  kept = sym (take-take depth (depth + 1) word′ (omega arith)) ∙ ap (take depth) (a .kept) ∙ take-take depth (depth + 1) (set word depth b) (omega arith) ∙ take-set-le depth word depth b (omega arith);
+  kept =
+      sym (take-take depth (depth + 1) word′ (omega arith)) ∙ ap (take depth) (a .kept) ∙ take-take depth (depth + 1) (set word depth b) (omega arith)
+      ∙ take-set-le depth word depth b (omega arith);
   long = a .long ∙ length-set word depth b;
 }
 

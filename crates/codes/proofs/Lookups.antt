@@ -97,7 +97,8 @@ module _ (v x : List ℕ) (h : Accepted v x) where
       unfolding sink sinkOf
       sought-rises k f = ok .rises k (arc-of f) .0
 
-      pub sought-next : u < sinkOf x → {table : List ℕ} → RowsFrom v (graphOf x) word table 0 → {s step : ℕ} → FirstMarked (graphOf x) table row u s step
+      pub sought-next : u < sinkOf x → {table : List ℕ} → RowsFrom v (graphOf x) word table 0 → {s step : ℕ}
+          → FirstMarked (graphOf x) table row u s step
           → CodeSought v x word s (row + 402) (code + step)
       unfolding sink sinkOf codeFrom
       sought-next k {table} rows {s} {step} f = go (drop (l .i) word) refl (fits-by v (graphOf x) (drop (l .i) word) fitting)
@@ -106,14 +107,16 @@ module _ (v x : List ℕ) (h : Accepted v x) where
           up = ok .rises k (arc-of f)
 
           fitting : fits v (graphOf x) s (drop (l .i) word) ≡ true
-          fitting = sym (mark-says ok rows {j = l .i} {s = s} (omega arith) (l .leads-on k .0) (omega (arith, up .0)) (up .1)) ∙ rw (← l .row-is) (f .there)
+          fitting =
+              sym (mark-says ok rows {j = l .i} {s = s} (omega arith) (l .leads-on k .0) (omega (arith, up .0)) (up .1)) ∙ rw (← l .row-is) (f .there)
 
           behind : code + step + pathCount (graphOf x) s ≤ code + pathCount (graphOf x) u
           behind = omega (arith, f .increases, arc-within ok {u = u} k (f .earlier) (f .later) s (f .split))
 
           -- a way by an earlier arc would have a mark, and one by a later arc has a greater code
           lowest : (q : List ℕ) → ArcPath (graphOf x) s q → LeastWith v (graphOf x) s (drop (l .i) word) q
-              → {p : List ℕ} → ArcPath (graphOf x) u p → wordOfPath v (graphOf x) p ≡ drop (l .i) word → codeFrom (graphOf x) u (s ∷ q) ≤ codeFrom (graphOf x) u p
+              → {p : List ℕ} → ArcPath (graphOf x) u p → wordOfPath v (graphOf x) p ≡ drop (l .i) word
+              → codeFrom (graphOf x) u (s ∷ q) ≤ codeFrom (graphOf x) u p
           lowest q w least (arrived e) m = absurd (omega arith)
           lowest q w least (along {s = t} {p = p} j i o) m = by-arc (List·Memᴰ·append-cases (f .earlier) (rw (f .split) at i))
             where
@@ -179,11 +182,13 @@ module _ (v x : List ℕ) (h : Accepted v x) where
         let w = fits-way v (graphOf x) word (t .one) (t .passes) in
         record { path = 0 ∷ t .one ∷ w .path; full = from-root (along {u = 0} (omega arith) (t .member) (w .arcs)); spells = word-root v (graphOf x) (t .one ∷ w .path) ∙ w .spells }
 
-    pub looked-found : {code : ℕ} → fitsAfter v (graphOf x) 0 word ≡ true → codeOf (graphOf x) (pathOfWord v (graphOf x) word) ≡ code → value code ≡ lookedUp v (graphOf x) word
+    pub looked-found : {code : ℕ} → fitsAfter v (graphOf x) 0 word ≡ true → codeOf (graphOf x) (pathOfWord v (graphOf x) word) ≡ code
+        → value code ≡ lookedUp v (graphOf x) word
     unfolding lookedUp unless
     looked-found {code} f e = go (isNone (pathOfWord v (graphOf x) word)) refl
       where
-        go : (b : Bool) → isNone (pathOfWord v (graphOf x) word) ≡ b → value code ≡ unless (on NoWord (isNone (pathOfWord v (graphOf x) word)) ∷ []) (codeOf (graphOf x) (pathOfWord v (graphOf x) word))
+        go : (b : Bool) → isNone (pathOfWord v (graphOf x) word) ≡ b
+            → value code ≡ unless (on NoWord (isNone (pathOfWord v (graphOf x) word)) ∷ []) (codeOf (graphOf x) (pathOfWord v (graphOf x) word))
         go true q = absurd (known .no-word word .0 q (lexicon-word f))
         go false q = rw (q, e)
 

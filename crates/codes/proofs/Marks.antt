@@ -118,7 +118,8 @@ module _ (v : List ℕ) (g : Graph) (word : List ℕ) (u : ℕ) {i : ℕ} where
   unfolding markOf
   mark-other h d = rw (drop-cons word i 0 h, fits-other v g u (drop (suc i) word) d)
 
-  pub mark-after : i < length word → 0 < u → u < sink g → printByte v (g .letter u) ≡ getD word i 0 → fitsAfter v g u (drop (i + 1) word) ≡ fits v g u (drop i word)
+  pub mark-after : i < length word → 0 < u → u < sink g → printByte v (g .letter u) ≡ getD word i 0
+      → fitsAfter v g u (drop (i + 1) word) ≡ fits v g u (drop i word)
   mark-after h a b e = rw (drop-cons word i 0 h, fits-letter v g (drop (suc i) word) a b e, add-one)
 
 -- ---- rows
@@ -162,7 +163,8 @@ module _ {v : List ℕ} {g : Graph} {word table : List ℕ} {i : ℕ} where
     here = λ {w} a b c. go w (ℕ-discrete w u) a b c;
   }
     where
-      go : (w : ℕ) → Dec (w ≡ u) → 1 ≤ w → w < u + 1 → w ≤ sink g → getD (set table (402 * i + u) m) (402 * i + w) 0 ≡ markOf (fits v g w (drop i word))
+      go : (w : ℕ) → Dec (w ≡ u) → 1 ≤ w → w < u + 1 → w ≤ sink g
+          → getD (set table (402 * i + u) m) (402 * i + w) 0 ≡ markOf (fits v g w (drop i word))
       go w (yes q) a b c = rw (q, getD-set-same table (402 * i + u) m 0 (omega (arith, r .rows .long))) e
       go w (no d) a b c = getD-set-other table (402 * i + u) (402 * i + w) m 0 (λ q. d (omega arith)) ∙ r .here a (omega arith) c
 

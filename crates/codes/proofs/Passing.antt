@@ -35,7 +35,8 @@ module _ {v x : List ℕ} {u depth at : ℕ} {word₀ out₀ : List ℕ} where
 
   module _ {word out : List ℕ} {end arc : ℕ} (w : Walked v x u depth at word₀ out₀ word out end arc) where
     pub walk-ends : arcCount x u ≤ arc → Wrote (linesOver v (graphOf x) (successors x u) (take depth word₀)) depth at word₀ word out₀ out end
-    walk-ends h = let all : take arc (successors x u) ≡ successors x u = take-all arc (successors x u) (rw (length-successors x u) h) in rw all at (w .wrote)
+    walk-ends h =
+        let all : take arc (successors x u) ≡ successors x u = take-all arc (successors x u) (rw (length-successors x u) h) in rw all at (w .wrote)
 
     module _ (h : arc < arcCount x u) where
       one-more : linesOver v (graphOf x) (take (arc + 1) (successors x u)) (take depth word₀)
@@ -53,7 +54,8 @@ module _ {v x : List ℕ} {u depth at : ℕ} {word₀ out₀ : List ℕ} where
           w .size,
           w .wrote .ends,
           ap length one-more,
-          length-append (linesOver v (graphOf x) (take arc (successors x u)) (take depth word₀)) (linesFrom v (graphOf x) (getD (successors x u) arc 0) (take depth word)),
+          length-append (linesOver v (graphOf x) (take arc (successors x u)) (take depth word₀))
+              (linesFrom v (graphOf x) (getD (successors x u) arc 0) (take depth word)),
           over-part v (graphOf x) (take depth word₀) (successors x u) (arc + 1),
         );
       }

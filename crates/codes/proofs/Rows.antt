@@ -13,7 +13,8 @@ module _ (v x work : List ℕ) where
   unfolding numbers wordToCodeRows firstRows spaceRows imageRows voiceRows lexiconRows
   word-to-code-numbers word = refl
 
-  pub code-to-word-numbers : (code : ℕ) (out : List ℕ) → numbers (codeToWordRows v x code work out) ≡ 1 ∷ 2 ∷ 3 ∷ 4 ∷ 5 ∷ 6 ∷ 7 ∷ 8 ∷ 9 ∷ 10 ∷ 15 ∷ 16 ∷ []
+  pub code-to-word-numbers : (code : ℕ) (out : List ℕ)
+      → numbers (codeToWordRows v x code work out) ≡ 1 ∷ 2 ∷ 3 ∷ 4 ∷ 5 ∷ 6 ∷ 7 ∷ 8 ∷ 9 ∷ 10 ∷ 15 ∷ 16 ∷ []
   unfolding numbers codeToWordRows firstRows spaceRows imageRows voiceRows lexiconRows
   code-to-word-numbers code out = refl
 

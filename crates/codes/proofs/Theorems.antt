@@ -41,7 +41,8 @@ module _ (v x : List ℕ) (h : Accepted v x) where
   found : (c : ℕ) → c < wordCount (graphOf x) → pathOfWord v (graphOf x) (wordAt v x c) ≡ some (pathAt x c)
   unfolding pathOfWord
   found c k =
-      first-at (λ p. same (wordOfPath v (graphOf x) p) (wordAt v x c)) (fullPaths (graphOf x)) c [] (omega (arith, known .counted)) (same-refl (wordAt v x c))
+      first-at (λ p. same (wordOfPath v (graphOf x) p) (wordAt v x c)) (fullPaths (graphOf x)) c [] (omega (arith, known .counted))
+      (same-refl (wordAt v x c))
       (λ j l. other j l (same (wordAt v x j) (wordAt v x c)) refl)
     where
       other : (j : ℕ) → j < c → (b : Bool) → same (wordAt v x j) (wordAt v x c) ≡ b → same (wordAt v x j) (wordAt v x c) ≡ false
@@ -84,9 +85,11 @@ module _ (v x : List ℕ) (h : Accepted v x) where
   all-listed : listing v (graphOf x) ≡ flatMap (λ c. wordOfCode v (graphOf x) c ++ (10 ∷ [])) (from 0 (wordCount (graphOf x)))
   unfolding listing
   all-listed =
-      ap (flatMap (λ p. wordOfPath v (graphOf x) p ++ (10 ∷ []))) (sym (ap (λ n. map (pathAt x) (from 0 n)) (sym (known .counted)) ∙ by-index [] (fullPaths (graphOf x)) (fullPaths (graphOf x)) 0 refl))
+      ap (flatMap (λ p. wordOfPath v (graphOf x) p ++ (10 ∷ [])))
+      (sym (ap (λ n. map (pathAt x) (from 0 n)) (sym (known .counted)) ∙ by-index [] (fullPaths (graphOf x)) (fullPaths (graphOf x)) 0 refl))
       ∙ flatMap-map (λ p. wordOfPath v (graphOf x) p ++ (10 ∷ [])) (pathAt x) (from 0 (wordCount (graphOf x)))
-      ∙ flatMap-cong _ _ (from 0 (wordCount (graphOf x))) (λ c m. ap (λ w. w ++ (10 ∷ [])) (sym (known .word-of-code c (omega (arith, from-out 0 (wordCount (graphOf x)) m)))))
+      ∙ flatMap-cong _ _ (from 0 (wordCount (graphOf x)))
+      (λ c m. ap (λ w. w ++ (10 ∷ [])) (sym (known .word-of-code c (omega (arith, from-out 0 (wordCount (graphOf x)) m)))))
 
 pub code-theorems : (v x : List ℕ) → Accepted v x → CodeTheorems v (graphOf x)
 code-theorems v x h =

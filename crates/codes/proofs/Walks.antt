@@ -54,12 +54,15 @@ module _ {g : Graph} (ok : Sound g) {u code : ℕ} (h : u < sink g) where
   }
 
   -- or the next one is passed as well
-  pub passed-on : {left s : ℕ} {later : List ℕ} → Passed g u code left (s ∷ later) → pathCount g s ≤ left → Passed g u code (left - pathCount g s) later
+  pub passed-on : {left s : ℕ} {later : List ℕ} → Passed g u code left (s ∷ later) → pathCount g s ≤ left
+      → Passed g u code (left - pathCount g s) later
   unfolding sum
   passed-on {left} {s} {later} p k = record {
     earlier = p .earlier ++ (s ∷ []);
     split = p .split ∙ sym (append-snoc (p .earlier) s later);
-    code-is = p .code-is ∙ rw (map-append (pathCount g) (p .earlier) (s ∷ []), sum-append (map (pathCount g) (p .earlier)) (pathCount g s ∷ [])) (omega arith);
+    code-is =
+        p .code-is
+        ∙ rw (map-append (pathCount g) (p .earlier) (s ∷ []), sum-append (map (pathCount g) (p .earlier)) (pathCount g s ∷ [])) (omega arith);
     below = omega (arith, p .below);
   }
 
@@ -164,7 +167,8 @@ pub record LettersLeft (v x : List ℕ) (code : ℕ) (letters : List ℕ) (n u l
   pub long : length letters ≡ 32
   pub few : n ≤ 32
   -- whatever way of the code that is left comes next
-  pub goes-on : (q : List ℕ) → ArcPath (graphOf x) u q → codeFrom (graphOf x) u q ≡ left → wordOfCode v (graphOf x) code ≡ take n letters ++ wordOfPath v (graphOf x) (u ∷ q)
+  pub goes-on : (q : List ℕ) → ArcPath (graphOf x) u q → codeFrom (graphOf x) u q ≡ left
+      → wordOfCode v (graphOf x) code ≡ take n letters ++ wordOfPath v (graphOf x) (u ∷ q)
 
 module _ {v x lists counts : List ℕ} (ready : Ready v x lists counts) {code : ℕ} (k : code < wordCount (graphOf x)) where
   images : AcceptedImages v x
@@ -173,7 +177,8 @@ module _ {v x lists counts : List ℕ} (ready : Ready v x lists counts) {code : 
   ok : Sound (graphOf x)
   ok = sound-images images
 
-  pub letters-start : {letters : List ℕ} {u left : ℕ} → length letters ≡ 32 → Stepped (graphOf x) 0 code u left → LettersLeft v x code letters 0 u left
+  pub letters-start : {letters : List ℕ} {u left : ℕ} → length letters ≡ 32 → Stepped (graphOf x) 0 code u left
+      → LettersLeft v x code letters 0 u left
   unfolding sink sinkOf pathCode codeFrom
   letters-start {letters} {u} {left} h s =
       let r = ok .rises (omega arith) (s .arc) in
@@ -230,5 +235,6 @@ module _ {v x lists counts : List ℕ} (ready : Ready v x lists counts) {code : 
     letters-done h =
         let e : u ≡ sink (graphOf x) = omega (arith, l .bounded) in
         let z : left < 1 = rw (e, pathCount-sink ok) at (l .below) in
-        let done : wordOfCode v (graphOf x) code ≡ take n letters = l .goes-on [] (arrived e) (omega arith) ∙ rw (e, word-sink v (graphOf x)) (append-nil (take n letters)) in
+        let done : wordOfCode v (graphOf x) code ≡ take n letters =
+        l .goes-on [] (arrived e) (omega arith) ∙ rw (e, word-sink v (graphOf x)) (append-nil (take n letters)) in
         record { size = sym taken ∙ ap length (sym done); few = l .few; long = l .long; start = sym done }

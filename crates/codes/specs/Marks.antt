@@ -24,6 +24,7 @@ fits v g u (b ∷ bytes) = isNode g u && eqb (printByte v (g .letter u)) b && an
 unfoldable pub fitsAfter : List ℕ → Graph → ℕ → List ℕ → Bool
 fitsAfter v g u bytes = any (λ s. fits v g s bytes) (g .successors u)
 
+-- the byte of a mark
 unfoldable pub markOf : Bool → ℕ
 markOf b = cond b 1 0
 
@@ -45,7 +46,7 @@ pub record FirstMarked (g : Graph) (table : List ℕ) (row u s step : ℕ) : Typ
   pub there : marked table row s ≡ true
   pub increases : step ≡ increment g u s
 
--- what the rows are filled with
+-- what the rows are filled from: accepted images, the table of where the lists begin, and a word that is not too long
 pub record Marking (v x lists word : List ℕ) : Type 0 where
   pub accepted : Accepted v x
   pub listed : Listed x lists

@@ -13,7 +13,7 @@ use crate::image::print_byte;
 use call::Answer;
 use call::Refusal;
 
-// The vertex that an arc leads to, and a code that goes with it.
+// The vertex that an arc leads to, and a code that goes with it: what is left of one behind the arc, or the arc's increment.
 pub(crate) struct Step {
     pub vertex: usize,
     pub code: u32,

@@ -134,7 +134,7 @@ fn first_marked(
     }
 }
 
-// The code of the word, or 13 where it spells none: from the root along the first arcs that fit.
+// The code of the word, or 13 where the bytes spell none: from the root along the first arcs that fit.
 pub(crate) fn look_up(
     voice: &[u8],
     lexicon: &[u8],

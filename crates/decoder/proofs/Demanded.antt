@@ -1,5 +1,5 @@
 -- The first n of the row meet demand 3, so what decoding leaves meets it; and only they do, so demand 3 determines the list. A word of an
--- accepted lexicon that has a permitted state path has one hit, which stands in the row, before place n or behind it; as the row is ordered,
+-- accepted lexicon that has a permitted state path has one hit, which stands in the row, among the first n or behind them; as the row is ordered,
 -- the first n stand before all others. Assumes nothing.
 use Prim.Native.Nat.{ℕ, _-_, _≤_, _<_}
 use mathlib.Core.Path.{_≡_, refl, sym, _∙_}

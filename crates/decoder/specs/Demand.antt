@@ -1,5 +1,6 @@
--- Demand 3 in the customer's sentences, of what decoding leaves; document 01's own form of it, the first n of the row, is `FirstOfRow`. A word is its print bytes, a state path is the literal one, and the list is
--- read back from the output's bytes (document 01, State paths and hits). Assumes nothing.
+-- Demand 3 in the customer's sentences, of what decoding leaves; document 01's own form of it, the first n of the row, is `FirstOfRow`. A word
+-- is its print bytes, a state path is the literal one, and the list is read back from the output's bytes (document 01, State paths and hits).
+-- Assumes nothing.
 use Prim.Native.Nat.{ℕ, _-_, _≤_, _<_}
 use mathlib.Core.Path.{_≡_}
 use mathlib.Core.Logic.{_⊎_}
@@ -20,7 +21,7 @@ use Rattle.decoder.specs.Decoding.{decodeAnswer, decodeOut}
 abbrev pub hitAt : List Hit → ℕ → Hit
 hitAt hs i = getD hs i (hit (pos 0) 0)
 
--- no two places of a list hold the same
+-- no two words of a list are the same
 abbrev pub Different : List (List ℕ) → Type 0
 Different ws = (i j : ℕ) → i < j → j < length ws → ¬ (getD ws i [] ≡ getD ws j [])
 
@@ -68,7 +69,7 @@ module _ (v : List ℕ) (g : Graph) (frames : List ℕ) where
     pub listed : (h : Hit) → List·Memᴰ h hs → (word : List ℕ) × Names h word × LexiconWord v g word × IsTrueScore word (h .score)
     -- listed words differ
     pub differ : (i j : ℕ) (word : List ℕ) → i < j → j < length hs → Names (hitAt hs i) word → ¬ Names (hitAt hs j) word
-    -- they run by falling score, equal scores by rising code
+    -- they stand by falling score, equal scores by rising code
     pub ordered : (i j : ℕ) → i < j → j < length hs → hitAt hs i ≻ hitAt hs j
     -- at most n are listed
     pub at-most : length hs ≤ n
@@ -105,7 +106,8 @@ ListsHits v x frames n k out = Demand3 v (graphOf x) frames n (hitsRead out k) �
 abbrev pub MeetsDemand3 : List ℕ → List ℕ → List ℕ → ℕ → Answer ℕ → List ℕ → Type 0
 MeetsDemand3 v x frames n answer out = (k : ℕ) → answer ≡ value k → ListsHits v x frames n k out
 
--- What is to be shown of the call, wherever no number of the table applies to it: demand 3, and that the list is the beginning of the row
+-- What is proved of the call, wherever no number of the table applies to it: demand 3 (proofs/Demanded.antt), and that the list is the first n
+-- of the row (proofs/Listed.antt)
 abbrev pub DecodingMeetsDemand3 : Type 0
 DecodingMeetsDemand3 =
     (v x frames work out : List ℕ) (n k : ℕ) → decodeAnswer v x frames n work out ≡ value k

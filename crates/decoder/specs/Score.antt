@@ -1,4 +1,4 @@
--- What the number of a score type stands for (document 01, State paths and hits: the sentinel for 'no token' and the limits belong to the
+-- What the number of the score type stands for (document 01, State paths and hits: the sentinel for 'no token' and the limits belong to the
 -- score type itself). Assumes nothing.
 use Prim.Native.Nat.{_<_}
 use mathlib.Core.Bool.{Bool, true, false, cond}

@@ -1,2 +1,2 @@
-// Decoding.
+// State paths, true scores, the list of hits and demand 3: definitions in specs/. The score type is in score.
 pub mod score;

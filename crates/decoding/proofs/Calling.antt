@@ -55,7 +55,8 @@ pub part-zeroed : (m : ℕ) (b w ys zs : List ℕ) → b ≡ cleared w → m ≤
     → zs ≡ replicate (length (take m (ys ++ drop m b))) 0 → zs ++ drop m (ys ++ drop m b) ≡ cleared w
 part-zeroed m b w ys zs e k h long z =
     let front : take m b ≡ replicate m 0 = rw (e, cleared-long w h) (front-zeros m 64000 w k) in
-    let zeros : zs ≡ take m b = z ∙ ap (λ l. replicate {A = ℕ} (length l) 0) (take-at ys (drop m b) m long) ∙ ap (λ (i : ℕ). replicate {A = ℕ} i 0) long ∙ sym front in
+    let zeros : zs ≡ take m b =
+    z ∙ ap (λ l. replicate {A = ℕ} (length l) 0) (take-at ys (drop m b) m long) ∙ ap (λ (i : ℕ). replicate {A = ℕ} i 0) long ∙ sym front in
     ap (λ l. zs ++ l) (drop-at ys (drop m b) m long) ∙ ap (λ l. l ++ drop m b) zeros ∙ take-append-drop m b ∙ e
 
 -- ---- after checking
@@ -74,9 +75,11 @@ module _ (v x work : List ℕ) where
     unfolding decodeOut
     out-refused e = written-refused _ out e
 
-    pub call-refused : {W : ℕ} {r : Refusal} → Passed v x work W → unless {A = ℕ} (callRows v frames n out) 0 ≡ refused r → decodeAnswer v x frames n work out ≡ refused r
+    pub call-refused : {W : ℕ} {r : Refusal} → Passed v x work W → unless {A = ℕ} (callRows v frames n out) 0 ≡ refused r
+        → decodeAnswer v x frames n work out ≡ refused r
     unfolding decodeAnswer
-    call-refused p e = rw rows-so (unless-past (firstRows v x work) (callRows v frames n out) _ (p .rows) ∙ refused-with {A = ℕ} (callRows v frames n out) 0 _ e)
+    call-refused p e =
+        rw rows-so (unless-past (firstRows v x work) (callRows v frames n out) _ (p .rows) ∙ refused-with {A = ℕ} (callRows v frames n out) 0 _ e)
 
     -- no row applies
     pub record Clear : Type 0 where
@@ -97,7 +100,8 @@ module _ (v x work : List ℕ) where
 
     pub call-answer : {W : ℕ} → Passed v x work W → Clear → decodeAnswer v x frames n work out ≡ value (length (hits v (graphOf x) frames n))
     unfolding decodeAnswer
-    call-answer p c = rw rows-so (unless-past (firstRows v x work) (callRows v frames n out) _ (p .rows) ∙ unless-value (callRows v frames n out) _ (c .none))
+    call-answer p c =
+        rw rows-so (unless-past (firstRows v x work) (callRows v frames n out) _ (p .rows) ∙ unless-value (callRows v frames n out) _ (c .none))
 
     pub call-out : {W : ℕ} → Passed v x work W → Clear
         → hitBytes (hits v (graphOf x) frames n) ++ drop (length (hitBytes (hits v (graphOf x) frames n))) out ≡ decodeOut v x frames n work out
@@ -106,7 +110,8 @@ module _ (v x work : List ℕ) where
 
     -- a store of n tokens a place
     pub call-run : {W : ℕ} {lists counts firsts b : List ℕ} → Passed v x work W → Clear → Opened (value W) x lists counts
-        → TableOf (sinkOf x) (firstSlot v (graphOf x) n) firsts → length b ≡ 8 * (n * placeCount v (graphOf x)) → Run v x frames n lists counts firsts b
+        → TableOf (sinkOf x) (firstSlot v (graphOf x) n) firsts → length b ≡ 8 * (n * placeCount v (graphOf x))
+        → Run v x frames n lists counts firsts b
     unfolding filled
     call-run p c o t l = record {
       ready = record { accepted = p .images; lists-of = o .listed; counts-of = o .counted; firsts-of = t };
@@ -115,13 +120,16 @@ module _ (v x work : List ℕ) where
     }
 
     pub store-few : {W : ℕ} → Passed v x work W → Clear → 8 * (n * placeCount v (graphOf x)) ≤ 64000
-    store-few p c = let room : n * placeCount v (graphOf x) ≤ 8 * 1000 = mul-le-mul {n₂ = 8} {m₂ = 1000} (c .few) (places-limit (accepted (p .images))) in omega (arith, room)
+    store-few p c =
+        let room : n * placeCount v (graphOf x) ≤ 8 * 1000 = mul-le-mul {n₂ = 8} {m₂ = 1000} (c .few) (places-limit (accepted (p .images))) in
+        omega (arith, room)
 
     few-hits : length (hits v (graphOf x) frames n) ≤ n
     unfolding hits
     few-hits = omega (arith, length-take n (row v (graphOf x) frames))
 
-    module _ (c : Clear) {tokens : List ℕ} (e : tokens ≡ held 8 (hits v (graphOf x) frames n)) (s : (h : Hit) → List·Memᴰ h (hits v (graphOf x) frames n) → Storable h) where
+    module _ (c : Clear) {tokens : List ℕ} (e : tokens ≡ held 8 (hits v (graphOf x) frames n))
+        (s : (h : Hit) → List·Memᴰ h (hits v (graphOf x) frames n) → Storable h) where
       pub says-hits : hitsOf tokens ≡ hits v (graphOf x) frames n
       says-hits = rw e (hits-held 8 (hits v (graphOf x) frames n) (omega (arith, few-hits, c .few)) s)
 

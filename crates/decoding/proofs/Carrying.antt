@@ -62,7 +62,8 @@ move-small y z h k q = rw q at size
         go false false = let s : natAbs (y +ℤ z) ≤ 65536 = omega (arith, size-sum y z, mag-size y h, mag-size z k) in s
 
 -- and its gain
-pub worth-of : {gain : ℕ} (y z : ℤ) → mag y < 32768 → mag z < 32768 → gain ≡ gainOf (plus (possible y) (possible z)) → Worth gain (plus (possible y) (possible z))
+pub worth-of : {gain : ℕ} (y z : ℤ) → mag y < 32768 → mag z < 32768 → gain ≡ gainOf (plus (possible y) (possible z))
+    → Worth gain (plus (possible y) (possible z))
 worth-of y z h k e = record { gain-is = e; none-is = λ n. gain-none y z h k (sym e ∙ n); small = λ q. move-small y z h k q }
 
 pub worth-by : {gain : ℕ} {o : Option ℤ} (y z : ℤ) → o ≡ possible y → mag y < 32768 → mag z < 32768 → gain ≡ gainOf (plus o (possible z))

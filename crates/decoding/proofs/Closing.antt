@@ -1,4 +1,4 @@
--- The end of a run. The search for the arc to the sink: its increment is what the successors before it add up to. And the list of hits while the
+-- After the last frame. The search for the arc to the sink: its increment is what the successors before it add up to. And the list of hits while the
 -- tokens of each node's last state are offered to it. Assumes nothing.
 use Prim.Native.Nat.{ℕ, suc, _+_, _-_, _*_, _≤_, _<_}
 use mathlib.Core.Path.{_≡_, refl, sym, ap, _∙_}
@@ -85,7 +85,8 @@ module _ {x lists counts : List ℕ} (a : Arcs x lists counts) {w : ℕ} (h : w 
       pub ahead-here : u16 x at ≡ sinkOf x → LastArc (graphOf x) w total
       unfolding sink sinkOf
       ahead-here e =
-          let member : List·Memᴰ (u16 x at) (successors x w) = rw (split-here formed h (p .counts) ahead-arc) (in-right (p .counts .earlier) (here refl)) in
+          let member : List·Memᴰ (u16 x at) (successors x w) =
+          rw (split-here formed h (p .counts) ahead-arc) (in-right (p .counts .earlier) (here refl)) in
           let m : List·Memᴰ (suc (nodeCount x)) (successors x w) = rw e at member in
           record { there = λ t. rw e at (increment-here formed h (p .counts) ahead-arc); none = λ f. absurd (true≢false (sym (mem-has m) ∙ f)) }
 
@@ -139,7 +140,8 @@ pub record EndPlace (v x : List ℕ) (n : ℕ) (firsts : List ℕ) (w : ℕ) (b 
   pub place : Place v (graphOf x) w (lastState v (graphOf x) w)
   pub slot : slots n (getD firsts w 0 + n * lastAt v x w) b ≡ slots n (n * (firstPlace v (graphOf x) w + lastState v (graphOf x) w)) b
 
-module _ {v x : List ℕ} {n : ℕ} {lists counts firsts : List ℕ} {w : ℕ} {b : List ℕ} (r : Ready v x n lists counts firsts) (m : Roomy v x n b) (low : 1 ≤ w) (high : w ≤ nodeCount x) where
+module _ {v x : List ℕ} {n : ℕ} {lists counts firsts : List ℕ} {w : ℕ} {b : List ℕ} (r : Ready v x n lists counts firsts) (m : Roomy v x n b)
+    (low : 1 ≤ w) (high : w ≤ nodeCount x) where
   known : nodeLetter x w < letterCount v
   known = letter-known (letterCount v) x (images r .lexicon) w low high
 
@@ -251,7 +253,8 @@ module _ {v x : List ℕ} {n : ℕ} {lists counts firsts : List ℕ} {w : ℕ} {
           (rw (c, length-copied n (getD firsts w 0 + n * lastAt v x w) b (e .roomy .few)) (e .roomy .few))
           copied-tokens (e .holds) (e .storable))
 
-      pub end-offered : {list′ : List ℕ} → slots n 0 list′ ≡ offered 281474976710656 (281474976710656 + d) (take n tokens) (slots n 0 list) → Ended e list′
+      pub end-offered : {list′ : List ℕ} → slots n 0 list′ ≡ offered 281474976710656 (281474976710656 + d) (take n tokens) (slots n 0 list)
+          → Ended e list′
       end-offered o =
           let f : offered (upOf (pos 0)) (downOf d) (held n (bestTokens n last-tokens)) (held n (bestTokens n (e .s))) ≡ held n (bestTokens n (e .s ++ map (shift (pos 0) d) last-tokens)) = offered-best n (pos 0) d last-tokens end-moves (e .s) (e .storable) in
           record { holds = o ∙ rw (copied-tokens, e .holds, ends-so) (rw (level-up, level-down d) at f) }
@@ -262,5 +265,7 @@ module _ {v x : List ℕ} {n : ℕ} {lists counts firsts : List ℕ} {w : ℕ} {
   end-storable h i = go (has (sink (graphOf x)) (successors x w)) refl
     where
       go : (t : Bool) → has (sink (graphOf x)) (successors x w) ≡ t → Storable h
-      go true t = let u = Memᴰ·of-map (shift (pos 0) (increment (graphOf x) w (sink (graphOf x)))) last-tokens (rw (ends-so t refl) at i) in rw (← u .2) (end-to t refl (u .0) (u .1))
+      go true t =
+          let u = Memᴰ·of-map (shift (pos 0) (increment (graphOf x) w (sink (graphOf x)))) last-tokens (rw (ends-so t refl) at i) in
+          rw (← u .2) (end-to t refl (u .0) (u .1))
       go false t = absurd (not-nil (rw t at i))

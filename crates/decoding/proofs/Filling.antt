@@ -33,14 +33,16 @@ pub marks-start : {x : List ℕ} {marks : List Bool} → length marks ≡ 64 →
 marks-start e = record { long = e; marked = λ u l h. absurd (omega arith) }
 
 -- the letter of the next node gets its mark
-pub marks-next : {x : List ℕ} {m : ℕ} {marks : List Bool} → getD x (2 + m) 0 < 64 → Marked x m marks → Marked x (m + 1) (set marks (getD x (2 + m) 0) true)
+pub marks-next : {x : List ℕ} {m : ℕ} {marks : List Bool} → getD x (2 + m) 0 < 64 → Marked x m marks
+    → Marked x (m + 1) (set marks (getD x (2 + m) 0) true)
 unfolding nodeLetter
 marks-next {x} {m} {marks} h d = record {
   long = length-set marks (getD x (2 + m) 0) true ∙ d .long;
   marked = λ u l k. at u l k (ℕ-discrete (getD x (1 + u) 0) (getD x (2 + m) 0)) (ℕ-discrete u (suc m));
 }
   where
-    at : (u : ℕ) → 1 ≤ u → u ≤ m + 1 → Dec (getD x (1 + u) 0 ≡ getD x (2 + m) 0) → Dec (u ≡ suc m) → getD (set marks (getD x (2 + m) 0) true) (getD x (1 + u) 0) false ≡ true
+    at : (u : ℕ) → 1 ≤ u → u ≤ m + 1 → Dec (getD x (1 + u) 0 ≡ getD x (2 + m) 0) → Dec (u ≡ suc m)
+        → getD (set marks (getD x (2 + m) 0) true) (getD x (1 + u) 0) false ≡ true
     at u l k (yes e) q = rw e (getD-set-same marks (getD x (2 + m) 0) true false (omega (arith, d .long)))
     at u l k (no e) (yes q) = let at : 1 + u ≡ 2 + m = omega arith in absurd (e (ap (λ j. getD x j 0) at))
     at u l k (no e) (no q) = getD-set-other marks (getD x (2 + m) 0) (getD x (1 + u) 0) true false e ∙ d .marked u l (omega (arith, q))
@@ -93,7 +95,8 @@ module _ {v : List ℕ} {marks : List Bool} {letter n : ℕ} {letters : List ℕ
       all l k m (yes q) = absurd (false≢true (sym e ∙ ap (λ j. getD marks j false) (sym q) ∙ m))
       all l k m (no q) = f .all l (omega (arith, q)) m
 
-pub found-done : {v x letters : List ℕ} {marks : List Bool} {letter n : ℕ} → letterCount v ≤ 64 → ((u : ℕ) → 1 ≤ u → u ≤ nodeCount x → nodeLetter x u < letterCount v)
+pub found-done : {v x letters : List ℕ} {marks : List Bool} {letter n : ℕ} → letterCount v ≤ 64
+    → ((u : ℕ) → 1 ≤ u → u ≤ nodeCount x → nodeLetter x u < letterCount v)
     → letterCount v ≤ letter → Marked x (nodeCount x) marks → Found v marks letter letters n → InUse v x letters n
 found-done few known h m f = record {
   letters-of = record { long = f .long; few = omega (arith, f .few, f .inside); known = λ i k. omega (arith, f .known i k, f .inside) };
@@ -110,7 +113,8 @@ begins-start e = record { long = e; begin = λ l h. absurd (omega arith) }
 
 pub begins-next : {v begins : List ℕ} {letter first : ℕ} → letter < 64 → first ≡ firstState v letter → Beginning v letter begins
     → Beginning v (letter + 1) (set begins letter first)
-begins-next {v} {begins} {letter} {first} h e b = record { long = length-set begins letter first ∙ b .long; begin = λ l k. at l k (ℕ-discrete l letter) }
+begins-next {v} {begins} {letter} {first} h e b =
+    record { long = length-set begins letter first ∙ b .long; begin = λ l k. at l k (ℕ-discrete l letter) }
   where
     at : (l : ℕ) → l < letter + 1 → Dec (l ≡ letter) → getD (set begins letter first) l 0 ≡ firstState v l
     at l k (yes d) = rw d (getD-set-same begins letter first 0 (omega (arith, b .long)) ∙ e)
@@ -194,10 +198,12 @@ fill-done {v} w h f = record {
 }
 
 -- the raised scores of the next state
-pub scores-next : {v : List ℕ} {l first s : ℕ} {pairs : List (List ℤ)} {loops₀ steps₀ loops steps loops′ steps′ : List ℕ} → AtLetter v l first → s < states v l
+pub scores-next : {v : List ℕ} {l first s : ℕ} {pairs : List (List ℤ)} {loops₀ steps₀ loops steps loops′ steps′ : List ℕ} → AtLetter v l first
+    → s < states v l
     → pairs ≡ letterPairs v first (states v l) → Filling v (loopRaised v) (stepRaised v) l s loops₀ steps₀ loops steps
     → loops′ ≡ set loops (4 * l + s) (pairScore pairs s 0) → (s ≡ 0 → steps′ ≡ steps)
-    → ((p : ℕ) → s ≡ suc p → steps′ ≡ set steps (4 * l + s) (pairScore pairs p 1)) → Filling v (loopRaised v) (stepRaised v) l (s + 1) loops₀ steps₀ loops′ steps′
+    → ((p : ℕ) → s ≡ suc p → steps′ ≡ set steps (4 * l + s) (pairScore pairs p 1))
+    → Filling v (loopRaised v) (stepRaised v) l (s + 1) loops₀ steps₀ loops′ steps′
 scores-next {v} {l} {first} {s} {pairs} {loops = loops} {steps = steps} a h e f loop no-step next =
     fill-next (letter-small a) (omega (arith, letter-few a)) f
     (loop ∙ ap (set loops (4 * l + s)) (rw e (loop-score a s h)))
@@ -227,13 +233,15 @@ fills-next {v} {loop} {step} {letters} {n} {i} {loops} {steps} {loops′} {steps
         before (yes q) = absurd (e (ap (λ m. getD letters m 0) q))
         before (no q) = f .others (getD letters j 0) (t .known j (omega (arith, q))) e (d .entries j (omega (arith, q)))
 
-pub fills-done : {v : List ℕ} {loop step : ℕ → ℕ → ℕ} {letters : List ℕ} {n i : ℕ} {loops steps : List ℕ} → n ≤ i → Entries v loop step letters i loops steps
+pub fills-done : {v : List ℕ} {loop step : ℕ → ℕ → ℕ} {letters : List ℕ} {n i : ℕ} {loops steps : List ℕ} → n ≤ i
+    → Entries v loop step letters i loops steps
     → Entries v loop step letters n loops steps
 fills-done h d = record { long-loops = d .long-loops; long-steps = d .long-steps; entries = λ j k. d .entries j (omega arith) }
 
 pub begins-at : {v letters begins : List ℕ} {n i : ℕ} → voiceVerdict v ≡ wellFormed → Letters v letters n → Begins v begins → i < n
     → AtLetter v (getD letters i 0) (getD begins (getD letters i 0) 0)
-begins-at {v} {letters} {begins} {i = i} w t b h = record { well-formed = w; letter = t .known i h; begins = b .begin (getD letters i 0) (t .known i h) }
+begins-at {v} {letters} {begins} {i = i} w t b h =
+    record { well-formed = w; letter = t .known i h; begins = b .begin (getD letters i 0) (t .known i h) }
 
 -- ---- one letter at a frame
 
@@ -292,13 +300,14 @@ module _ {v : List ℕ} {k : ℕ} (h : Hearing v k) where
   unfolding emission
   heard-is n e q = q ∙ rw (e, lt-ltb k (symbolCount v) (h .known))
 
-  pub heard-inside : {l first n place : ℕ} → AtLetter v l first → n < states v l → place ≡ symbolsAt v + 1 + 2 * ((first + n) * symbolCount v + k) → place + 2 ≤ length v
+  pub heard-inside : {l first n place : ℕ} → AtLetter v l first → n < states v l → place ≡ symbolsAt v + 1 + 2 * ((first + n) * symbolCount v + k)
+      → place + 2 ≤ length v
   heard-inside a m e = rw e (emission-there v (h .well-formed) (state-there a m) (h .known))
 
 -- one state further
-pub place-next : (v : List ℕ) (k first p : ℕ) {place : ℕ} → place ≡ symbolsAt v + 1 + 2 * ((first + p) * symbolCount v + k)
+pub emission-next : (v : List ℕ) (k first p : ℕ) {place : ℕ} → place ≡ symbolsAt v + 1 + 2 * ((first + p) * symbolCount v + k)
     → place + 2 * symbolCount v ≡ symbolsAt v + 1 + 2 * ((first + suc p) * symbolCount v + k)
-place-next v k first p e =
+emission-next v k first p e =
     let a : (first + suc p) * symbolCount v ≡ (first + p) * symbolCount v + symbolCount v = rw add-suc (suc-mul (first + p) (symbolCount v)) in
     omega (arith, e, a)
 
@@ -307,10 +316,12 @@ heard-below v place e = rw e (raised-below (i16 v place) (i16-range v place))
 
 -- ---- all letters at a frame
 
-pub gained-start : {v : List ℕ} {k link : ℕ} {letters loops steps entries : List ℕ} → Long loops steps entries → Gained v k link letters 0 loops steps entries
+pub gained-start : {v : List ℕ} {k link : ℕ} {letters loops steps entries : List ℕ} → Long loops steps entries
+    → Gained v k link letters 0 loops steps entries
 gained-start t = record { moves = fills-start (t .long-loops) (t .long-steps); long = t .long-entries; entry = λ i h. absurd (omega arith) }
 
-pub gained-next : {v : List ℕ} {k link : ℕ} {letters : List ℕ} {n i : ℕ} {loops steps entries loops′ steps′ entries′ : List ℕ} → voiceVerdict v ≡ wellFormed
+pub gained-next : {v : List ℕ} {k link : ℕ} {letters : List ℕ} {n i : ℕ} {loops steps entries loops′ steps′ entries′ : List ℕ}
+    → voiceVerdict v ≡ wellFormed
     → Letters v letters n → i < n → Gained v k link letters i loops steps entries
     → Filled v (loopGain v k) (stepGain v k) (getD letters i 0) loops steps loops′ steps′
     → entries′ ≡ set entries (getD letters i 0) (linkGain v k link (getD letters i 0))
@@ -329,7 +340,8 @@ gained-next {v} {k} {link} {letters} {n} {i} {entries = entries} {entries′ = e
         before (yes p) = absurd (q (ap (λ a. getD letters a 0) p))
         before (no p) = rw e (getD-set-other entries (getD letters i 0) (getD letters j 0) _ 0 q ∙ g .entry j (omega (arith, p)))
 
-pub gained-done : {v : List ℕ} {k link : ℕ} {letters : List ℕ} {n i : ℕ} {loops steps entries : List ℕ} → n ≤ i → Gained v k link letters i loops steps entries
+pub gained-done : {v : List ℕ} {k link : ℕ} {letters : List ℕ} {n i : ℕ} {loops steps entries : List ℕ} → n ≤ i
+    → Gained v k link letters i loops steps entries
     → Gained v k link letters n loops steps entries
 gained-done h g = record { moves = fills-done h (g .moves); long = g .long; entry = λ j k. g .entry j (omega arith) }
 
@@ -339,7 +351,8 @@ gained-long g = record { long-loops = g .moves .long-loops; long-steps = g .move
 
 -- ---- the letters of nodes
 
-module _ {v x letters : List ℕ} {n : ℕ} (t : InUse v x letters n) {k link : ℕ} {loops steps entries : List ℕ} (g : Gained v k link letters n loops steps entries) where
+module _ {v x letters : List ℕ} {n : ℕ} (t : InUse v x letters n) {k link : ℕ} {loops steps entries : List ℕ}
+    (g : Gained v k link letters n loops steps entries) where
   node-entries : (u : ℕ) → 1 ≤ u → u ≤ nodeCount x → LetterEntries v (loopGain v k) (stepGain v k) (nodeLetter x u) loops steps
   node-entries u l h = let a = t .all u l h in rw (a .same) at (g .moves .entries (a .at) (a .inside))
 
@@ -366,7 +379,8 @@ module _ {v x letters : List ℕ} {n : ℕ} (t : InUse v x letters n) {k link : 
   link-gains e = entry-gains (linkScore v 0) (i16-range v _) e
 
 -- the root's token enters by a move of score 0
-pub root-gains : {v x letters : List ℕ} {n : ℕ} → InUse v x letters n → {k : ℕ} {loops steps entries : List ℕ} → Gained v k 32768 letters n loops steps entries
+pub root-gains : {v x letters : List ℕ} {n : ℕ} → InUse v x letters n → {k : ℕ} {loops steps entries : List ℕ}
+    → Gained v k 32768 letters n loops steps entries
     → EntryGains v x k (some (pos 0)) entries
 unfolding possible eqZ impossible raisedOf raised
 root-gains t g = entry-gains t g (pos 0) (omega arith) refl

@@ -146,7 +146,8 @@ gain-some (suc a) zero h k = absurd (omega arith)
 gain-some (suc a) (suc b) h k = refl
 
 -- the gain of two raised scores is that of the two stored ones
-pub gain-both : (y z : ℤ) → mag y < 32768 → mag z < 32768 → raisedGain (raisedOf (possible y)) (raisedOf (possible z)) ≡ gainOf (plus (possible y) (possible z))
+pub gain-both : (y z : ℤ) → mag y < 32768 → mag z < 32768
+    → raisedGain (raisedOf (possible y)) (raisedOf (possible z)) ≡ gainOf (plus (possible y) (possible z))
 unfolding possible plus gainOf raisedOf
 gain-both y z h k = go (eqZ y impossible) (eqZ z impossible) refl refl
   where
@@ -154,7 +155,8 @@ gain-both y z h k = go (eqZ y impossible) (eqZ z impossible) refl refl
         → raisedGain (raisedOf (cond b none (some y))) (raisedOf (cond c none (some z))) ≡ gainOf (plus (cond b none (some y)) (cond c none (some z)))
     go true c p q = gain-zero (raisedOf (cond c none (some z)))
     go false true p q = gain-silent (raised 32768 y)
-    go false false p q = gain-some (raised 32768 y) (raised 32768 z) (raised-some y h p) (raised-some z k q) ∙ rw (up-is y h, up-is z k) (sym (gain-is y z h k))
+    go false false p q =
+        gain-some (raised 32768 y) (raised 32768 z) (raised-some y h p) (raised-some z k q) ∙ rw (up-is y h, up-is z k) (sym (gain-is y z h k))
 
 -- a score that a call answers
 pub back : (z : ℤ) → mag z < 32768 → toZ w16 (ofZ w16 z) ≡ z
@@ -252,7 +254,8 @@ pub letters-start : (v : List ℕ) → LettersPassed v 0 0
 unfolding firstState from sum
 letters-start v = record { begins = refl; inside = omega arith; few = omega arith }
 
-pub at-letter : {v : List ℕ} {first letter : ℕ} → voiceVerdict v ≡ wellFormed → LettersPassed v first letter → letter < letterCount v → AtLetter v letter first
+pub at-letter : {v : List ℕ} {first letter : ℕ} → voiceVerdict v ≡ wellFormed → LettersPassed v first letter → letter < letterCount v
+    → AtLetter v letter first
 at-letter w p l = record { well-formed = w; letter = l; begins = p .begins }
 
 pub letters-next : {v : List ℕ} {first letter : ℕ} → AtLetter v letter first → LettersPassed v first letter

@@ -77,12 +77,14 @@ pub record ArcRead (x firsts entries : List ℕ) (u : ℕ) : Type 0 where
   pub slot : getD firsts u 0 ≤ 8000
 
 -- what is handed on stays where another place changes
-source-apart : (root : Bool) (n k : ℕ) {slot : ℕ} {l b b′ : List ℕ} → (root ≡ false → k + n ≤ slot) → Changed slot n l b b′ → source root n k b′ ≡ source root n k b
+source-apart : (root : Bool) (n k : ℕ) {slot : ℕ} {l b b′ : List ℕ} → (root ≡ false → k + n ≤ slot) → Changed slot n l b b′
+    → source root n k b′ ≡ source root n k b
 unfolding source
 source-apart true n k a c = refl
 source-apart false n k a c = changed-apart c n k (inl (a refl))
 
-module _ {x : List ℕ} {n nodes : ℕ} {firsts entries : List ℕ} {root : Bool} {from u down : ℕ} {b : List ℕ} (t : Arc x n nodes firsts entries root from u down b) where
+module _ {x : List ℕ} {n nodes : ℕ} {firsts entries : List ℕ} {root : Bool} {from u down : ℕ} {b : List ℕ}
+    (t : Arc x n nodes firsts entries root from u down b) where
   abbrev w : ℕ
   w = t .w
 
@@ -182,7 +184,8 @@ module _ {x : List ℕ} {n nodes : ℕ} {firsts entries : List ℕ} {root : Bool
 
 -- ---- all arcs
 
-module _ {x : List ℕ} {n : ℕ} {lists counts firsts entries : List ℕ} {w : ℕ} {root : Bool} {from : ℕ} {b₀ : List ℕ} (t : Handing x n lists counts firsts entries w root from b₀) where
+module _ {x : List ℕ} {n : ℕ} {lists counts firsts entries : List ℕ} {w : ℕ} {root : Bool} {from : ℕ} {b₀ : List ℕ}
+    (t : Handing x n lists counts firsts entries w root from b₀) where
   -- Q is the store when the arcs to the earlier successors are done
   pub record HandingLeft (at stop down : ℕ) (b : List ℕ) : Type 0 where
     pub Q : Store
@@ -200,7 +203,8 @@ module _ {x : List ℕ} {n : ℕ} {lists counts firsts entries : List ℕ} {w : 
   unfolding pad
   some-words z = go n (t .l) (t .handed) (λ y i. t .bound i)
     where
-      go : (m : ℕ) (l : List Hit) → source root n from b₀ ≡ held m l → ((y : Hit) → List·Memᴰ y l → Bound (graphOf x) (t .M) w y) → pathCount (graphOf x) w ≤ wordCount (graphOf x)
+      go : (m : ℕ) (l : List Hit) → source root n from b₀ ≡ held m l → ((y : Hit) → List·Memᴰ y l → Bound (graphOf x) (t .M) w y)
+          → pathCount (graphOf x) w ≤ wordCount (graphOf x)
       go zero [] e f = absurd (z (rw e refl))
       go (suc m) [] e f = absurd (z (rw e refl))
       go m (y ∷ l) e f = omega (arith, f y (here refl) .code)
@@ -289,9 +293,11 @@ module _ {x : List ℕ} {n : ℕ} {lists counts firsts entries : List ℕ} {w : 
       -- the counts don't overflow where there are tokens
       pub down-few : ¬ (getD (source root n from b₀) 0 0 ≡ 0) → down + getD counts u 0 < 281474976710656 + 4294967296
       unfolding downOf
-      down-few z = omega (arith, L .down-is, count-is, counts-below formed (t .vertex) (L .sums) next, some-words z, words-few (t .v) x (t .ready .accepted))
+      down-few z =
+          omega (arith, L .down-is, count-is, counts-below formed (t .vertex) (L .sums) next, some-words z, words-few (t .v) x (t .ready .accepted))
 
-      pub handing-next : {nodes : ℕ} (q : nodes ≡ nodeCount x) {b′ : List ℕ} → Stored (left-arc q .handing .v) (graphOf x) n (overOne (left-arc q)) b′ → source root n from b′ ≡ source root n from b → length b′ ≡ length b
+      pub handing-next : {nodes : ℕ} (q : nodes ≡ nodeCount x) {b′ : List ℕ} → Stored (left-arc q .handing .v) (graphOf x) n (overOne (left-arc q)) b′
+          → source root n from b′ ≡ source root n from b → length b′ ≡ length b
           → HandingLeft (at + 2) stop (down + getD counts u 0) b′
       unfolding passOn overOne downOf left-arc so-far counts-next
       handing-next q S f l = record {
@@ -334,5 +340,6 @@ module _ {x : List ℕ} {n : ℕ} {lists counts firsts entries : List ℕ} {w : 
       e : t .l ≡ []
       e = no-tokens n (t .l) (t .roomy .some) (t .handed) (λ y i. t .bound i) z
 
-      nothing : {u s : ℕ} → Place (t .v) (graphOf x) u s → passOn (t .v) (graphOf x) n (t .k) (λ u. t .score) w (t .l) (successors x w) (t .Q) u s ≡ t .Q u s
+      nothing : {u s : ℕ} → Place (t .v) (graphOf x) u s
+          → passOn (t .v) (graphOf x) n (t .k) (λ u. t .score) w (t .l) (successors x w) (t .Q) u s ≡ t .Q u s
       nothing p = rw e (pass-nothing n (t .k) (λ u. t .score) w (successors x w) (t .Q) (λ u s q. t .stored .kept q) p)

@@ -1,5 +1,5 @@
 -- A part of the store that is lent as a place and comes back, and a place that is copied: what their slots are. By the bytes. And the turns of the
--- loop that offers a place the tokens of the one before it. Assumes nothing.
+-- loop that offers a place the tokens of an earlier one. Assumes nothing.
 use Prim.Native.Nat.{ℕ, suc, _+_, _-_, _*_, _<_, _≤_}
 use mathlib.Core.Path.{_≡_, refl, sym, ap, ap₂, _∙_}
 use mathlib.Core.Logic.{_⊎_, inl, inr, ⊎-elim}
@@ -77,7 +77,7 @@ part-offer {n} {k} {b} o size e = record {
   target = rw (part-slots b k n size e) (o .target);
 }
 
--- the bytes with those of ys in the place of as many from `at` on
+-- the bytes with those of ys instead of as many from `at` on
 module _ (b ys : List ℕ) (at size : ℕ) (fits : at + size ≤ length b) (long : length ys ≡ size) where
   front : length (take at b) ≡ at
   front = length-take-le at b (omega arith)

@@ -90,13 +90,18 @@ module _ {tokens out₀ out : List ℕ} {i : ℕ} (l : Listable tokens out₀) (
   write-all h = w .split ∙ rw (drop-of-length-le tokens h) (append-nil (w .done))
 
   -- what is written then
-  pub write-done : hitsOf tokens ≡ w .done → (out ≡ hitBytes (hitsOf tokens) ++ drop (length (hitBytes (hitsOf tokens))) out₀) × (i ≡ length (hitsOf tokens))
-  write-done e = rw e (w .bytes ∙ ap (λ n. hitBytes (w .done) ++ drop n out₀) (sym (length-hitBytes (w .done) ∙ ap (λ n. 8 * n) (w .count))), sym (w .count))
+  pub write-done : hitsOf tokens ≡ w .done
+      → (out ≡ hitBytes (hitsOf tokens) ++ drop (length (hitBytes (hitsOf tokens))) out₀) × (i ≡ length (hitsOf tokens))
+  write-done e =
+      rw e (w .bytes ∙ ap (λ n. hitBytes (w .done) ++ drop n out₀) (sym (length-hitBytes (w .done) ∙ ap (λ n. 8 * n) (w .count))), sym (w .count))
 
   module _ (h : i < length tokens) (n : ¬ (getD tokens i 0 ≡ 0)) where
     next : hitsOf tokens ≡ (w .done ++ (hitOf (getD tokens i 0) ∷ [])) ++ hitsOf (drop (suc i) tokens)
     unfolding hitsOf
-    next = w .split ∙ rw (drop-cons tokens i 0 h, ne-eqb (getD tokens i 0) 0 n) (sym (append-assoc (w .done) (hitOf (getD tokens i 0) ∷ []) (hitsOf (drop (suc i) tokens))))
+    next =
+        w .split
+        ∙ rw (drop-cons tokens i 0 h, ne-eqb (getD tokens i 0) 0 n)
+        (sym (append-assoc (w .done) (hitOf (getD tokens i 0) ∷ []) (hitsOf (drop (suc i) tokens))))
 
     -- there is room for one more
     pub write-room : 8 * i + 8 ≤ length out
@@ -118,7 +123,8 @@ module _ {tokens out₀ out : List ℕ} {i : ℕ} (l : Listable tokens out₀) (
       count = length-append (w .done) (h′ ∷ []) ∙ rw (w .count) (omega arith);
       inside = omega arith;
       split = next;
-      bytes = e ∙ sets-eq (bytesOf h′) out (8 * i) write-room ∙ ap₂ (λ a b. a ++ bytesOf h′ ++ b) front back ∙ ap (λ a. a ++ drop (8 * suc i) out₀) whole;
+      bytes =
+          e ∙ sets-eq (bytesOf h′) out (8 * i) write-room ∙ ap₂ (λ a b. a ++ bytesOf h′ ++ b) front back ∙ ap (λ a. a ++ drop (8 * suc i) out₀) whole;
       long = ap length e ∙ length-sets out (8 * i) (bytesOf h′) ∙ w .long;
     })
       where
@@ -129,7 +135,9 @@ module _ {tokens out₀ out : List ℕ} {i : ℕ} (l : Listable tokens out₀) (
         long = length-hitBytes (w .done) ∙ ap (λ n. 8 * n) (w .count)
 
         front : take (8 * i) out ≡ hitBytes (w .done)
-        front = ap (take (8 * i)) (w .bytes) ∙ ap (λ n. take n (hitBytes (w .done) ++ drop (8 * i) out₀)) (sym long) ∙ take-append-seam (hitBytes (w .done)) (drop (8 * i) out₀)
+        front =
+            ap (take (8 * i)) (w .bytes) ∙ ap (λ n. take n (hitBytes (w .done) ++ drop (8 * i) out₀)) (sym long)
+            ∙ take-append-seam (hitBytes (w .done)) (drop (8 * i) out₀)
 
         back : drop (8 * i + 8) out ≡ drop (8 * suc i) out₀
         back =

@@ -1,4 +1,4 @@
--- The turns of the loops that move tokens: in place, and to another place. By the test for no token. Assumes nothing.
+-- The turns of the loops that move tokens: where they stand, and to another place. By the test for no token. Assumes nothing.
 use Prim.Native.Nat.{ℕ, _+_, _-_, _<_, _≤_}
 use mathlib.Core.Path.{_≡_, sym, ap, _∙_}
 use mathlib.Core.List.{List, [], _∷_, _++_, append-assoc, List·Memᴰ}
@@ -19,7 +19,7 @@ slots-hold n k b h =
     let at : getD (slots n 0 b) k 0 ≡ tokenAt b k = rw e at (slots-get n 0 k b 0 h) in
     rw at at (mem-getD (slots n 0 b) k 0 (rw length-slots h))
 
--- ---- in place
+-- ---- where they stand
 
 module _ (up down n k : ℕ) (b : List ℕ) (h : k < n) where
   pub shifted-ends : tokenAt b k ≡ 0 → slots n 0 b ≡ slots k 0 b ++ shifted up down (slots (n - k) k b)
@@ -75,7 +75,8 @@ offered-done up down n i from l h =
     rw (drop-of-length-le (take n from) {i = i} none)
 
 -- the last slot outranks the candidate
-pub offered-late : (up down n i k at : ℕ) (from b : List ℕ) → k + (n - 1) ≡ at → i < n → n ≤ length from → Falling (take n from) → Falling (slots n k b)
+pub offered-late : (up down n i k at : ℕ) (from b : List ℕ) → k + (n - 1) ≡ at → i < n → n ≤ length from → Falling (take n from)
+    → Falling (slots n k b)
     → getD from i 0 + up - down < tokenAt b at → offered up down (drop i (take n from)) (slots n k b) ≡ slots n k b
 offered-late up down n i k at from b e h f source target o =
     let step = from-step n i from h f in

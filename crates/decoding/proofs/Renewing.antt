@@ -58,7 +58,8 @@ module _ (v : List ℕ) (g : Graph) (P : Store) (k u : ℕ) where
 
 -- ---- one state of a part is changed
 
-pub own-put : {n S : ℕ} (P : Store) (u : ℕ) {s : ℕ} {b b′ : List ℕ} {l : List Hit} → s < S → Own n S (P u) b → Changed (n * s) n (held n l) b b′ → bestTokens n l ≡ l
+pub own-put : {n S : ℕ} (P : Store) (u : ℕ) {s : ℕ} {b b′ : List ℕ} {l : List Hit} → s < S → Own n S (P u) b → Changed (n * s) n (held n l) b b′
+    → bestTokens n l ≡ l
     → Own n S (put P u s l u) b′
 own-put {n} {S} P u {s} {b} {b′} {l} h O c k = record { holds = λ {r} q. at q (put-at P u s l u r); kept = λ {r} q. best q (put-at P u s l u r) }
   where
@@ -156,7 +157,8 @@ module _ {n entry s : ℕ} {loops steps b : List ℕ} (t : Renewing n entry (suc
     renewed-is = renewed-later (t .v) g (t .P) (t .k) (t .node) s r e
 
     -- no step
-    pub loop-done : getD steps (entry + s) 0 ≡ 0 → {b′ : List ℕ} → Changed (n * s) n (held n (stayed staying)) b b′ → Own n (t .S) (renewedOne t (t .node)) b′
+    pub loop-done : getD steps (entry + s) 0 ≡ 0 → {b′ : List ℕ} → Changed (n * s) n (held n (stayed staying)) b b′
+        → Own n (t .S) (renewedOne t (t .node)) b′
     unfolding stayed staying carried
     loop-done z c = done c (renewed-is ∙ rw (step-worth .none-is z) (append-nil _))
 
@@ -256,7 +258,8 @@ module _ {n entry states₀ : ℕ} {loops steps b₀ : List ℕ} (t : Renewing n
       fits = t .fits;
     }
 
-    pub renew-next : {b′ : List ℕ} → Own n (left-renewing .S) (renewedOne left-renewing (left-renewing .node)) b′ → length b′ ≡ length b → RenewLeft s b′
+    pub renew-next : {b′ : List ℕ} → Own n (left-renewing .S) (renewedOne left-renewing (left-renewing .node)) b′ → length b′ ≡ length b
+        → RenewLeft s b′
     unfolding renewDown renewedOne left-renewing
     renew-next S l = record {
       Q = renewedOne left-renewing;

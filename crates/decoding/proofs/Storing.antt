@@ -97,7 +97,8 @@ module _ {v : List ℕ} {g : Graph} where
   unfolding passOn
   pass-nothing n k score w [] P K p = refl
   pass-nothing n k score w (x ∷ us) P K p =
-      pass-nothing n k score w us _ (λ u s q. rw (put-nothing n P x 0 K (carried-nothing (plus (score x) (heard v g k x 0)) (increment g w x)) q) (K u s q)) p
+      pass-nothing n k score w us _
+      (λ u s q. rw (put-nothing n P x 0 K (carried-nothing (plus (score x) (heard v g k x 0)) (increment g w x)) q) (K u s q)) p
       ∙ put-nothing n P x 0 K (carried-nothing (plus (score x) (heard v g k x 0)) (increment g w x)) p
 
 -- ---- where places lie
@@ -130,7 +131,8 @@ module _ {g : Graph} where
     code = omega (arith, b .code);
   }
 
-  pub carried-bound : (M w u d : ℕ) (o : Option ℤ) (l : List Hit) → ((a : ℤ) → o ≡ some a → natAbs a ≤ 65536) → ((h : Hit) → List·Memᴰ h l → Bound g M w h)
+  pub carried-bound : (M w u d : ℕ) (o : Option ℤ) (l : List Hit) → ((a : ℤ) → o ≡ some a → natAbs a ≤ 65536)
+      → ((h : Hit) → List·Memᴰ h l → Bound g M w h)
       → d + pathCount g u ≤ pathCount g w → {h : Hit} → List·Memᴰ h (carried o d l) → Bound g (M + 65536) u h
   unfolding carried
   carried-bound M w u d none l s f c i = absurd (not-nil i)

@@ -159,7 +159,8 @@ module _ {v x : List ℕ} {n : ℕ} {lists counts firsts loops steps entries : L
     -- no arc leads back to the node
     own-kept : {s : ℕ} → handedOn handing w s ≡ t .P w s
     unfolding handedOn handing
-    own-kept {s} = pass-other v g n (t .k) _ w old (g .successors w) (t .P) w s (λ i. omega (arith, sound-of (lexicon-formed (t .ready)) .rises below i))
+    own-kept {s} =
+        pass-other v g n (t .k) _ w old (g .successors w) (t .P) w s (λ i. omega (arith, sound-of (lexicon-formed (t .ready)) .rises below i))
 
     pub renewing : Renewal n (4 * letter) (getD firsts w 0) count loops steps b′
     unfolding nodeLetter states handing

@@ -1,4 +1,4 @@
--- The whole run: from the store that is empty to the list of hits. The ends that are left give what all give, and that is the list of hits by the
+-- The whole decoding: from the empty store to the list of hits. The ends that are left give what all give, and that is the list of hits by the
 -- theorem of token passing. Assumes nothing.
 use Prim.Native.Nat.{ℕ, zero, suc, _+_, _-_, _≤_}
 use mathlib.Core.Path.{_≡_, refl, sym, ap, _∙_}
@@ -58,7 +58,8 @@ ends-start v x frames n m e = rw e (record {
 
 module _ {v x frames : List ℕ} {n : ℕ} {lists counts firsts b : List ℕ} (r : Run v x frames n lists counts firsts b)
     (h : StoredAt v x frames n (length frames - 1) b) where
-  pub last-bound : {u s : ℕ} {i : Hit} → Place v (graphOf x) u s → List·Memᴰ i (tokens v (graphOf x) frames n (length frames - 1) u s) → Bound (graphOf x) 67108864 u i
+  pub last-bound : {u s : ℕ} {i : Hit} → Place v (graphOf x) u s → List·Memᴰ i (tokens v (graphOf x) frames n (length frames - 1) u s)
+      → Bound (graphOf x) 67108864 u i
   last-bound {u} {s} p j =
       let B = token-bounded v (sound-run r) frames n (length frames - 1) u s j in
       record { score = omega (arith, B .score, frame-count v frames (r .heard)); code = B .code }
@@ -117,7 +118,8 @@ module _ {v x frames : List ℕ} {n : ℕ} {lists counts firsts b : List ℕ} (r
     listed =
         let P = tokens v (graphOf x) frames n (length frames - 1) in
         let none : m ≡ 0 = omega arith in
-        let all : d .s ≡ arrived v (graphOf x) P = sym (append-nil (d .s)) ∙ ap (λ j. d .s ++ flatMap (ending v (graphOf x) P) (downFrom j)) (sym none) ∙ d .left in
+        let all : d .s ≡ arrived v (graphOf x) P =
+        sym (append-nil (d .s)) ∙ ap (λ j. d .s ++ flatMap (ending v (graphOf x) P) (downFrom j)) (sym none) ∙ d .left in
         ap (bestTokens n) all ∙ decoded-so frames (frame-count v frames (r .heard) .0) ∙ decoded-hits v (sound-run r) frames n
 
     pub ends-done : {best : List ℕ} → best ≡ slots n 0 list ++ replicate (8 - n) 0 → best ≡ held 8 (hits v (graphOf x) frames n)

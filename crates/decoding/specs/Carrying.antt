@@ -77,7 +77,8 @@ pub record Arc (x : List ℕ) (n nodes : ℕ) (firsts entries : List ℕ) (root 
   pub arc : List·Memᴰ u (successors x w)
   pub down-is : down ≡ downOf (increment (graphOf x) w u)
 
-unfoldable pub overOne : {x : List ℕ} {n nodes : ℕ} {firsts entries : List ℕ} {root : Bool} {from u down : ℕ} {b : List ℕ} → Arc x n nodes firsts entries root from u down b → Store
+unfoldable pub overOne : {x : List ℕ} {n nodes : ℕ} {firsts entries : List ℕ} {root : Bool} {from u down : ℕ} {b : List ℕ}
+    → Arc x n nodes firsts entries root from u down b → Store
 overOne {x} {n} {u = u} t =
     let h = t .handing in
     put (h .Q) u 0 (bestTokens n (h .Q u 0 ++ overArc (h .v) (graphOf x) (h .k) (h .score) (t .w) u (h .l)))

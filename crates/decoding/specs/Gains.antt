@@ -140,7 +140,8 @@ pub record Gained (v : List ℕ) (k link : ℕ) (letters : List ℕ) (n : ℕ) (
 pub record MoveGains (v x : List ℕ) (k : ℕ) (loops steps : List ℕ) : Type 0 where
   pub long-loops : length loops ≡ 256
   pub long-steps : length steps ≡ 256
-  pub loop : (u s : ℕ) → 1 ≤ u → u ≤ nodeCount x → s < states v (nodeLetter x u) → getD loops (4 * nodeLetter x u + s) 0 ≡ loopGain v k (nodeLetter x u) s
+  pub loop : (u s : ℕ) → 1 ≤ u → u ≤ nodeCount x → s < states v (nodeLetter x u)
+      → getD loops (4 * nodeLetter x u + s) 0 ≡ loopGain v k (nodeLetter x u) s
   pub step : (u s : ℕ) → 1 ≤ u → u ≤ nodeCount x → suc s < states v (nodeLetter x u)
       → getD steps (4 * nodeLetter x u + suc s) 0 ≡ stepGain v k (nodeLetter x u) s
 

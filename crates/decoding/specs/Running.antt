@@ -1,4 +1,4 @@
--- What the functions of a whole run ask and leave: frame by frame, and at the end node by node. No public contract cites this.
+-- What the functions over all frames ask and leave: frame by frame, and at the end node by node. No public contract cites this.
 -- Assumes nothing.
 use Prim.Native.Nat.{ℕ, suc, _≤_}
 use mathlib.Core.Path.{_≡_}
@@ -58,5 +58,6 @@ pub record Ending (v x : List ℕ) (n : ℕ) (lists counts firsts : List ℕ) (w
   pub long : length list ≡ 64
 
 -- the list after it
-pub record Ended {v x : List ℕ} {n : ℕ} {lists counts firsts : List ℕ} {w : ℕ} {b list : List ℕ} (e : Ending v x n lists counts firsts w b list) (list′ : List ℕ) : Type 0 where
+pub record Ended {v x : List ℕ} {n : ℕ} {lists counts firsts : List ℕ} {w : ℕ} {b list : List ℕ} (e : Ending v x n lists counts firsts w b list)
+    (list′ : List ℕ) : Type 0 where
   pub holds : slots n 0 list′ ≡ held n (bestTokens n (e .s ++ ending v (graphOf x) (e .P) w))

@@ -91,10 +91,12 @@ pub record Handing (x : List ℕ) (n : ℕ) (lists counts firsts entries : List 
   pub above : {u s : ℕ} {h : Hit} → Place v (graphOf x) u s → w < u → List·Memᴰ h (Q u s) → Bound (graphOf x) (M + 65536) u h
 
 -- the store after it
-unfoldable pub handedOn : {x : List ℕ} {n : ℕ} {lists counts firsts entries : List ℕ} {w : ℕ} {root : Bool} {from : ℕ} {b : List ℕ} → Handing x n lists counts firsts entries w root from b → Store
+unfoldable pub handedOn : {x : List ℕ} {n : ℕ} {lists counts firsts entries : List ℕ} {w : ℕ} {root : Bool} {from : ℕ} {b : List ℕ}
+    → Handing x n lists counts firsts entries w root from b → Store
 handedOn {x} {n} {w = w} t = passOn (t .v) (graphOf x) n (t .k) (λ u. t .score) w (t .l) (successors x w) (t .Q)
 
-pub record Handed {x : List ℕ} {n : ℕ} {lists counts firsts entries : List ℕ} {w : ℕ} {root : Bool} {from : ℕ} {b : List ℕ} (t : Handing x n lists counts firsts entries w root from b) (b′ : List ℕ) : Type 0 where
+pub record Handed {x : List ℕ} {n : ℕ} {lists counts firsts entries : List ℕ} {w : ℕ} {root : Bool} {from : ℕ} {b : List ℕ}
+    (t : Handing x n lists counts firsts entries w root from b) (b′ : List ℕ) : Type 0 where
   pub stored : Stored (t .v) (graphOf x) n (handedOn t) b′
   pub above : {u s : ℕ} {h : Hit} → Place (t .v) (graphOf x) u s → w < u → List·Memᴰ h (handedOn t u s) → Bound (graphOf x) (t .M + 65536) u h
   pub long : length b′ ≡ length b
@@ -116,10 +118,12 @@ pub record Turn (v x : List ℕ) (n : ℕ) (lists counts firsts loops steps entr
   pub fits : M + 65536 ≤ 67108864
 
 -- the store after it
-unfoldable pub turned : {v x : List ℕ} {n : ℕ} {lists counts firsts loops steps entries : List ℕ} {w : ℕ} {b : List ℕ} → Turn v x n lists counts firsts loops steps entries w b → Store
+unfoldable pub turned : {v x : List ℕ} {n : ℕ} {lists counts firsts loops steps entries : List ℕ} {w : ℕ} {b : List ℕ}
+    → Turn v x n lists counts firsts loops steps entries w b → Store
 turned {v} {x} {n} {w = w} t = passNode v (graphOf x) n (t .k) w (t .P)
 
-pub record TurnDone {v x : List ℕ} {n : ℕ} {lists counts firsts loops steps entries : List ℕ} {w : ℕ} {b : List ℕ} (t : Turn v x n lists counts firsts loops steps entries w b) (b′ : List ℕ) : Type 0 where
+pub record TurnDone {v x : List ℕ} {n : ℕ} {lists counts firsts loops steps entries : List ℕ} {w : ℕ} {b : List ℕ}
+    (t : Turn v x n lists counts firsts loops steps entries w b) (b′ : List ℕ) : Type 0 where
   pub stored : Stored v (graphOf x) n (turned t) b′
   pub within : Within v (graphOf x) (w - 1) (t .M) (turned t)
   pub long : length b′ ≡ length b

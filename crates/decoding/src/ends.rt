@@ -1,4 +1,4 @@
-// The end of a run: the tokens of the last states from which an arc leads to the sink are candidates for the list of hits.
+// After the last frame: the tokens of the last states from which an arc leads to the sink are candidates for the list of hits.
 ghost use mathlib.Core.Path.{_≡_};
 ghost use mathlib.Core.List.{List·Memᴰ};
 ghost use Prim.Native.Nat.{_≤_};

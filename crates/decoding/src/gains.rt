@@ -1,5 +1,6 @@
 // The gains of one frame's moves. A gain is what a move and the emission after it add to a token: the two raised scores together, and 0 where
-// one of them is impossible. Gains are found for letters that some node has. `loops` and `steps` hold those of loops and steps.
+// one of them is impossible. Gains are found for letters that some node has. `loops` and `steps` hold those of loops and steps,
+// `entries` those of entering a letter's first state.
 ghost use mathlib.Core.Path.{_≡_};
 ghost use Prim.Native.Nat.{_+_, _*_, _≤_, _<_};
 ghost use lib.ListN.{length, getD, set};
@@ -90,9 +91,9 @@ fn letter_gains(
 {
     let symbols = voice[at] as usize;
     let states = voice[2 + 2 * letter] as usize;
-    let mut place = at + 1 + 2 * (first * symbols + k);
+    let mut offset = at + 1 + 2 * (first * symbols + k);
     first_gains(
-        raised_at(voice, place),
+        raised_at(voice, offset),
         letter,
         link,
         looping,
@@ -101,8 +102,8 @@ fn letter_gains(
     );
     let mut s = 1;
     while s < states {
-        place += 2 * symbols;
-        let heard = raised_at(voice, place);
+        offset += 2 * symbols;
+        let heard = raised_at(voice, offset);
         state_gains(heard, 4 * letter + s, looping, stepping, loops, steps);
         s += 1;
     }

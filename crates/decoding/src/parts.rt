@@ -1,4 +1,4 @@
-// A place within the whole store, by the slot that it begins at: its part is lent on, and nothing else changes.
+// A place within the store, or within a node's part of it, by the slot that it begins at: its part is lent on, and nothing else changes.
 ghost use mathlib.Core.Path.{_≡_};
 ghost use mathlib.Core.List.{_++_};
 ghost use Prim.Native.Nat.{_+_, _-_, _≤_};
@@ -48,7 +48,7 @@ pub(crate) fn offer_at(store: &mut [u8], n: usize, slot: usize, from: &[u64; 8],
     offer(&mut store[start..end], n, from, up, down);
 }
 
-// The tokens of another place of the store, moved, are candidates for this one, as in `offer`. They need no copy, since only this place changes.
+// The tokens of an earlier place, moved, are candidates for this one, as in `offer`. They need no copy, since only this place changes.
 pub(crate) fn offer_from(store: &mut [u8], n: usize, from: usize, slot: usize, up: u64, down: u64)
     requires { ⌜ (from + n ≤ slot) × Offer n slot up down (slots n from (now store)) (now store) ⌝ }
     ensures { λ _. ⌜ Changed slot n (offered up down (slots n from (now (store .entry))) (slots n slot (now (store .entry)))) (now (store .entry)) (now (store .exit)) ⌝ }

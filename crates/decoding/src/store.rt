@@ -1,4 +1,4 @@
-// A place of the token store: n slots, the best token first, then empty ones. Candidates enter it, its tokens are moved and copied.
+// A place of the token store: n slots, the best token first, then empty ones. Candidates enter it, its tokens are moved, and in the end copied.
 ghost use mathlib.Core.Path.{_≡_};
 ghost use mathlib.Core.List.{_++_};
 ghost use Prim.Native.Nat.{_-_, _*_, _≤_};
@@ -60,7 +60,7 @@ pub(crate) fn insert(part: &mut [u8], n: usize, token: u64)
     push_down(part, n, at, token);
 }
 
-// The tokens of another place, moved, are candidates for this one, the best first. Once the last of n outranks one, those behind it can't enter.
+// The tokens of a list, moved, are candidates for a place, the best first. Once the last of n outranks one, those behind it can't enter.
 pub(crate) fn offer(part: &mut [u8], n: usize, from: &[u64; 8], up: u64, down: u64)
     requires { ⌜ Offer n 0 up down (now from) (now part) ⌝ }
     ensures { λ _. ⌜ slots n 0 (now (part .exit)) ≡ offered up down (take n (now (from .entry))) (slots n 0 (now (part .entry))) ⌝ }

@@ -1,5 +1,5 @@
-// A node's turn at a frame: what its last state holds is passed on to its successors, and its own states are renewed. The table `firsts` has
-// each node's first slot in the store.
+// A node's turn at a frame: what its last state holds is passed on to its successors, and then its own states are renewed. The table
+// `firsts` has each node's first slot in the store.
 ghost use mathlib.Core.Path.{_≡_};
 ghost use mathlib.Core.Bool.{false};
 ghost use Prim.Native.Nat.{ℕ, suc, _+_, _*_, _≤_, _<_};

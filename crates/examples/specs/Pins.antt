@@ -91,7 +91,7 @@ checkLexicon x = signedAnswer (checkAnswer A x work)
 abbrev pub refusedLine : List ℕ → List ℕ
 refusedLine digits = 114 ∷ 101 ∷ 102 ∷ 117 ∷ 115 ∷ 101 ∷ 100 ∷ 32 ∷ digits ++ 10 ∷ []
 
--- a hit list of any images
+-- the list of hits for any images
 unfoldable pub hitsOf : List ℕ → List ℕ → List ℕ → List Hit
 hitsOf v x frames = hits v (graphOf x) frames 8
 
@@ -110,7 +110,8 @@ pub record FieldPins : Type 0 where
   pub last-step : map (λ b. checkVoice (1 ∷ 97 ∷ 2 ∷ 2 ∷ 0 ∷ 0 ∷ 0 ∷ 7 ∷ 7 ∷ 0 ∷ 0 ∷ b ∷ 0 ∷ [])) (0 ∷ 1 ∷ []) ≡ minus 2 ∷ minus 3 ∷ []
   pub links : map (λ c. checkVoice (take 9 A ++ c ∷ drop 10 A)) (0 ∷ 1 ∷ 2 ∷ []) ≡ minus 3 ∷ pos 1 ∷ minus 3 ∷ []
   pub symbol-counts : map (λ k. checkVoice (take 12 A ++ k ∷ [])) (0 ∷ 1 ∷ 64 ∷ 65 ∷ []) ≡ minus 3 ∷ minus 2 ∷ minus 2 ∷ minus 3 ∷ []
-  pub voice-ends : map (λ n. checkVoice (take n A)) (0 ∷ 4 ∷ 8 ∷ 14 ∷ []) ++ checkVoice (A ++ 0 ∷ []) ∷ [] ≡ minus 2 ∷ minus 2 ∷ minus 2 ∷ minus 2 ∷ minus 2 ∷ []
+  pub voice-ends : map (λ n. checkVoice (take n A)) (0 ∷ 4 ∷ 8 ∷ 14 ∷ []) ++ checkVoice (A ++ 0 ∷ []) ∷ []
+      ≡ minus 2 ∷ minus 2 ∷ minus 2 ∷ minus 2 ∷ minus 2 ∷ []
   -- 4 and 5: N, letter, count, successor, reserve
   pub node-counts : map checkLexicon ((0 ∷ []) ∷ (0 ∷ 0 ∷ []) ∷ (144 ∷ 1 ∷ []) ∷ (145 ∷ 1 ∷ []) ∷ []) ≡ minus 4 ∷ minus 5 ∷ minus 4 ∷ minus 5 ∷ []
   pub node-letters : map (λ l. checkLexicon (1 ∷ 0 ∷ l ∷ [])) (0 ∷ 1 ∷ []) ≡ minus 4 ∷ minus 5 ∷ []
@@ -151,9 +152,11 @@ pub record ScorePins : Type 0 where
   pub tied : hitsOf (oneLetter 251 255 251 255 0 0) wordsAA (0 ∷ 0 ∷ []) ≡ hit (minus 5) 0 ∷ hit (minus 5) 1 ∷ []
   pub five-states-2 : hitsOf fiveStates fiveWords (0 ∷ 1 ∷ []) ≡ hit (minus 508) 0 ∷ []
   pub five-states-3 : hitsOf fiveStates fiveWords (1 ∷ 0 ∷ 0 ∷ []) ≡ hit (minus 618) 0 ∷ hit (minus 2223) 3 ∷ []
-  pub five-states-5 : hitsOf fiveStates fiveWords (0 ∷ 0 ∷ 1 ∷ 1 ∷ 0 ∷ []) ≡ hit (minus 923) 0 ∷ hit (minus 2763) 4 ∷ hit (minus 2764) 1 ∷ hit (minus 3341) 3 ∷ []
+  pub five-states-5 : hitsOf fiveStates fiveWords (0 ∷ 0 ∷ 1 ∷ 1 ∷ 0 ∷ [])
+      ≡ hit (minus 923) 0 ∷ hit (minus 2763) 4 ∷ hit (minus 2764) 1 ∷ hit (minus 3341) 3 ∷ []
   -- -32,768 is impossible in emission, loop, link and step; -32,767 and a sum of -32,768 are not
-  pub impossible-emission : hitsOf (oneLetter 0 0 0 0 0 128) wordA (0 ∷ []) ∷ hitsOf (oneLetter 0 0 0 0 1 128) wordA (0 ∷ []) ∷ [] ≡ [] ∷ (hit (minus 32767) 0 ∷ []) ∷ []
+  pub impossible-emission : hitsOf (oneLetter 0 0 0 0 0 128) wordA (0 ∷ []) ∷ hitsOf (oneLetter 0 0 0 0 1 128) wordA (0 ∷ []) ∷ []
+      ≡ [] ∷ (hit (minus 32767) 0 ∷ []) ∷ []
   pub impossible-loop : hitsOf (oneLetter 0 128 253 255 0 0) wordsAA (0 ∷ 0 ∷ []) ≡ hit (minus 3) 1 ∷ []
   pub impossible-link : hitsOf (oneLetter 253 255 0 128 0 0) wordsAA (0 ∷ 0 ∷ []) ≡ hit (minus 3) 0 ∷ []
   pub impossible-step : hitsOf (1 ∷ 97 ∷ 2 ∷ 2 ∷ 0 ∷ 0 ∷ 0 ∷ 0 ∷ 128 ∷ 0 ∷ 0 ∷ 0 ∷ 0 ∷ 1 ∷ 0 ∷ 0 ∷ 1 ∷ 0 ∷ 0 ∷ 0 ∷ 0 ∷ []) wordA (0 ∷ 0 ∷ []) ≡ []
@@ -162,26 +165,34 @@ pub record ScorePins : Type 0 where
 -- ---- decoding: its bytes, its refusals
 
 pub record DecodingPins : Type 0 where
-  pub hit-bytes : decodeOut A wordsAA (0 ∷ 0 ∷ []) 3 work (replicate 25 7) ≡ 235 ∷ 255 ∷ 255 ∷ 255 ∷ 0 ∷ 0 ∷ 0 ∷ 0 ∷ 231 ∷ 255 ∷ 255 ∷ 255 ∷ 1 ∷ 0 ∷ 0 ∷ 0 ∷ replicate 9 7
+  pub hit-bytes : decodeOut A wordsAA (0 ∷ 0 ∷ []) 3 work (replicate 25 7)
+      ≡ 235 ∷ 255 ∷ 255 ∷ 255 ∷ 0 ∷ 0 ∷ 0 ∷ 0 ∷ 231 ∷ 255 ∷ 255 ∷ 255 ∷ 1 ∷ 0 ∷ 0 ∷ 0 ∷ replicate 9 7
   pub large-score : decodeOut (oneLetter 255 127 0 0 255 127) wordA (0 ∷ 0 ∷ 0 ∷ []) 1 work (replicate 8 7) ≡ 251 ∷ 127 ∷ 2 ∷ 0 ∷ 0 ∷ 0 ∷ 0 ∷ 0 ∷ []
-  pub no-hits : decodeAnswer A wordsAA (0 ∷ []) 8 work (replicate 64 7) ∷ decodeAnswer fiveStates fiveWords (0 ∷ []) 8 work (replicate 64 7) ∷ [] ≡ value 1 ∷ value 0 ∷ []
+  pub no-hits : decodeAnswer A wordsAA (0 ∷ []) 8 work (replicate 64 7) ∷ decodeAnswer fiveStates fiveWords (0 ∷ []) 8 work (replicate 64 7) ∷ []
+      ≡ value 1 ∷ value 0 ∷ []
   pub refused-unwritten : decodeOut A wordA [] 1 work (replicate 9 7) ≡ replicate 9 7
-  pub frame-counts : map (λ T. signedAnswer (decodeAnswer A wordA (replicate T 0) 0 work [])) (0 ∷ 1 ∷ 1000 ∷ 1001 ∷ []) ≡ minus 11 ∷ minus 12 ∷ minus 12 ∷ minus 11 ∷ []
+  pub frame-counts : map (λ T. signedAnswer (decodeAnswer A wordA (replicate T 0) 0 work [])) (0 ∷ 1 ∷ 1000 ∷ 1001 ∷ [])
+      ≡ minus 11 ∷ minus 12 ∷ minus 12 ∷ minus 11 ∷ []
   pub symbols : map (λ k. signedAnswer (decodeAnswer voice P (0 ∷ k ∷ []) 9 work [])) (3 ∷ 4 ∷ []) ≡ minus 12 ∷ minus 11 ∷ []
-  pub hit-counts : map (λ n. signedAnswer (decodeAnswer A wordA (0 ∷ []) n work [])) (0 ∷ 1 ∷ 8 ∷ 9 ∷ []) ≡ minus 12 ∷ minus 16 ∷ minus 16 ∷ minus 12 ∷ []
+  pub hit-counts : map (λ n. signedAnswer (decodeAnswer A wordA (0 ∷ []) n work [])) (0 ∷ 1 ∷ 8 ∷ 9 ∷ [])
+      ≡ minus 12 ∷ minus 16 ∷ minus 16 ∷ minus 12 ∷ []
   pub hit-room : map (λ m. signedAnswer (decodeAnswer A wordA (0 ∷ []) 2 work (replicate m 7))) (15 ∷ 16 ∷ []) ≡ minus 16 ∷ pos 1 ∷ []
 
 -- ---- words, codes and listing; width and mean; packing; successors
 
 pub record CodePins : Type 0 where
-  pub no-words : map (λ w. signedAnswer (wordToCodeAnswer voice P w work)) ([] ∷ (97 ∷ []) ∷ (it ++ 116 ∷ []) ∷ (0 ∷ 2 ∷ []) ∷ (110 ∷ 97 ∷ []) ∷ []) ≡ minus 13 ∷ minus 13 ∷ minus 13 ∷ minus 13 ∷ minus 13 ∷ []
-  pub code-limits : map (λ c. signedAnswer (codeToWordAnswer voice P c work [])) (0 ∷ 4 ∷ 5 ∷ 4294967295 ∷ []) ≡ minus 16 ∷ minus 16 ∷ minus 15 ∷ minus 15 ∷ []
+  pub no-words : map (λ w. signedAnswer (wordToCodeAnswer voice P w work)) ([] ∷ (97 ∷ []) ∷ (it ++ 116 ∷ []) ∷ (0 ∷ 2 ∷ []) ∷ (110 ∷ 97 ∷ []) ∷ [])
+      ≡ minus 13 ∷ minus 13 ∷ minus 13 ∷ minus 13 ∷ minus 13 ∷ []
+  pub code-limits : map (λ c. signedAnswer (codeToWordAnswer voice P c work [])) (0 ∷ 4 ∷ 5 ∷ 4294967295 ∷ [])
+      ≡ minus 16 ∷ minus 16 ∷ minus 15 ∷ minus 15 ∷ []
   pub code-room : map (λ m. signedAnswer (codeToWordAnswer voice P 4 work (replicate m 7))) (1 ∷ 2 ∷ []) ≡ minus 16 ∷ pos 2 ∷ []
   pub list-bytes : listOut voice P work (replicate 15 7) ≡ 97 ∷ 110 ∷ 10 ∷ 97 ∷ 116 ∷ 10 ∷ 105 ∷ 10 ∷ 105 ∷ 110 ∷ 10 ∷ 105 ∷ 116 ∷ 10 ∷ 7 ∷ []
   pub list-room : map (λ m. signedAnswer (listAnswer voice P work (replicate m 7))) (13 ∷ 14 ∷ []) ≡ minus 16 ∷ pos 14 ∷ []
   -- width and mean
-  pub width-limits : map (λ W. signedAnswer (widthAnswer W)) (0 ∷ 2 ∷ 3 ∷ 16 ∷ 17 ∷ 1048576 ∷ 1048577 ∷ []) ≡ minus 9 ∷ pos 1 ∷ pos 2 ∷ pos 4 ∷ pos 5 ∷ pos 20 ∷ minus 9 ∷ []
-  pub means : meanAnswer (pos 7) 2 ∷ meanAnswer (minus 8) 2 ∷ meanAnswer (minus 1000) 1000 ∷ meanAnswer (minus 1001) 1000 ∷ [] ≡ value (pos 3) ∷ value (minus 4) ∷ value (minus 1) ∷ value (minus 2) ∷ []
+  pub width-limits : map (λ W. signedAnswer (widthAnswer W)) (0 ∷ 2 ∷ 3 ∷ 16 ∷ 17 ∷ 1048576 ∷ 1048577 ∷ [])
+      ≡ minus 9 ∷ pos 1 ∷ pos 2 ∷ pos 4 ∷ pos 5 ∷ pos 20 ∷ minus 9 ∷ []
+  pub means : meanAnswer (pos 7) 2 ∷ meanAnswer (minus 8) 2 ∷ meanAnswer (minus 1000) 1000 ∷ meanAnswer (minus 1001) 1000 ∷ []
+      ≡ value (pos 3) ∷ value (minus 4) ∷ value (minus 1) ∷ value (minus 2) ∷ []
   pub mean-limits : map (λ T. meanAnswer (pos 0) T) (1 ∷ 1000 ∷ []) ≡ value (pos 0) ∷ value (pos 0) ∷ []
   -- packing: highest bit first, zero bits at the end, a byte that holds parts of two codes
   pub packs : packOut 5 (1 ∷ 2 ∷ 3 ∷ []) (7 ∷ 7 ∷ 7 ∷ []) ∷ packOut 1048576 (1048575 ∷ 1 ∷ []) (replicate 5 7) ∷ packOut 512 (1 ∷ 256 ∷ []) (7 ∷ 7 ∷ 7 ∷ []) ∷ [] ≡ (41 ∷ 128 ∷ 7 ∷ []) ∷ (255 ∷ 255 ∷ 240 ∷ 0 ∷ 1 ∷ []) ∷ (0 ∷ 192 ∷ 0 ∷ []) ∷ []
@@ -205,4 +216,5 @@ pub record ProgramPins : Type 0 where
   -- a missing n is 0
   pub counts-cut : map (λ n. countIn (take n thirdRow)) (0 ∷ 103 ∷ 104 ∷ []) ≡ 0 ∷ 0 ∷ 3 ∷ []
   -- no hits: one line
-  pub no-hits-printed : report (length fiveStates ∷ 0 ∷ fiveStates ++ length fiveWords ∷ 0 ∷ fiveWords ++ 8 ∷ 0 ∷ []) ≡ 104 ∷ 105 ∷ 116 ∷ 115 ∷ 32 ∷ 48 ∷ 32 ∷ 119 ∷ 111 ∷ 114 ∷ 100 ∷ 115 ∷ 32 ∷ 53 ∷ 32 ∷ 98 ∷ 105 ∷ 116 ∷ 115 ∷ 32 ∷ 51 ∷ 10 ∷ []
+  pub no-hits-printed : report (length fiveStates ∷ 0 ∷ fiveStates ++ length fiveWords ∷ 0 ∷ fiveWords ++ 8 ∷ 0 ∷ [])
+      ≡ 104 ∷ 105 ∷ 116 ∷ 115 ∷ 32 ∷ 48 ∷ 32 ∷ 119 ∷ 111 ∷ 114 ∷ 100 ∷ 115 ∷ 32 ∷ 53 ∷ 32 ∷ 98 ∷ 105 ∷ 116 ∷ 115 ∷ 32 ∷ 51 ∷ 10 ∷ []

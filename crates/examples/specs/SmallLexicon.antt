@@ -153,7 +153,8 @@ pub record Starred : Type 0 where
   -- root arcs 2, 1, same frames and n: an -2, in -12, at -12
   pub Q-three : listed Q (0 ∷ 2 ∷ []) 3 3 ≡ lists (line an (minus 2) ∷ line in′ (minus 12) ∷ line at (minus 12) ∷ [])
   -- P, frames 0 2, n = 8: five hits in all, the three above and then i -21, it -22
-  pub P-all : listed P (0 ∷ 2 ∷ []) 8 5 ≡ lists (line an (minus 2) ∷ line at (minus 12) ∷ line in′ (minus 12) ∷ line i (minus 21) ∷ line it (minus 22) ∷ [])
+  pub P-all : listed P (0 ∷ 2 ∷ []) 8 5
+      ≡ lists (line an (minus 2) ∷ line at (minus 12) ∷ line in′ (minus 12) ∷ line i (minus 21) ∷ line it (minus 22) ∷ [])
   -- P, frame 1, n = 8: only i, 0
   pub P-one : listed P (1 ∷ []) 8 1 ≡ lists (line i (pos 0) ∷ [])
   -- P, frames 0 0 2, n = 1: an -3

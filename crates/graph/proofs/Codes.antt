@@ -68,7 +68,8 @@ module _ {g : Graph} (ok : Sound g) where
       ∙ rw add-zero
 
   -- the ways that begin with an arc to a later successor, after the earlier ones
-  codes-on : (d : ℕ) {u : ℕ} → u < sink g → (earlier later : List ℕ) → g .successors u ≡ earlier ++ later → ((s : ℕ) → List·Memᴰ s later → CodesInOrder d s)
+  codes-on : (d : ℕ) {u : ℕ} → u < sink g → (earlier later : List ℕ) → g .successors u ≡ earlier ++ later
+      → ((s : ℕ) → List·Memᴰ s later → CodesInOrder d s)
       → map (codeFrom g u) (flatMap (λ s. map (λ p. s ∷ p) (ways g d s)) later) ≡ from (sum (map (pathCount g) earlier)) (sum (map (pathCount g) later))
   unfolding flatMap sum from
   codes-on d h l [] e ih = refl

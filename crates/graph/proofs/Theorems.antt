@@ -28,7 +28,8 @@ module _ (v x : List ℕ) (images : AcceptedImages v x) where
   ok : Sound (graphOf x)
   ok = sound (letterCount v) x (images .lexicon)
 
-  words-differ : (i j : ℕ) → i < wordCount (graphOf x) → j < wordCount (graphOf x) → wordOfPath v (graphOf x) (at x i) ≡ wordOfPath v (graphOf x) (at x j) → i ≡ j
+  words-differ : (i j : ℕ) → i < wordCount (graphOf x) → j < wordCount (graphOf x)
+      → wordOfPath v (graphOf x) (at x i) ≡ wordOfPath v (graphOf x) (at x j) → i ≡ j
   unfolding wordOfPath
   words-differ i j h k e =
       let letters = spelled-injective v (images .voice) (letters-known images (at x i)) (letters-known images (at x j)) e in

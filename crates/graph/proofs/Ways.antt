@@ -41,7 +41,8 @@ module _ {g : Graph} (ok : Sound g) where
   enough (suc d) (suc e) u h k l =
       cond-else (eqb u (sink g)) ([] ∷ [])
       (λ q. let below = below-sink g h q in
-      flatMap-cong _ _ (g .successors u) (λ s m. let r = ok .rises below m in ap (map (λ p. s ∷ p)) (enough d e s (r .1) (omega arith) (omega arith))))
+      flatMap-cong _ _ (g .successors u)
+      (λ s m. let r = ok .rises below m in ap (map (λ p. s ∷ p)) (enough d e s (r .1) (omega arith) (omega arith))))
 
   pub ways-sink : ways g (sink g) (sink g) ≡ [] ∷ []
   unfolding ways
@@ -52,7 +53,8 @@ module _ {g : Graph} (ok : Sound g) where
   ways-below {u} h = enough (sink g) (suc (sink g)) u (omega arith) (omega arith) (omega arith) ∙ rw (ne-eqb u (sink g) (omega arith))
 
   -- a way from a successor, with the arc to it
-  pub way-on : {u s : ℕ} {p : List ℕ} → u < sink g → List·Memᴰ s (g .successors u) → List·Memᴰ p (ways g (sink g) s) → List·Memᴰ (s ∷ p) (ways g (sink g) u)
+  pub way-on : {u s : ℕ} {p : List ℕ} → u < sink g → List·Memᴰ s (g .successors u) → List·Memᴰ p (ways g (sink g) s)
+      → List·Memᴰ (s ∷ p) (ways g (sink g) u)
   way-on {s = s} h m k = rw (ways-below h) (mem-flatMap (λ s. map (λ p. s ∷ p) (ways g (sink g) s)) m (Memᴰ·map (λ p. s ∷ p) k))
 
   -- ---- every vertex has a way

@@ -1,5 +1,5 @@
--- Word graphs: full paths, path counts, increments and codes (document 01, Lexicon; document 000, 3.1). Stated for any graph, of which a
--- lexicon image is one. Assumes nothing.
+-- Word graphs: full paths, path counts, increments and codes (document 01, Lexicon; document 000, 3.1). In the literature: a DAWG, a directed
+-- acyclic word graph. Stated for any graph, of which a lexicon image is one. Assumes nothing.
 use Prim.Native.Nat.{ℕ, zero, suc, _+_, _<_}
 use mathlib.Core.Path.{_≡_}
 use mathlib.Core.Bool.{Bool, cond, _&&_}
@@ -70,7 +70,7 @@ unfoldable pub codeFrom : Graph → ℕ → List ℕ → ℕ
 codeFrom g u [] = 0
 codeFrom g u (s ∷ p) = increment g u s + codeFrom g s p
 
--- The code of a path from its first vertex on (document 000: PPH, perfect path history; in the literature: a minimal perfect hash)
+-- the code of a path from its first vertex on (document 000: PPH, perfect path history; in the literature: a minimal perfect hash)
 unfoldable pub pathCode : Graph → List ℕ → ℕ
 pathCode g [] = 0
 pathCode g (u ∷ p) = codeFrom g u p

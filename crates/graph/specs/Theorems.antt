@@ -21,7 +21,8 @@ pub record PathTheorems (v : List ℕ) (g : Graph) : Type 0 where
   -- the codes of the full paths in depth-first order are 0, 1, .., W - 1: a code is the number of full paths completed before
   pub codes : map (pathCode g) (fullPaths g) ≡ from 0 (wordCount g)
   -- different full paths spell different words, in print bytes, and none spells the empty word
-  pub different-words : (i j : ℕ) → i < wordCount g → j < wordCount g → wordOfPath v g (getD (fullPaths g) i []) ≡ wordOfPath v g (getD (fullPaths g) j []) → i ≡ j
+  pub different-words : (i j : ℕ) → i < wordCount g → j < wordCount g
+      → wordOfPath v g (getD (fullPaths g) i []) ≡ wordOfPath v g (getD (fullPaths g) j []) → i ≡ j
   pub no-empty-word : ¬ LexiconWord v g []
   -- code c below W belongs to the word of the c-th full path
   pub word-of-code : (c : ℕ) → c < wordCount g → wordOfCode v g c ≡ wordOfPath v g (getD (fullPaths g) c [])

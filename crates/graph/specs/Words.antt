@@ -39,5 +39,6 @@ unfoldable pub wordOf : List ℕ → Graph → Option (List ℕ) → List ℕ
 wordOf v g none = []
 wordOf v g (some p) = wordOfPath v g p
 
+-- the word of a code
 unfoldable pub wordOfCode : List ℕ → Graph → ℕ → List ℕ
 wordOfCode v g code = wordOf v g (pathOfCode g code)

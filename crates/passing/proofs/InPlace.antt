@@ -1,6 +1,6 @@
 -- Token passing in one store leaves at every place what arrives there at the frame: arcs rise, so a node still holds its old tokens when its
--- turn comes, and it is renewed before any is passed to it; a renewed state reads itself and the one before, which are still old; and a
--- successor is listed once. Assumes nothing.
+-- turn comes, and passes them on to later nodes alone, which are renewed already; a renewed state reads itself and the one before, which are
+-- still old; and a successor is listed once. Assumes nothing.
 use Prim.Native.Nat.{ℕ, zero, suc, _≤_, _<_}
 use mathlib.Core.Path.{_≡_, refl, sym, _∙_, ap}
 use mathlib.Core.Bool.{false, and-false}
@@ -201,7 +201,7 @@ module _ (v : List ℕ) {g : Graph} (ok : Sound g) (n k : ℕ) where
         start : Midway [] (g .nodes) P
         start = record { had = λ w i. absurd (not-nil i); old = λ u s l. refl; new = λ u s l c t. absurd (omega arith) }
 
--- ---- so the store of a decoding run holds the tokens, frame by frame
+-- ---- so the store holds the tokens, frame by frame
 
 module _ (v : List ℕ) {g : Graph} (ok : Sound g) (frames : List ℕ) (n u s : ℕ) where
   pub first-frame : passRoot v g n (getD frames 0 0) u s ≡ tokens v g frames n 0 u s

@@ -33,6 +33,7 @@ module _ {C K : Type 0} (R : Ranking C K) where
   rowOf [] = []
   rowOf (a ∷ l) = insert a (rowOf l)
 
+  -- the n best
   abbrev pub best : ℕ → List C → List C
   best n l = take n (rowOf l)
 

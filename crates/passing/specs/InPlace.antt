@@ -1,5 +1,6 @@
 -- Token passing in one store, in the order of the work. Nodes take their turn from high to low (document 000, 2.2), so that a node still holds
--- its old tokens when its turn comes; it doesn't collect from its predecessors but passes on to its successors (document 004, bequeathal).
+-- its old tokens when its turn comes; it doesn't collect from its predecessors but passes on to its successors (document 004, bequeathal), and
+-- does so before its own states are renewed.
 -- That every place then holds what Tokens.antt says is proved in proofs/InPlace.antt. Assumes nothing.
 use Prim.Native.Nat.{ℕ, zero, suc}
 use mathlib.Core.Bool.{cond, _&&_}

@@ -50,7 +50,8 @@ module _ {v x : List ℕ} {T : ℕ} {work : List ℕ} (r : Ready v x T work) whe
         let own = on Code (badCode (wordCount (graphOf x)) code) ∷ on Output (ltb (length out) (length (wordOfCode v (graphOf x) code))) ∷ [] in
         let short = word-short (accepted (r .images)) below in
         let passed = passed-none own (lt-leb (wordCount (graphOf x)) code below, (le-ltb (length out) (length (wordOfCode v (graphOf x) code)) (omega arith), tt)) in
-        unless-value (codeToWordRows v x code work out) (length (wordOfCode v (graphOf x) code)) (none-join (firstRows v x work) own first-passed passed)
+        unless-value (codeToWordRows v x code work out) (length (wordOfCode v (graphOf x) code))
+        (none-join (firstRows v x work) own first-passed passed)
 
     -- the bytes written, from 0 on, are the word
     pub word-is : {size : ℕ} {out′ : List ℕ} → value size ≡ codeToWordAnswer v x code work out → out′ ≡ codeToWordOut v x code work out

@@ -36,7 +36,9 @@ module _ (v x frames : List ℕ) (n : ℕ) where
 
   pub answer-lent : (w o : List ℕ) → workSpace ≡ length w → length o ≡ 64 → decodeAnswer v x frames n w o ≡ lentAnswer v x frames n
   unfolding lentAnswer
-  answer-lent w o e f = answer-same w (replicate workSpace 0) o (replicate 64 0) (sym e ∙ sym (length-replicate {A = ℕ} workSpace 0)) (f ∙ sym (length-replicate {A = ℕ} 64 0))
+  answer-lent w o e f =
+      answer-same w (replicate workSpace 0) o (replicate 64 0) (sym e ∙ sym (length-replicate {A = ℕ} workSpace 0))
+      (f ∙ sym (length-replicate {A = ℕ} 64 0))
 
   pub reported-value : {k : ℕ} {hs : List Hit} → lentAnswer v x frames n ≡ value k → hs ≡ hits v (graphOf x) frames n
       → firstLine k (wordCount (graphOf x)) ++ flatMap (hitLine v (graphOf x) (length frames)) hs ≡ reported v (graphOf x) frames n (lentAnswer v x frames n)

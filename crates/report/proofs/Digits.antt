@@ -18,7 +18,8 @@ digits-same zero (suc e) (suc n) g h = absurd (omega arith)
 digits-same (suc d) zero zero g h = refl
 digits-same (suc d) zero (suc n) g h = absurd (omega arith)
 digits-same (suc d) (suc e) zero g h = refl
-digits-same (suc d) (suc e) (suc n) g h = ap (λ (t : List ℕ). t ++ ((48 + suc n % 10) ∷ [])) (digits-same d e (suc n / 10) (omega arith) (omega arith))
+digits-same (suc d) (suc e) (suc n) g h =
+    ap (λ (t : List ℕ). t ++ ((48 + suc n % 10) ∷ [])) (digits-same d e (suc n / 10) (omega arith) (omega arith))
 
 -- the last digit stands after the digits of a tenth
 pub digits-split : (v : ℕ) → 1 ≤ v → digitsOf v v ≡ digitsOf (v / 10) (v / 10) ++ ((48 + v % 10) ∷ [])

@@ -124,9 +124,11 @@ module _ {v x : List ℕ} {T : ℕ} {list : List ℕ} {k : ℕ} {work₀ out₀ 
   unfolding hitsRead hitsAt flatMap
   lines-start = record { inside = omega arith; work-long = refl; out-long = refl; few-bytes = omega arith; lines = put-none at out₀ }
 
-  module _ {work out : List ℕ} {end i : ℕ} (r : Ready v x T work₀) (l : Listed x list k) (room : at ≤ length out₀) (p : Lined v x T list k work₀ out₀ at work out end i) where
+  module _ {work out : List ℕ} {end i : ℕ} (r : Ready v x T work₀) (l : Listed x list k) (room : at ≤ length out₀)
+      (p : Lined v x T list k work₀ out₀ at work out end i) where
     pub still-ready : Ready v x T work
-    still-ready = record { images = r .images; some-frames = r .some-frames; few-frames = r .few-frames; space = omega (arith, r .space, p .work-long) }
+    still-ready =
+        record { images = r .images; some-frames = r .some-frames; few-frames = r .few-frames; space = omega (arith, r .space, p .work-long) }
 
     pub lines-next : {work′ out′ : List ℕ} {end′ : ℕ} {score : ℤ} {code : ℕ} → i < k → score ≡ i32 list (8 * i) → code ≡ u32 list (8 * i + 4)
         → length work′ ≡ length work → length out′ ≡ length out → Put (hitLine v (graphOf x) T (hit score code)) end out out′ end′

@@ -36,7 +36,8 @@ shown-within {text} s = omega (arith, s .ends, ap length (s .shows), length-appe
 
 -- the code's cuts, its answer, and its page
 pub report-shown : (input : List ℕ) {v after x rest frames : List ℕ} {n : ℕ} {blank bytes : List ℕ} {end : ℕ}
-    → v ≡ imageIn input → after ≡ afterImage input → x ≡ imageIn after → rest ≡ afterImage after → n ≡ u8 rest 0 → frames ≡ drop 1 rest → blank ≡ blankPage
+    → v ≡ imageIn input → after ≡ afterImage input → x ≡ imageIn after → rest ≡ afterImage after → n ≡ u8 rest 0 → frames ≡ drop 1 rest
+    → blank ≡ blankPage
     → Put (reported v (graphOf x) frames n (lentAnswer v x frames n)) 0 blank bytes end → Shows (report input) bytes end
 unfolding voiceIn lexiconIn countIn framesIn
 report-shown input {rest = rest} {n} a b c d e f g p =

@@ -42,5 +42,6 @@ module _ {a b : List ℕ} {at m e : ℕ} {o o₁ o₂ : List ℕ} where
       }
 
 -- two texts behind a text
-pub put-pair : (b d : List ℕ) {a : List ℕ} {at m e : ℕ} {o o₁ o₂ : List ℕ} → at ≤ length o → Put a at o o₁ m → Put (b ++ d) m o₁ o₂ e → Put (a ++ b ++ d) at o o₂ e
+pub put-pair : (b d : List ℕ) {a : List ℕ} {at m e : ℕ} {o o₁ o₂ : List ℕ} → at ≤ length o → Put a at o o₁ m → Put (b ++ d) m o₁ o₂ e
+    → Put (a ++ b ++ d) at o o₂ e
 put-pair b d {a} h p q = rw (append-assoc a b d) (put-more h p q)

@@ -26,7 +26,8 @@ use Rattle.report.proofs.Paging.{report-is}
 -- ---- more than 1,000 frames
 
 -- behind a row that applies, neither rows nor the value count
-same-refusal : {A : Type 0} (rows : List Row) (q : Refusal) → (r : Refusal) × ((more : List Row) (a : A) → unless (rows ++ on q true ∷ more) a ≡ refused r)
+same-refusal : {A : Type 0} (rows : List Row) (q : Refusal)
+    → (r : Refusal) × ((more : List Row) (a : A) → unless (rows ++ on q true ∷ more) a ≡ refused r)
 unfolding unless
 same-refusal [] q = (q, λ more a. refl)
 same-refusal {A} (p ∷ rows) q = go (p .applies) refl (same-refusal rows q)
@@ -37,7 +38,8 @@ same-refusal {A} (p ∷ rows) q = go (p .applies) refl (same-refusal rows q)
     go false e u = (u .0, λ more a. rw e (u .1 more a))
 
 module _ (v x : List ℕ) where
-  many-refused : (work out : List ℕ) → (r : Refusal) × ((frames : List ℕ) (n : ℕ) → 1000 < length frames → decodeAnswer v x frames n work out ≡ refused r)
+  many-refused : (work out : List ℕ)
+      → (r : Refusal) × ((frames : List ℕ) (n : ℕ) → 1000 < length frames → decodeAnswer v x frames n work out ≡ refused r)
   unfolding decodeAnswer decodeRows frameRows badFrameCount
   many-refused work out =
       let u = same-refusal {A = ℕ} (firstRows v x work) Frames in

@@ -1,4 +1,4 @@
--- Text in a buffer: where it is put, and what is left. Assumes nothing.
+-- Text in a buffer: where it is put, and what is left. No public contract cites this. Assumes nothing.
 use Prim.Native.Nat.{ℕ, _+_}
 use mathlib.Core.Path.{_≡_}
 use mathlib.Core.List.{List, _++_}

@@ -1,4 +1,4 @@
--- A number made negative, as 0 - k, over the width. Assumes nothing.
+-- A number made negative: 0 - k fits any width whose signed numbers reach k, and is -k. Assumes nothing.
 use Prim.Native.Nat.{ℕ, zero, suc, _^_, _≤_, _<_}
 use mathlib.Core.Path.{_≡_, _∙_}
 use native.Mathlib.Omega.{arith}

@@ -1,4 +1,4 @@
--- Answers that a C int can hold. Assumes nothing.
+-- Answers that a C int can hold. No public contract cites this. Assumes nothing.
 use Prim.Native.Nat.{ℕ, _^_, _<_}
 use mathlib.Core.Path.{_≡_}
 use Rattle.call.specs.Table.{Answer, value}

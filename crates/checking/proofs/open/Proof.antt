@@ -23,7 +23,8 @@ returns c =
 
 -- the part that is lent on
 part-long : (c : tie.Else1) → length (take 20502 (c .before .before .before .before .before .before .before .before .args .work .now)) ≡ 20502
-part-long c = let h = long c in length-take-le 20502 (c .before .before .before .before .before .before .before .before .args .work .now) (omega arith)
+part-long c =
+    let h = long c in length-take-le 20502 (c .before .before .before .before .before .before .before .before .args .work .now) (omega arith)
 
 judge-images-requires : tie.Need-judge-images-requires
 judge-images-requires c κs = record {
@@ -36,7 +37,9 @@ work-cleared : (c : tie.After-clear) → c .clear .last .0 ≡ cleared (c .befor
 work-cleared c =
     let j = c .before .before .before .before .judge-images in
     let d = c .before .before .before .before .before .before .before .before in
-    c .clear .ensures ∙ part-cleared (j .last .1 .1 .0) (d .before .before .before .before .before .before .before .before .args .work .now) (j .kept .1 .1 .0 ∙ part-long d) (omega arith) (long d)
+    c .clear .ensures
+    ∙ part-cleared (j .last .1 .1 .0) (d .before .before .before .before .before .before .before .before .args .work .now)
+    (j .kept .1 .1 .0 ∙ part-long d) (omega arith) (long d)
 
 same-length : tie.Need-same-length
 same-length c = ap length (work-cleared (c .before .before .before .before)) ∙ cleared-length _
@@ -52,7 +55,8 @@ same-length-2 c = ap length (work-cleared (c .before .before .before .before .be
 returns-3 : tie.Need-returns-3
 returns-3 c =
     let d = c .before .before .before .before in (
-      d .before .before .before .before .before .before .before .before .judge-images .ensures .answered ∙ sym (long-answer _ _ _ (long (d .before .before .before .before .before .before .before .before .before .before .before .before))),
+      d .before .before .before .before .before .before .before .before .judge-images .ensures .answered
+          ∙ sym (long-answer _ _ _ (long (d .before .before .before .before .before .before .before .before .before .before .before .before))),
       (work-cleared (d .before .before .before .before), opened-refused (ap answerOf (d .enum-told2 .given .1)) (c .before .before .blank-lists2 .ensures) (c .blank-counts2 .ensures)),
     )
 

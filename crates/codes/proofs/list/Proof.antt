@@ -1,4 +1,4 @@
--- `list` answers what its rows give: a refusal of 1 to 10 at once, and after it the listing, or row 16. Assumes nothing.
+-- `list` answers what its rows give: a refusal of 1 to 10 at once, and else row 16 or the listing. Assumes nothing.
 use mathlib.Core.Path.{_≡_, sym, ap, _∙_}
 use borrow.Author.Needs.{needs}
 use Rattle.call.specs.Table.{answerOf, value}
@@ -9,7 +9,9 @@ use Rattle.codes.proofs.list.Tie as tie
 use Rattle.codes.proofs.Calls.{ready, list-refused, list-kept, list-written}
 
 -- checking has answered a value
-answered : (c : tie.After-enum-told) → let a = c .before .before .before .before .before .before .before .before .before .before .before .before .args in checkAnswer (a .voice .now) (a .lexicon .now) (a .work .now) ≡ value (c .enum-told .given .0 .0)
+answered : (c : tie.After-enum-told) →
+    let a = c .before .before .before .before .before .before .before .before .before .before .before .before .args in
+    checkAnswer (a .voice .now) (a .lexicon .now) (a .work .now) ≡ value (c .enum-told .given .0 .0)
 answered c = sym (c .before .before .before .before .«open» .ensures .0) ∙ ap answerOf (c .enum-told .given .1)
 
 put-listing-requires : tie.Need-put-listing-requires

@@ -60,7 +60,8 @@ returns-2 c =
       l .look-up .ensures ∙ sym (word-looked (a .voice .now) (a .lexicon .now) (a .work .now) (a .word .now) (passes k)),
       c .before .before .clear .ensures
           ∙ ap (λ (w : List ℕ). cleared (part ++ drop 13266 w)) (o .«open» .ensures .1 .0)
-          ∙ part-cleared part (cleared (a .work .now)) (l .look-up .kept .1 .1 .1 .1 .1 .0 ∙ length-take-le 13266 (o .«open» .last .1 .1 .0) (room k)) (omega arith)
+          ∙ part-cleared part (cleared (a .work .now)) (l .look-up .kept .1 .1 .1 .1 .1 .0 ∙ length-take-le 13266 (o .«open» .last .1 .1 .0) (room k))
+          (omega arith)
           (omega (arith, cleared-length (a .work .now), passes k .room))
           ∙ cleared-twice (a .work .now) (passes k .room),
     )

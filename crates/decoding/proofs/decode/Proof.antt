@@ -79,7 +79,8 @@ checked c = told c .before .before .before .before
 abbrev start : tie.After-find-slots → tie.Start
 start c = begin (checked c)
 
-counted : (c : tie.After-find-slots) → c .find-slots .result ≡ start c .args .n * placeCount (start c .args .voice .now) (graphOf (start c .args .lexicon .now))
+counted : (c : tie.After-find-slots)
+    → c .find-slots .result ≡ start c .args .n * placeCount (start c .args .voice .now) (graphOf (start c .args .lexicon .now))
 counted c = c .find-slots .ensures .1
 
 -- it lies in the work space
@@ -133,8 +134,10 @@ wiped c =
     let b = listed c in
     let f = found (b .before .before) in
     let o = checked f .before .before .before .before in
-    part-zeroed (size f) (o .«open» .last .1 .1 .0) (start f .args .work .now) (b .best-words .last .1 .1 .1 .1 .1 .1 .1 .0) (c .zero .last .0) (o .«open» .ensures .1 .0) (small f)
-    (passes (checked f) .room) (b .best-words .kept .1 .1 .1 .1 .1 .1 .1 .0 ∙ length-take-le (size f) (o .«open» .last .1 .1 .0) (fits f)) (c .zero .ensures)
+    part-zeroed (size f) (o .«open» .last .1 .1 .0) (start f .args .work .now) (b .best-words .last .1 .1 .1 .1 .1 .1 .1 .0) (c .zero .last .0)
+    (o .«open» .ensures .1 .0) (small f)
+    (passes (checked f) .room) (b .best-words .kept .1 .1 .1 .1 .1 .1 .1 .0 ∙ length-take-le (size f) (o .«open» .last .1 .1 .0) (fits f))
+    (c .zero .ensures)
 
 returns-3 : tie.Need-returns-3
 returns-3 c =
@@ -147,7 +150,9 @@ returns-3 c =
     let a = start f .args in
     let e = says-hits (a .voice .now) (a .lexicon .now) (a .work .now) (a .frames .now) (a .n) (a .out .now) (clear-call t) (b .best-words .ensures .0) (b .best-words .ensures .1) in
     let answer = ap value (p .put-hits .ensures .1 ∙ ap length e) ∙ sym (call-answer _ _ _ _ _ _ (passes k) (clear-call t)) in
-    let out = p .put-hits .ensures .0 ∙ ap (λ (l : List Hit). hitBytes l ++ drop (length (hitBytes l)) (a .out .now)) e ∙ call-out _ _ _ _ _ _ (passes k) (clear-call t) in
+    let out =
+    p .put-hits .ensures .0 ∙ ap (λ (l : List Hit). hitBytes l ++ drop (length (hitBytes l)) (a .out .now)) e
+    ∙ call-out _ _ _ _ _ _ (passes k) (clear-call t) in
     (answer, (wiped z, (out, left-meets _ _ _ _ _ _ _ _ answer out)))
 
 mul-store : tie.Need-mul-store

@@ -10,7 +10,8 @@ array-share-prefix-text : tie.Need-array-share-prefix-text
 array-share-prefix-text c = let h = shown-within (c .before .report .ensures) in search needs
 
 slice-aggregate-write-all : tie.Need-slice-aggregate-write-all
-slice-aggregate-write-all c = let r = c .before .before .report in sym (length-take-le (r .result .length) (r .result .text) (shown-within (r .ensures)))
+slice-aggregate-write-all c =
+    let r = c .before .before .report in sym (length-take-le (r .result .length) (r .result .text) (shown-within (r .ensures)))
 
 pub main-spec : {M : Type 1} → statement M
 main-spec =

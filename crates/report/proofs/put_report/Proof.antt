@@ -33,9 +33,11 @@ put-list-requires c κs =
     let d = k .before .before .before .before in
     let s = d .before .before .before .before .before .before .before .before in
     let a = s .args in (
-      ready (a .voice .now) (a .lexicon .now) (a .frames .now) (a .n) _ _ _ (answers k) (omega (arith, d .decode .kept .1 .1 .1 .1 .0, d .before .before .before .work-space .ensures)),
+      ready (a .voice .now) (a .lexicon .now) (a .frames .now) (a .n) _ _ _ (answers k)
+          (omega (arith, d .decode .kept .1 .1 .1 .1 .0, d .before .before .before .work-space .ensures)),
       (
-        listed (a .voice .now) (a .lexicon .now) (a .frames .now) (a .n) _ _ _ (answers k) (d .decode .ensures .1 .1 .0) (d .decode .kept .1 .1 .1 .1 .1 .0),
+        listed (a .voice .now) (a .lexicon .now) (a .frames .now) (a .n) _ _ _ (answers k) (d .decode .ensures .1 .1 .0)
+            (d .decode .kept .1 .1 .1 .1 .1 .0),
         s .pre,
       ),
     )
@@ -61,7 +63,8 @@ returns-2 c =
     let lent = answer-lent (a .voice .now) (a .lexicon .now) (a .frames .now) (a .n) (d .before .before .before .work-space .result) (replicate 64 0) (d .before .before .before .work-space .ensures) refl in
     put-same
     (ap (λ (m : ℕ). refusedText ++ decimal m ++ (10 ∷ [])) (p .before .before .number .ensures)
-    ∙ reported-refused (a .voice .now) (a .lexicon .now) (a .frames .now) (a .n) (sym lent ∙ sym (d .decode .ensures .0) ∙ ap answerOf (k .answer2 .given .1)))
+    ∙ reported-refused (a .voice .now) (a .lexicon .now) (a .frames .now) (a .n)
+    (sym lent ∙ sym (d .decode .ensures .0) ∙ ap answerOf (k .answer2 .given .1)))
     (p .put-refusal .ensures)
 
 pub put-report-spec : {M : Type 1} → statement M

@@ -36,7 +36,8 @@ returns : tie.Need-returns Inv-loop μ-loop
 unfolding sinkOf
 returns c =
     let p = c .before .before .before .pre in
-    let e : c .before .loop .vertex ≡ sinkOf (c .before .before .before .args .lexicon .now) = let h = c .loop-test .left in omega (arith, p .1, c .before .loop .inv .1) in
+    let e : c .before .loop .vertex ≡ sinkOf (c .before .before .before .args .lexicon .now) =
+    let h = c .loop-test .left in omega (arith, p .1, c .before .loop .inv .1) in
     rw e at (c .before .loop .inv .0)
 
 pub mark-all-spec : {M : Type 1} → statement M

@@ -9,9 +9,9 @@ use Rattle.lexicon.specs.Lexicon.{nodeCount}
 use Rattle.graph.specs.Graph.{graphOf, sink}
 use Rattle.graph.specs.Conditions.{sameLetters}
 use Rattle.checking.specs.Pairs.{clash}
-use Rattle.checking.proofs.Arcs.{sound-of}
+use Rattle.checking.proofs.Arcs.{sound-of, nodes-there}
 use Rattle.checking.proofs.Forks.{same-letters-clash}
-use Rattle.checking.proofs.Masks.{few-vertices, letters-room}
+use Rattle.checking.proofs.Masks.{few-vertices}
 use Rattle.checking.proofs.PairTable.{Rows, rows-start, rows-found, rows-next, rows-all, rows-done}
 use Rattle.checking.proofs.pairs.has_same_letters.Statement.{statement}
 use Rattle.checking.proofs.pairs.has_same_letters.Tie as tie
@@ -23,7 +23,7 @@ abbrev μ-loop : tie.MeasureT-loop
 μ-loop lexicon lists pairs₀ u₀ pairs u = u
 
 number-at-requires : tie.Need-number-at-requires Inv-loop μ-loop
-number-at-requires c κs = omega (arith, letters-room (c .before .before .pre .0))
+number-at-requires c κs = omega (arith, nodes-there (c .before .before .pre .0 .well-formed))
 
 -- the sink is the vertex after the last node
 sink-next : (c : tie.After-number-at Inv-loop μ-loop) → c .number-at .result + 1 ≡ sink (graphOf (c .before .before .before .args .lexicon .now))

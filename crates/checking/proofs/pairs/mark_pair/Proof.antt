@@ -6,7 +6,8 @@ use borrow.Author.Needs.{needs}
 use lib.ListN.{length}
 use Rattle.lexicon.specs.Lexicon.{nodeLetter}
 use Rattle.graph.specs.Graph.{sink}
-use Rattle.checking.proofs.Masks.{few-vertices, letters-room}
+use Rattle.checking.proofs.Arcs.{nodes-there}
+use Rattle.checking.proofs.Masks.{few-vertices}
 use Rattle.checking.proofs.PairTable.{pair-unlike, pair-unmet, pair-met}
 use Rattle.checking.proofs.pairs.mark_pair.Statement.{statement}
 use Rattle.checking.proofs.pairs.mark_pair.Tie as tie
@@ -22,7 +23,7 @@ known : (c : tie.Start) → Known c
 unfolding sink
 known c =
     let h = c .pre in
-    let r = letters-room (h .0) in
+    let r = nodes-there (h .0 .well-formed) in
     let f = few-vertices (h .0) in
     record { u-node = omega (arith, h .1); v-node = omega (arith, h .2); u-there = omega (arith, h .1); v-there = omega (arith, h .2) }
 

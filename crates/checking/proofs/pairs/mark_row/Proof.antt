@@ -4,8 +4,8 @@ use mathlib.Core.Path.{_≡_, sym, _∙_}
 use native.Mathlib.Omega.{arith}
 use Rattle.lexicon.specs.Lexicon.{nodeCount}
 use Rattle.graph.specs.Graph.{graphOf, sink}
-use Rattle.checking.proofs.Arcs.{sound-of}
-use Rattle.checking.proofs.Masks.{few-vertices, letters-room}
+use Rattle.checking.proofs.Arcs.{sound-of, nodes-there}
+use Rattle.checking.proofs.Masks.{few-vertices}
 use Rattle.checking.proofs.PairTable.{RowMarked, row-start, row-next, row-done}
 use Rattle.checking.proofs.pairs.mark_row.Statement.{statement}
 use Rattle.checking.proofs.pairs.mark_row.Tie as tie
@@ -26,7 +26,7 @@ unfolding sink
 known c = let h = c .pre in record { below = omega (arith, h .2); few = few-vertices (h .0) }
 
 number-at-requires : tie.Need-number-at-requires Inv-loop μ-loop
-number-at-requires c κs = omega (arith, letters-room (c .before .before .pre .0))
+number-at-requires c κs = omega (arith, nodes-there (c .before .before .pre .0 .well-formed))
 
 -- the number of nodes
 counted : (c : tie.After-number-at Inv-loop μ-loop) → sink (graphOf (c .before .before .before .args .lexicon .now)) ≡ c .number-at .result + 1
@@ -86,7 +86,8 @@ returns c =
     let s = d .before .before .before in
     let h = s .pre in
     let k = known s in
-    row-done (sound-of (h .0 .well-formed)) (k .few) (h .1) (k .below) (omega (arith, counted d, c .loop-test .left, l .loop .inv .1)) (l .loop .inv .2)
+    row-done (sound-of (h .0 .well-formed)) (k .few) (h .1) (k .below) (omega (arith, counted d, c .loop-test .left, l .loop .inv .1))
+    (l .loop .inv .2)
 
 pub mark-row-spec : {M : Type 1} → statement M
 mark-row-spec =

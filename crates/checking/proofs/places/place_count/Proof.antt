@@ -38,11 +38,13 @@ loop-holds c = places-start _ _
 high : (c : tie.In-loop Inv-loop μ-loop) → c .before .loop .node ≤ nodeCount (c .before .before .before .before .before .args .lexicon .now)
 high c = let h = c .loop-test .taken in omega (arith, counted (c .before .before))
 
-node : (c : tie.In-loop Inv-loop μ-loop) → let a = c .before .before .before .before .before .args in NodeRead (a .voice .now) (a .lexicon .now) (c .before .loop .node)
+node : (c : tie.In-loop Inv-loop μ-loop) →
+    let a = c .before .before .before .before .before .args in NodeRead (a .voice .now) (a .lexicon .now) (c .before .loop .node)
 node c = node-read (images (c .before .before .before .before .before)) (c .before .loop .inv .first) (high c)
 
 -- a letter index is a byte
-letter : (c : tie.After-shared-slice-known3 Inv-loop μ-loop) → getD (c .before .before .before .before .before .before .args .lexicon .now) (1 + c .before .before .loop .node) 0 < 256
+letter : (c : tie.After-shared-slice-known3 Inv-loop μ-loop)
+    → getD (c .before .before .before .before .before .before .args .lexicon .now) (1 + c .before .before .loop .node) 0 < 256
 letter c = omega (arith, c .shared-slice-known3 .given (1 + c .before .before .loop .node))
 
 add-count-2 : tie.Need-add-count-2 Inv-loop μ-loop

@@ -41,7 +41,8 @@ loop-again c =
       omega arith,
       length-set (l .loop .out) (l .loop .i) _ ∙ l .loop .inv .1,
       ap (λ (o : List ℕ). set o (l .loop .i) (getD (s .args .letters .now) (l .loop .i) 0)) (l .loop .inv .2)
-          ∙ copy-more (s .args .letters .now) (s .args .out .now) (l .loop .i) (omega (arith, s .pre .0, s .pre .1)) (omega (arith, l .before .if1 .left)),
+          ∙ copy-more (s .args .letters .now) (s .args .out .now) (l .loop .i) (omega (arith, s .pre .0, s .pre .1))
+          (omega (arith, l .before .if1 .left)),
     )
 
 same-length : tie.Need-same-length Inv-loop μ-loop

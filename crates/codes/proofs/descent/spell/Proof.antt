@@ -16,7 +16,8 @@ use Rattle.codes.proofs.descent.spell.Statement.{statement}
 use Rattle.codes.proofs.descent.spell.Tie as tie
 
 abbrev Inv-loop : tie.InvT-loop
-Inv-loop voice lexicon lists counts code letters₀ sink vertex₀ left₀ length₀ letters vertex left length = LettersLeft voice lexicon code letters length vertex left
+Inv-loop voice lexicon lists counts code letters₀ sink vertex₀ left₀ length₀ letters vertex left length =
+    LettersLeft voice lexicon code letters length vertex left
 
 abbrev μ-loop : tie.MeasureT-loop
 μ-loop voice lexicon lists counts code letters₀ sink vertex₀ left₀ length₀ letters vertex left length = sink - vertex

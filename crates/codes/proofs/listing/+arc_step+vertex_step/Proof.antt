@@ -67,7 +67,8 @@ vertex-claims t = (number-at-reads.Asked, number-at-reads.Learnt, arc-step-below
 -- ---- the vertex step
 
 abbrev Inv-loop : vertex-step-lts.InvT-loop
-Inv-loop voice lexicon lists vertex word₀ depth out₀ at arcs end₀ arc₀ word out end arc = Walked voice lexicon vertex depth at word₀ out₀ word out end arc
+Inv-loop voice lexicon lists vertex word₀ depth out₀ at arcs end₀ arc₀ word out end arc =
+    Walked voice lexicon vertex depth at word₀ out₀ word out end arc
 
 abbrev μ-loop : vertex-step-lts.MeasureT-loop
 μ-loop voice lexicon lists vertex word₀ depth out₀ at arcs end₀ arc₀ word out end arc = arcs - arc
@@ -88,7 +89,8 @@ vertex-step-arc-step-requires t c κs =
 vertex-step-loop-again : (t : ℕ) → vertex-step-lts.Need-loop-again (vertex-claims t) (vertex-step-at t) vertex-step.Post Inv-loop μ-loop
 vertex-step-loop-again t c =
     let n = c .before .before .arc-step in
-    walk-on (c .before .before .before .before .before .before .loop .inv) (arc-left t (c .before .before .before .before .before)) (n .kept .1 .1 .1 .1 .1 .1 .1 .0) (n .ensures)
+    walk-on (c .before .before .before .before .before .before .loop .inv) (arc-left t (c .before .before .before .before .before))
+    (n .kept .1 .1 .1 .1 .1 .1 .1 .0) (n .ensures)
 
 vertex-step-returns : (t : ℕ) → vertex-step-lts.Need-returns (vertex-claims t) (vertex-step-at t) vertex-step.Post Inv-loop μ-loop
 vertex-step-returns t c =
@@ -102,23 +104,27 @@ next : (t : ℕ) (c : arc-step-lts.After-number-at (arc-claims t) (arc-step-at t
 next t c = let p = c .before .before .before .before .before .pre .1 .0 in leads-to (p .0) (p .1) (c .number-at .ensures)
 
 next-enters : (t : ℕ) (c : arc-step-lts.After-number-at (arc-claims t) (arc-step-at t) arc-step.Post) →
-    let a = c .before .before .before .before .before .args in Enters (a .voice .now) (a .lexicon .now) (a .lists .now) (c .number-at .result) (a .depth)
+    let a = c .before .before .before .before .before .args in
+    Enters (a .voice .now) (a .lexicon .now) (a .lists .now) (c .number-at .result) (a .depth)
 next-enters t c = let p = c .before .before .before .before .before .pre .1 .0 in enters (p .0) (p .1) (c .number-at .ensures)
 
 -- it is the sink
-is-sink : (t : ℕ) (c : arc-step-lts.Then1 (arc-claims t) (arc-step-at t) arc-step.Post) → nodeCount (c .before .before .before .before .before .before .before .args .lexicon .now) < c .before .before .number-at .result
+is-sink : (t : ℕ) (c : arc-step-lts.Then1 (arc-claims t) (arc-step-at t) arc-step.Post)
+    → nodeCount (c .before .before .before .before .before .before .before .args .lexicon .now) < c .before .before .number-at .result
 unfolding nodeCount
 is-sink t c = omega (arith, c .before .number-at2 .ensures, c .if1 .taken)
 
 -- it is a node
-is-node : (t : ℕ) (c : arc-step-lts.Else1 (arc-claims t) (arc-step-at t) arc-step.Post) → c .before .before .number-at .result ≤ nodeCount (c .before .before .before .before .before .before .before .args .lexicon .now)
+is-node : (t : ℕ) (c : arc-step-lts.Else1 (arc-claims t) (arc-step-at t) arc-step.Post)
+    → c .before .before .number-at .result ≤ nodeCount (c .before .before .before .before .before .before .before .args .lexicon .now)
 unfolding nodeCount
 is-node t c = omega (arith, c .before .number-at2 .ensures, c .if1 .left)
 
 -- the line at the sink
 line : (t : ℕ) (c : arc-step-lts.Then1 (arc-claims t) (arc-step-at t) arc-step.Post) →
     let a = c .before .before .before .before .before .before .before .args in
-    linesFrom (a .voice .now) (graphOf (a .lexicon .now)) (getD (successors (a .lexicon .now) (a .vertex)) (a .arc) 0) (take (a .depth) (a .word .now))
+    linesFrom (a .voice .now) (graphOf (a .lexicon .now)) (getD (successors (a .lexicon .now) (a .vertex)) (a .arc) 0)
+    (take (a .depth) (a .word .now))
     ≡ take (a .depth) (a .word .now) ++ (10 ∷ [])
 line t c = rw (next t (c .before .before)) (at-sink (next-enters t (c .before .before)) (is-sink t c) _)
 
@@ -137,7 +143,8 @@ arc-step-returns t c = rw (line t (c .before .before .before .before .before)) (
 -- the lines of a node, with its letter stored
 node-lines : (t : ℕ) (c : arc-step-lts.After-print-byte (arc-claims t) (arc-step-at t) arc-step.Post) →
     let a = c .before .before .before .before .before .before .before .before .args in
-    linesFrom (a .voice .now) (graphOf (a .lexicon .now)) (getD (successors (a .lexicon .now) (a .vertex)) (a .arc) 0) (take (a .depth) (a .word .now))
+    linesFrom (a .voice .now) (graphOf (a .lexicon .now)) (getD (successors (a .lexicon .now) (a .vertex)) (a .arc) 0)
+    (take (a .depth) (a .word .now))
     ≡ linesOver (a .voice .now) (graphOf (a .lexicon .now)) (successors (a .lexicon .now) (c .before .before .before .number-at .result)) (take (a .depth + 1) (set (a .word .now) (a .depth) (c .print-byte .result)))
 node-lines t c =
     let s = c .before .before .before .before .before .before .before .before in
@@ -152,7 +159,8 @@ arc-step-vertex-step-requires t c κs =
     let s = found .before .before .before .before .before in
     let a = s .args in
     let p = s .pre .1 .0 in (
-      first-falls (sinkOf (a .lexicon .now) - a .vertex) _ _ (2 ^ 64 - 1) (s .pre .0) (omega (arith, head-of (p .0) .rises (p .1), found .number-at .ensures)) (omega arith),
+      first-falls (sinkOf (a .lexicon .now) - a .vertex) _ _ (2 ^ 64 - 1) (s .pre .0)
+          (omega (arith, head-of (p .0) .rises (p .1), found .number-at .ensures)) (omega arith),
       (
         starts (next-enters t found) (is-node t (printed .before)),
         record {
@@ -165,7 +173,8 @@ arc-step-vertex-step-requires t c κs =
 arc-step-returns-2 : (t : ℕ) → arc-step-lts.Need-returns-2 (arc-claims t) (arc-step-at t) arc-step.Post
 arc-step-returns-2 t c =
     let printed = c .before .before .before .before .before in
-    wrote-letter (printed .before .before .before .before .before .before .before .before .args .word .now) (printed .print-byte .result) (node-lines t printed) (c .before .before .vertex-step .ensures)
+    wrote-letter (printed .before .before .before .before .before .before .before .before .args .word .now) (printed .print-byte .result)
+    (node-lines t printed) (c .before .before .vertex-step .ensures)
 
 pub +arc-step+vertex-step-spec : {M : Type 1} → statement M
 +arc-step+vertex-step-spec =

@@ -14,29 +14,38 @@ Inv-loop lexicon lists counts totals vertex list arcs total₀ arc₀ total arc 
 abbrev μ-loop : tie.MeasureT-loop
 μ-loop lexicon lists counts totals vertex list arcs total₀ arc₀ total arc = arcs - arc
 
--- the vertex has a place in the tables
+-- the vertex has an entry of the tables
 few : (c : tie.Start Inv-loop μ-loop) → c .args .vertex ≤ 400
 few c = omega (arith, c .pre .1 .0, nodes (c .pre .0) .1)
 
 -- an arc is left
-arc-left : (c : tie.In-loop Inv-loop μ-loop) → let a = c .before .before .before .before .before .before .args in c .before .loop .arc < arcCount (a .lexicon .now) (a .vertex)
-arc-left c = let p = c .before .before .before .before .before .before .pre in omega (arith, c .loop-test .taken, c .before .before .before .number-at .ensures, head (p .0) (p .1 .0) .count)
+arc-left : (c : tie.In-loop Inv-loop μ-loop) →
+    let a = c .before .before .before .before .before .before .args in c .before .loop .arc < arcCount (a .lexicon .now) (a .vertex)
+arc-left c =
+    let p = c .before .before .before .before .before .before .pre in
+    omega (arith, c .loop-test .taken, c .before .before .before .number-at .ensures, head (p .0) (p .1 .0) .count)
 
 -- it leads to a vertex
-arc-to : (c : tie.After-number-at2 Inv-loop μ-loop) → let a = c .before .before .before .before .before .before .before .args in c .number-at2 .result ≤ sinkOf (a .lexicon .now)
-arc-to c = let p = c .before .before .before .before .before .before .before .pre in omega (arith, c .number-at2 .ensures, head (p .0) (p .1 .0) .rises (arc-left (c .before)))
+arc-to : (c : tie.After-number-at2 Inv-loop μ-loop) →
+    let a = c .before .before .before .before .before .before .before .args in c .number-at2 .result ≤ sinkOf (a .lexicon .now)
+arc-to c =
+    let p = c .before .before .before .before .before .before .before .pre in
+    omega (arith, c .number-at2 .ensures, head (p .0) (p .1 .0) .rises (arc-left (c .before)))
 
 next-few : (c : tie.After-number-at2 Inv-loop μ-loop) → c .number-at2 .result ≤ 401
 unfolding sinkOf
 next-few c = omega (arith, arc-to c, nodes (c .before .before .before .before .before .before .before .pre .0) .1)
 
 loop-again : tie.Need-loop-again Inv-loop μ-loop
-loop-again c = let p = c .before .before .before .before .before .before .before .before .pre in added-next (p .0) (p .1 .0) (p .1 .1) (arc-left (c .before .before)) (c .before .number-at2 .ensures) (c .before .before .before .loop .inv)
+loop-again c =
+    let p = c .before .before .before .before .before .before .before .before .pre in
+    added-next (p .0) (p .1 .0) (p .1 .1) (arc-left (c .before .before)) (c .before .number-at2 .ensures) (c .before .before .before .loop .inv)
 
 returns : tie.Need-returns Inv-loop μ-loop
 returns c =
     let p = c .before .before .before .before .before .before .pre in
-    added-all (p .0) (p .1 .0) (omega (arith, c .loop-test .left, c .before .before .before .number-at .ensures, head (p .0) (p .1 .0) .count)) (c .before .loop .inv)
+    added-all (p .0) (p .1 .0) (omega (arith, c .loop-test .left, c .before .before .before .number-at .ensures, head (p .0) (p .1 .0) .count))
+    (c .before .loop .inv)
 
 pub arcs-on-ways-spec : {M : Type 1} → statement M
 arcs-on-ways-spec =

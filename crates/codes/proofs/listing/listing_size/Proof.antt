@@ -36,12 +36,15 @@ loop-holds c =
     rw e (record { inside = omega arith; long = refl; counted = counted-none (c .before .before .pre) (getD-copies 402 (sinkOf (c .before .before .args .lexicon .now)) 0) })
 
 -- the vertex before is the root or a node
-below : (c : tie.In-loop Inv-loop μ-loop) → (c .before .loop .vertex - 1 ≤ nodeCount (c .before .before .before .before .args .lexicon .now)) × (c .before .loop .vertex - 1 < 402)
+below : (c : tie.In-loop Inv-loop μ-loop)
+    → (c .before .loop .vertex - 1 ≤ nodeCount (c .before .before .before .before .args .lexicon .now)) × (c .before .loop .vertex - 1 < 402)
 unfolding sinkOf
 below c = let l = c .before .loop in omega (arith, c .loop-test .taken, l .inv .inside, nodes (c .before .before .before .before .pre) .1)
 
-one-less : (c : tie.In-loop Inv-loop μ-loop) → CountedFrom (c .before .before .before .before .args .lexicon .now) (c .before .loop .totals) (suc (c .before .loop .vertex - 1))
-one-less c = let e : suc (c .before .loop .vertex - 1) ≡ c .before .loop .vertex = omega (arith, c .loop-test .taken) in rw e (c .before .loop .inv .counted)
+one-less : (c : tie.In-loop Inv-loop μ-loop)
+    → CountedFrom (c .before .before .before .before .args .lexicon .now) (c .before .loop .totals) (suc (c .before .loop .vertex - 1))
+one-less c =
+    let e : suc (c .before .loop .vertex - 1) ≡ c .before .loop .vertex = omega (arith, c .loop-test .taken) in rw e (c .before .loop .inv .counted)
 
 loop-again : tie.Need-loop-again Inv-loop μ-loop
 loop-again c =

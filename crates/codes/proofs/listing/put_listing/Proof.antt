@@ -11,11 +11,13 @@ use Rattle.codes.proofs.listing.put_listing.Statement.{statement}
 use Rattle.codes.proofs.listing.put_listing.Tie as tie
 
 -- the size is that of the listing
-size : (c : tie.After-listing-size) → let a = c .before .before .before .before .args in c .listing-size .result ≡ length (listing (a .voice .now) (graphOf (a .lexicon .now)))
+size : (c : tie.After-listing-size) →
+    let a = c .before .before .before .before .args in c .listing-size .result ≡ length (listing (a .voice .now) (graphOf (a .lexicon .now)))
 size c = size-is (c .before .before .before .before .pre) (c .listing-size .ensures)
 
 -- it has room
-room : (c : tie.Else1) → let a = c .before .before .before .before .before .args in length (listing (a .voice .now) (graphOf (a .lexicon .now))) ≤ length (a .out .now)
+room : (c : tie.Else1) →
+    let a = c .before .before .before .before .before .args in length (listing (a .voice .now) (graphOf (a .lexicon .now))) ≤ length (a .out .now)
 room c = omega (arith, size (c .before), c .if1 .left)
 
 returns : tie.Need-returns
@@ -29,7 +31,8 @@ vertex-step-requires c κs =
 returns-2 : tie.Need-returns-2
 returns-2 c =
     let wrote = c .before .before .vertex-step .ensures in
-    all-written (room (c .before .before .before .before .before)) (size (c .before .before .before .before .before .before)) (rw (root-lines (c .before .before .before .before .before .before .before .before .before .before .pre)) at wrote)
+    all-written (room (c .before .before .before .before .before)) (size (c .before .before .before .before .before .before))
+    (rw (root-lines (c .before .before .before .before .before .before .before .before .before .before .pre)) at wrote)
 
 pub put-listing-spec : {M : Type 1} → statement M
 put-listing-spec =

@@ -39,7 +39,7 @@ mark-requires c κs =
     let p = l .before .before .before .before .before .before .pre in
     (p .0 .0, (l .loop .inv .rows, (p .0 .1, l .loop .inv .nodes, omega (arith, c .before .loop-test .taken, sink-is (l .before) .0))))
 
--- the place of the mark in the table
+-- where the mark stands in the table
 placed : (c : tie.After-mark Inv-loop μ-loop) →
     let l = c .before .before .before in
     402 * l .before .before .before .before .before .before .args .i + l .loop .vertex < 13266

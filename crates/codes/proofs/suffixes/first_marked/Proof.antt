@@ -29,7 +29,9 @@ small : (c : tie.After-at Inv-loop μ-loop) → let a = c .before .before .befor
 small c = let p = c .before .before .before .pre in omega (arith, list-at (p .0 .listed) (p .1 .0 .0) .small)
 
 loop-holds : tie.Need-loop-holds Inv-loop μ-loop
-loop-holds c = let p = c .before .before .before .pre in ahead-start (p .0 .listed .well-formed) (p .1 .0 .0) (list-entry (p .0 .listed) (p .1 .0 .0)) (p .1 .1 .0)
+loop-holds c =
+    let p = c .before .before .before .pre in
+    ahead-start (p .0 .listed .well-formed) (p .1 .0 .0) (list-entry (p .0 .listed) (p .1 .0 .0)) (p .1 .1 .0)
 
 next : (c : tie.At-loop Inv-loop μ-loop) →
     let a = c .before .before .before .before .args in
@@ -44,7 +46,7 @@ leads c =
     let p = c .before .before .before .before .before .pre in
     rw (c .number-at .ensures) (has-entry (p .0 .listed .well-formed) (next (c .before) .bounded))
 
--- the successor has a place in the row
+-- the successor has an entry of the row
 placed : (c : tie.After-number-at Inv-loop μ-loop) →
     let a = c .before .before .before .before .before .args in a .row + c .number-at .result < length (a .table .now)
 placed c = omega (arith, c .before .before .before .before .before .pre .1 .0 .1, leads c)

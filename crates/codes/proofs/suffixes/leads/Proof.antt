@@ -50,7 +50,7 @@ next c = arc-next (c .before .loop .inv .arcs) (c .loop-test .taken)
 there : (c : tie.In-loop Inv-loop μ-loop) → c .before .loop .at + 2 ≤ length (c .before .before .before .before .before .before .args .lexicon .now)
 there c = omega (arith, next c .room, c .before .loop .inv .arcs .there)
 
--- the successor has a place in the row
+-- the successor has an entry of the row
 placed : (c : tie.After-number-at2 Inv-loop μ-loop) →
     let a = c .before .before .before .before .before .before .before .args in a .row + c .number-at2 .result < length (a .table .now)
 placed c =
@@ -67,7 +67,8 @@ loop-again : tie.Need-loop-again Inv-loop μ-loop
 loop-again c =
     let n = c .before .before in
     let a = n .before .before .before .before .before .before .before .args in
-    search-next _ (n .before .before .loop .inv) (n .before .loop-test .taken) (rw (n .number-at2 .ensures) at (not-marked (a .table .now) (a .row) (n .number-at2 .result) (c .if1 .left)))
+    search-next _ (n .before .before .loop .inv) (n .before .loop-test .taken)
+    (rw (n .number-at2 .ensures) at (not-marked (a .table .now) (a .row) (n .number-at2 .result) (c .if1 .left)))
 
 returns-2 : tie.Need-returns-2 Inv-loop μ-loop
 returns-2 c = sym (search-done _ (c .before .loop .inv) (c .loop-test .left))

@@ -116,7 +116,8 @@ onward : (c : tie.After-first-marked Inv-loop μ-loop) →
     let l = c .before .before .before in
     let f = l .before .before .before .before .before .before .before in
     let a = f .before .before .before .before .before .before .before .args in
-    CodeSought (a .voice .now) (a .lexicon .now) (a .word .now) (c .first-marked .result .vertex) (l .loop .row + 402) (l .loop .code + c .first-marked .result .code)
+    CodeSought (a .voice .now) (a .lexicon .now) (a .word .now) (c .first-marked .result .vertex) (l .loop .row + 402)
+    (l .loop .code + c .first-marked .result .code)
 onward c =
     let l = c .before .before .before in
     let f = l .before .before .before .before .before .before .before in

@@ -77,8 +77,10 @@ decides c =
     let a = s .args in
     let k = more (b .before .before) in
     c .leads .ensures
-    ∙ marks-say (sound-images (accepted (s .pre .0 .accepted))) (s .pre .1 .0) {j = a .i + 1} {u = a .vertex} (omega arith) (omega arith) (node (b .before))
-    ∙ mark-after (a .voice .now) (graphOf (a .lexicon .now)) (a .word .now) (a .vertex) k (s .pre .1 .1 .1) (node (b .before)) (sym (b .print-byte .ensures) ∙ c .before .if4 .left)
+    ∙ marks-say (sound-images (accepted (s .pre .0 .accepted))) (s .pre .1 .0) {j = a .i + 1} {u = a .vertex} (omega arith) (omega arith)
+    (node (b .before))
+    ∙ mark-after (a .voice .now) (graphOf (a .lexicon .now)) (a .word .now) (a .vertex) k (s .pre .1 .1 .1) (node (b .before))
+    (sym (b .print-byte .ensures) ∙ c .before .if4 .left)
 
 returns-5 : tie.Need-returns-5
 unfolding markOf

@@ -22,7 +22,8 @@ all-frames-requires c κs = c .before .before .before .before .before .pre
 -- after all frames
 run : (c : tie.After-all-frames Inv-loop μ-loop) →
     let a = c .before .before .before .before .before .before .args in
-    Run (a .voice .now) (a .lexicon .now) (a .frames .now) (a .n) (a .lists .now) (a .counts .now) (a .firsts .now) (c .all-frames .last .1 .1 .1 .1 .1 .1 .1 .0)
+    Run (a .voice .now) (a .lexicon .now) (a .frames .now) (a .n) (a .lists .now) (a .counts .now) (a .firsts .now)
+    (c .all-frames .last .1 .1 .1 .1 .1 .1 .1 .0)
 run c = run-same (c .all-frames .kept .1 .1 .1 .1 .1 .1 .1 .0) (c .before .before .before .before .before .before .pre .0)
 
 loop-holds : tie.Need-loop-holds Inv-loop μ-loop

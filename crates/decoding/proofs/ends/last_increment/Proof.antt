@@ -40,7 +40,8 @@ loop-holds c = let p = c .before .before .before .before .pre in rw (c .u16-at2 
 next : (c : tie.In-loop Inv-loop μ-loop) →
     let l = c .before in
     let a = l .before .before .before .before .before .args in
-    ArcNext (a .lexicon .now) (a .node) (l .loop .at) (getD (a .lists .now) (a .node) 0 + 2 + 2 * l .before .u16-at2 .result) (l .loop .inv .counts .later)
+    ArcNext (a .lexicon .now) (a .node) (l .loop .at) (getD (a .lists .now) (a .node) 0 + 2 + 2 * l .before .u16-at2 .result)
+    (l .loop .inv .counts .later)
 next c = let p = c .before .before .before .before .before .before .pre in ahead-arc (p .0) (p .1) (c .before .loop .inv) (c .loop-test .taken)
 
 leads : (c : tie.After-u16-at3 Inv-loop μ-loop) → c .u16-at3 .result < 402
@@ -89,7 +90,8 @@ loop-again c =
     let l = n .before in
     let u = l .before .before .before .before in
     let p = u .before .before .pre in
-    rw (count c) (ahead-next (p .0) (p .1) (l .before .loop .inv) (l .loop-test .taken) (λ e. c .before .if1 .left (n .u16-at3 .ensures ∙ e ∙ sym (to-sink u))))
+    rw (count c)
+    (ahead-next (p .0) (p .1) (l .before .loop .inv) (l .loop-test .taken) (λ e. c .before .if1 .left (n .u16-at3 .ensures ∙ e ∙ sym (to-sink u))))
 
 returns-2 : tie.Need-returns-2 Inv-loop μ-loop
 returns-2 c =

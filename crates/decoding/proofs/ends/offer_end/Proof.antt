@@ -7,7 +7,8 @@ use Rattle.decoding.proofs.ends.offer_end.Statement.{statement}
 use Rattle.decoding.proofs.ends.offer_end.Tie as tie
 
 -- where the node's last state stands
-at : (c : tie.Start) → EndPlace (c .args .voice .now) (c .args .lexicon .now) (c .args .n) (c .args .firsts .now) (c .args .node) (c .args .store .now)
+at : (c : tie.Start)
+    → EndPlace (c .args .voice .now) (c .args .lexicon .now) (c .args .n) (c .args .firsts .now) (c .args .node) (c .args .store .now)
 at c = end-place (c .pre .ready) (c .pre .roomy) (c .pre .low) (c .pre .high)
 
 returns : tie.Need-returns

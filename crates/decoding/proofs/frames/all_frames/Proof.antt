@@ -1,4 +1,4 @@
--- `frames::all_frames` meets its contract: the tables of the letters in use are filled, and then the frames run. Assumes nothing.
+-- `frames::all_frames` meets its contract: the tables of the letters in use are filled, and then come the frames. Assumes nothing.
 use mathlib.Core.Path.{refl}
 use borrow.Author.Needs.{needs}
 use Rattle.graph.proofs.Accepted.{AcceptedImages, accepted}

@@ -17,7 +17,8 @@ use Rattle.decoding.proofs.Running.{frame-count, run-same, FramesDone, 
 use Rattle.decoding.proofs.frames.later_frames.Statement.{statement}
 use Rattle.decoding.proofs.frames.later_frames.Tie as tie
 
-record Going (v x frames : List ℕ) (n t : ℕ) (b₀ b : List ℕ) (link heard : ℕ) (letters : List ℕ) (used : ℕ) (loops steps entries : List ℕ) : Type 0 where
+record Going (v x frames : List ℕ) (n t : ℕ) (b₀ b : List ℕ) (link heard : ℕ) (letters : List ℕ) (used : ℕ)
+    (loops steps entries : List ℕ) : Type 0 where
   done : FramesDone v x frames n t b₀ b
   long : Long loops steps entries
   held : (k : ℕ) → k ≡ heard → k < 256 → Gained v k link letters used loops steps entries
@@ -40,7 +41,8 @@ loop-holds c =
     }
 
 -- the raised link score
-link : (c : tie.After-raise Inv-loop μ-loop) → c .raise .result ≡ raisedOf (possible (linkScore (c .before .before .before .before .before .before .args .voice .now) 0))
+link : (c : tie.After-raise Inv-loop μ-loop)
+    → c .raise .result ≡ raisedOf (possible (linkScore (c .before .before .before .before .before .before .args .voice .now) 0))
 link c =
     let l = c .before .link-score in
     c .raise .ensures ∙ ap (λ (z : ℤ). raisedOf (possible z)) (back (l .result) (l .ok) ∙ l .ensures 0)

@@ -11,7 +11,8 @@ use Rattle.decoding.proofs.gains.frame_gains.Statement.{statement}
 use Rattle.decoding.proofs.gains.frame_gains.Tie as tie
 
 abbrev Inv-loop : tie.InvT-loop
-Inv-loop voice at k link letters used begins looping stepping loops₀ steps₀ entries₀ i₀ loops steps entries i = Gained voice k link letters i loops steps entries
+Inv-loop voice at k link letters used begins looping stepping loops₀ steps₀ entries₀ i₀ loops steps entries i =
+    Gained voice k link letters i loops steps entries
 
 abbrev μ-loop : tie.MeasureT-loop
 μ-loop voice at k link letters used begins looping stepping loops₀ steps₀ entries₀ i₀ loops steps entries i = used - i
@@ -50,7 +51,8 @@ loop-again : tie.Need-loop-again Inv-loop μ-loop
 loop-again c =
     let l = c .before .before .before .before .before .before in
     let p = start l .pre in
-    gained-next (p .0 .0 .well-formed) (p .1 .0 .letters-of) (l .loop-test .taken) (l .before .loop .inv) (c .letter-gains .ensures .0) (c .letter-gains .ensures .1)
+    gained-next (p .0 .0 .well-formed) (p .1 .0 .letters-of) (l .loop-test .taken) (l .before .loop .inv) (c .letter-gains .ensures .0)
+    (c .letter-gains .ensures .1)
 
 returns : tie.Need-returns Inv-loop μ-loop
 returns c = gained-done (c .loop-test .left) (c .before .loop .inv)

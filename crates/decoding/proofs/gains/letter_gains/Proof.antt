@@ -1,4 +1,4 @@
--- `gains::letter_gains` meets its contract: before each later state the entries of those before it are filled, and the place is that of the
+-- `gains::letter_gains` meets its contract: before each later state the entries of those before it are filled, and the offset is that of the
 -- emission of the state before it. The measure is the states left. Assumes nothing.
 use Prim.Native.Nat.{ℕ, suc, _+_, _-_, _*_, _≤_, _<_}
 use mathlib.Core.Path.{_≡_, refl, sym, ap, _∙_}
@@ -13,26 +13,26 @@ use Rattle.voice.proofs.Scores.{symbols-there, symbols-few}
 use Rattle.decoder.specs.Score.{possible}
 use Rattle.decoding.specs.Gains.{raisedOf, raisedGain, loopGain, stepGain, linkGain}
 use Rattle.decoding.proofs.Gaining.{letter-small, letter-few, letter-byte, letter-there}
-use Rattle.decoding.proofs.Filling.{Filling, fill-done, loop-below, step-below, first-gained, next-gained, heard-is, heard-inside, heard-below, place-next}
+use Rattle.decoding.proofs.Filling.{Filling, fill-done, loop-below, step-below, first-gained, next-gained, heard-is, heard-inside, heard-below, emission-next}
 use Rattle.decoding.proofs.gains.letter_gains.Statement.{statement}
 use Rattle.decoding.proofs.gains.letter_gains.Tie as tie
 
-record StatesDone (v : List ℕ) (k l first place s : ℕ) (loops₀ steps₀ loops steps : List ℕ) : Type 0 where
+record StatesDone (v : List ℕ) (k l first offset s : ℕ) (loops₀ steps₀ loops steps : List ℕ) : Type 0 where
   last : ℕ
   is : s ≡ suc last
-  here : place ≡ symbolsAt v + 1 + 2 * ((first + last) * symbolCount v + k)
+  here : offset ≡ symbolsAt v + 1 + 2 * ((first + last) * symbolCount v + k)
   -- where the first state is filled, so are these
   filled : (loops₁ steps₁ : List ℕ) → Filling v (loopGain v k) (stepGain v k) l 1 loops₁ steps₁ loops₀ steps₀
       → Filling v (loopGain v k) (stepGain v k) l s loops₁ steps₁ loops steps
 
 abbrev Inv-loop : tie.InvT-loop
-Inv-loop voice at k link letter first looping stepping loops₀ steps₀ entries symbols states place₀ s₀ loops steps place s =
-    StatesDone voice k letter first place s loops₀ steps₀ loops steps
+Inv-loop voice at k link letter first looping stepping loops₀ steps₀ entries symbols states offset₀ s₀ loops steps offset s =
+    StatesDone voice k letter first offset s loops₀ steps₀ loops steps
 
 abbrev μ-loop : tie.MeasureT-loop
-μ-loop voice at k link letter first looping stepping loops₀ steps₀ entries symbols states place₀ s₀ loops steps place s = states - s
+μ-loop voice at k link letter first looping stepping loops₀ steps₀ entries symbols states offset₀ s₀ loops steps offset s = states - s
 
--- the place of the first emission
+-- where the first emission stands
 begins : (c : tie.Start Inv-loop μ-loop) →
     let a = c .args in
     a .at + 1 + 2 * (a .first * getD (a .voice .now) (a .at) 0 + a .k) ≡ symbolsAt (a .voice .now) + 1 + 2 * ((a .first + 0) * symbolCount (a .voice .now) + a .k)
@@ -84,21 +84,22 @@ state c = c .loop-test .taken
 small : (c : tie.In-loop Inv-loop μ-loop) → c .before .loop .s < 4
 small c = omega (arith, state c, letter-few (start c .pre .1 .0))
 
--- the place of its emission
+-- where its emission stands
 next : (c : tie.In-loop Inv-loop μ-loop) →
     let a = start c .args in
-    c .before .loop .place + 2 * getD (a .voice .now) (a .at) 0 ≡ symbolsAt (a .voice .now) + 1 + 2 * ((a .first + c .before .loop .s) * symbolCount (a .voice .now) + a .k)
+    c .before .loop .offset + 2 * getD (a .voice .now) (a .at) 0 ≡ symbolsAt (a .voice .now) + 1 + 2 * ((a .first + c .before .loop .s) * symbolCount (a .voice .now) + a .k)
 unfolding symbolCount
 next c =
     let i = c .before .loop .inv in
     let a = start c .args in
     let v = a .voice .now in
     let K = symbolCount v in
-    ap (λ at. c .before .loop .place + 2 * getD v at 0) (start c .pre .0 .1)
-    ∙ place-next v (a .k) (a .first) (i .last) (i .here)
+    ap (λ at. c .before .loop .offset + 2 * getD v at 0) (start c .pre .0 .1)
+    ∙ emission-next v (a .k) (a .first) (i .last) (i .here)
     ∙ ap (λ s. symbolsAt v + 1 + 2 * ((a .first + s) * K + a .k)) (sym (i .is))
 
-next-inside : (c : tie.In-loop Inv-loop μ-loop) → let a = start c .args in c .before .loop .place + 2 * getD (a .voice .now) (a .at) 0 + 2 ≤ length (a .voice .now)
+next-inside : (c : tie.In-loop Inv-loop μ-loop) →
+    let a = start c .args in c .before .loop .offset + 2 * getD (a .voice .now) (a .at) 0 + 2 ≤ length (a .voice .now)
 next-inside c = heard-inside (start c .pre .0 .0) (start c .pre .1 .0) (state c) (next c)
 
 state-gains-requires : tie.Need-state-gains-requires Inv-loop μ-loop
@@ -136,7 +137,8 @@ returns c =
     let b = s .pre .1 .0 in
     let t = s .pre .1 .1 .1 in
     let g = first-gained (s .pre .1 .1 .0) (a .k) b (t .long-loops) (t .long-steps) (heard r) (f .first-gains .ensures .0) in
-    let e : r .raised-at .result ≡ raisedOf (possible (emission (a .voice .now) (firstState (a .voice .now) (a .letter) + 0) (a .k))) = rw (b .begins) at (heard r) in (
+    let e : r .raised-at .result ≡ raisedOf (possible (emission (a .voice .now) (firstState (a .voice .now) (a .letter) + 0) (a .k))) =
+    rw (b .begins) at (heard r) in (
       fill-done (b .well-formed) (c .loop-test .left) (c .before .loop .inv .filled _ _ g),
       f .first-gains .ensures .1 ∙ ap (λ h. set (a .entries .now) (a .letter) (raisedGain (a .link) h)) e,
     )

@@ -26,7 +26,8 @@ score c =
     let s = c .before .before .before in
     c .i32-bytes .ensures ∙ ap i32Bytes (difference-is (s .args .token / 4294967296) (small s))
 
-code : (c : tie.After-u32-bytes) → c .u32-bytes .result ≡ u32Bytes (hitOf (c .before .before .before .before .before .before .before .before .args .token) .code)
+code : (c : tie.After-u32-bytes)
+    → c .u32-bytes .result ≡ u32Bytes (hitOf (c .before .before .before .before .before .before .before .before .args .token) .code)
 unfolding hitOf
 code c = c .u32-bytes .ensures
 

@@ -27,7 +27,8 @@ judged : (c : tie.After-has-bad-symbol) →
 unfolding symbolCount
 judged c =
     let a = c .before .before .before .before .before .before .before .before .args in
-    c .has-bad-symbol .ensures ∙ ap (λ (at : ℕ). any (λ k. leb (getD (a .voice .now) at 0) k) (a .frames .now)) (c .before .before .symbols-at .ensures)
+    c .has-bad-symbol .ensures
+    ∙ ap (λ (at : ℕ). any (λ k. leb (getD (a .voice .now) at 0) k) (a .frames .now)) (c .before .before .symbols-at .ensures)
 
 -- the rows that were passed
 

@@ -19,7 +19,8 @@ unfolding linksAt statesAt
 offset c = omega (arith, symbols-at _ (c .pre .0), symbols-there _ (c .pre .0), c .pre .1)
 
 -- the pair of each state that the letter has is inside the model
-inside : (c : tie.Start) (j : ℕ) → j < c .args .states → 3 + 2 * getD (c .args .voice .now) 0 0 + 4 * c .args .first + 4 * j + 4 ≤ length (c .args .voice .now)
+inside : (c : tie.Start) (j : ℕ) → j < c .args .states
+    → 3 + 2 * getD (c .args .voice .now) 0 0 + 4 * c .args .first + 4 * j + 4 ≤ length (c .args .voice .now)
 unfolding statesAt
 inside c j h = omega (arith, pair-there _ (c .pre .0) {s = c .args .first + j} (omega (arith, c .pre .1)))
 

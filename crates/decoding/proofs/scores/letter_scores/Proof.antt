@@ -25,7 +25,8 @@ loop-holds : tie.Need-loop-holds Inv-loop μ-loop
 loop-holds c = let p = c .before .before .before .pre .1 in fill-start (p .0) (p .1)
 
 -- the state whose turn it is
-state : (c : tie.In-loop Inv-loop μ-loop) → let s = c .before .before .before .before .before in c .before .loop .s < states (s .args .voice .now) (s .args .letter)
+state : (c : tie.In-loop Inv-loop μ-loop) →
+    let s = c .before .before .before .before .before in c .before .loop .s < states (s .args .voice .now) (s .args .letter)
 unfolding states
 state c = c .loop-test .taken
 

@@ -11,7 +11,8 @@ use Rattle.decoding.proofs.scores.raised_scores.Statement.{statement}
 use Rattle.decoding.proofs.scores.raised_scores.Tie as tie
 
 abbrev Inv-loop : tie.InvT-loop
-Inv-loop voice letters used begins looping₀ stepping₀ i₀ looping stepping i = Entries voice (loopRaised voice) (stepRaised voice) letters i looping stepping
+Inv-loop voice letters used begins looping₀ stepping₀ i₀ looping stepping i =
+    Entries voice (loopRaised voice) (stepRaised voice) letters i looping stepping
 
 abbrev μ-loop : tie.MeasureT-loop
 μ-loop voice letters used begins looping₀ stepping₀ i₀ looping stepping i = used - i

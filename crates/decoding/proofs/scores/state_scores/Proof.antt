@@ -15,7 +15,8 @@ returns c =
       ap (set (a .looping .now) (a .entry)) (c .before .before .move-score .ensures),
       (
         λ e. absurd (omega arith),
-        λ s e. let f : a .state - 1 ≡ s = omega arith in ap (set (a .stepping .now) (a .entry)) (c .move-score2 .ensures ∙ ap (λ n. pairScore (a .pairs) n 1) f),
+        λ s e. let f : a .state - 1 ≡ s =
+            omega arith in ap (set (a .stepping .now) (a .entry)) (c .move-score2 .ensures ∙ ap (λ n. pairScore (a .pairs) n 1) f),
       ),
     )
 

@@ -1,4 +1,4 @@
--- `turns::pass_node` meets its contract: its last tokens are passed on, and its states renewed. Assumes nothing.
+-- `turns::pass_node` meets its contract: the node's last tokens are passed on, and then its states are renewed. Assumes nothing.
 use borrow.Author.Needs.{needs}
 use Rattle.decoding.proofs.Turning.{node-there, node-few, letter-small, letter-there, count-range, slot-few, renewing, handing, turn-done}
 use Rattle.decoding.proofs.turns.pass_node.Statement.{statement}

@@ -38,7 +38,8 @@ abbrev at-list : tie.After-number-at Inv-loop μ-loop → tie.Start Inv-loop μ-
 at-list c = begin (c .before .before .before)
 
 -- where the list ends
-small : (c : tie.After-number-at Inv-loop μ-loop) → getD (at-list c .args .lists .now) (at-list c .args .vertex) 0 + 2 + 2 * c .number-at .result ≤ 9204
+small : (c : tie.After-number-at Inv-loop μ-loop)
+    → getD (at-list c .args .lists .now) (at-list c .args .vertex) 0 + 2 + 2 * c .number-at .result ≤ 9204
 small c = rw (c .number-at .ensures) (list-of (at-list c .pre .0) .small)
 
 abbrev start : tie.At-loop Inv-loop μ-loop → tie.Start Inv-loop μ-loop

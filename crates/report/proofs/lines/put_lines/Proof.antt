@@ -32,7 +32,9 @@ loop-again c =
     let t = q .before .before .before .before .before in
     let s = t .before .before .before .before .before .before .before in
     let h = t .loop-test .taken in
-    lines-next (s .pre .0) (s .pre .1 .0) (omega (arith, s .pre .1 .1)) (t .before .loop .inv) (omega arith) (i32-again _ _ _ (q .before .before .before .before .score-at .ensures)) (q .before .before .before .code-at .ensures) (q .put-hit .kept .1 .1 .1 .1 .1 .0) (q .put-hit .kept .1 .1 .1 .1 .1 .1 .0) (q .put-hit .ensures)
+    lines-next (s .pre .0) (s .pre .1 .0) (omega (arith, s .pre .1 .1)) (t .before .loop .inv) (omega arith)
+    (i32-again _ _ _ (q .before .before .before .before .score-at .ensures)) (q .before .before .before .code-at .ensures)
+    (q .put-hit .kept .1 .1 .1 .1 .1 .0) (q .put-hit .kept .1 .1 .1 .1 .1 .1 .0) (q .put-hit .ensures)
 
 returns : tie.Need-returns Inv-loop μ-loop
 returns c =

@@ -14,21 +14,26 @@ use Rattle.report.proofs.text.put_hit_line.Tie as tie
 
 -- the score and the mean are put
 score : (c : tie.After-put-spaced) → let p = c .before .before .before .before in
-    Put (32 ∷ signedDecimal (p .before .before .before .before .args .score)) (p .put-decimal .result) (p .put-decimal .last .1 .0) (c .put-spaced .last .1 .0) (c .put-spaced .result)
+    Put (32 ∷ signedDecimal (p .before .before .before .before .args .score)) (p .put-decimal .result) (p .put-decimal .last .1 .0)
+    (c .put-spaced .last .1 .0) (c .put-spaced .result)
 score c = rw (toZ-ofZ (c .before .before .before .before .before .before .before .before .fits .score)) at (c .put-spaced .ensures)
 
 mean : (c : tie.After-put-spaced2) → let p = c .before .before .before .before in
-    Put (32 ∷ signedDecimal (p .before .before .before .before .before .before .before .before .args .mean)) (p .put-spaced .result) (p .put-spaced .last .1 .0) (c .put-spaced2 .last .1 .0) (c .put-spaced2 .result)
+    Put (32 ∷ signedDecimal (p .before .before .before .before .before .before .before .before .args .mean)) (p .put-spaced .result)
+    (p .put-spaced .last .1 .0) (c .put-spaced2 .last .1 .0) (c .put-spaced2 .result)
 mean c = rw (toZ-ofZ (c .before .before .before .before .before .before .before .before .before .before .before .before .fits .mean)) at (c .put-spaced2 .ensures)
 
 -- what is left of the room after each part
-room : (c : tie.After-put-decimal) → c .put-decimal .result + 26 + length (c .before .before .before .before .args .word .now) ≤ length (c .put-decimal .last .1 .0)
+room : (c : tie.After-put-decimal)
+    → c .put-decimal .result + 26 + length (c .before .before .before .before .args .word .now) ≤ length (c .put-decimal .last .1 .0)
 room c =
     let s = c .before .before .before .before in
     let p = c .put-decimal in
     omega (arith, s .pre, p .ensures .ends, p .kept .1 .0, decimal-short (s .args .code) (s .fits .code .fits))
 
-room-2 : (c : tie.After-put-spaced) → c .put-spaced .result + 14 + length (c .before .before .before .before .before .before .before .before .args .word .now) ≤ length (c .put-spaced .last .1 .0)
+room-2 : (c : tie.After-put-spaced)
+    → c .put-spaced .result + 14 + length (c .before .before .before .before .before .before .before .before .args .word .now)
+    ≤ length (c .put-spaced .last .1 .0)
 room-2 c =
     let d = c .before .before .before .before in
     let s = d .before .before .before .before in
