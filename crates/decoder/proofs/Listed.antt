@@ -1,14 +1,14 @@
 -- Decoding lists the beginning of the row. `row` is the row: an accepted lexicon's word has one row of letters and one code, so its permitted
 -- state paths are those of its full path, and its true score is that of the path. What is read back is the first n of it, since every hit
 -- fits its eight bytes. Assumes nothing.
-use Prim.Native.Nat.{ℕ, _*_, _≤_}
+use Prim.Native.Nat.{ℕ, _*_, _≤_, _<_}
 use mathlib.Core.Path.{_≡_, refl, sym, ap, _∙_}
 use mathlib.Core.Logic.{_↔_}
 use mathlib.Core.List.{List, [], _∷_, _++_, List·Memᴰ}
 use mathlib.Core.Option.{none, some}
 use native.Mathlib.Omega.{arith}
 use borrow.Author.Tests.{ltb-false, not-false}
-use lib.IntN.{ℤ}
+use lib.IntN.{ℤ, natAbs}
 use lib.ListN.{length, take, drop}
 use lib.Dec.{leb, ltb}
 use Rattle.endian.specs.Lists.{any}
@@ -32,7 +32,7 @@ use Rattle.graph.proofs.Accepted.{accepted, letters-known}
 use Rattle.graph.proofs.Theorems.{path-theorems}
 use Rattle.ranking.specs.Hits.{Hit, hit, hitBytes}
 use Rattle.ranking.proofs.Hits.{Storable, hits-written}
-use Rattle.decoder.specs.StatePaths.{Attains}
+use Rattle.decoder.specs.StatePaths.{Attains, scoreLimit}
 use Rattle.decoder.specs.Decoding.{pathScore, row, hits, frameRows, decodeRows, decodeAnswer, decodeOut}
 use Rattle.decoder.specs.Demand.{Scores, HasNoPath, IsTrueScore, Names, IsRow, decodedList, DecodingListsTheRow}
 use Rattle.decoder.proofs.Limits.{attained-within, within-i32}
@@ -116,27 +116,31 @@ module _ (v x frames : List ℕ) (ok : Accepted v x) where
         is-score = is-path-score w (h .score) .1 t;
       })
 
-  -- ---- every hit fits its bytes
+  -- ---- every hit lies within the limits, so it fits its bytes
+
+  pub within-limits : length frames ≤ 1000 → (h : Hit) → List·Memᴰ h (row v (graphOf x) frames)
+      → (natAbs (h .score) ≤ scoreLimit) × (h .code < 1048576)
+  unfolding manyWords
+  within-limits short h m =
+      let e = is-row .each h m in
+      (attained-within short (e .3 .attained .attained), omega (arith, e .1 .below, ltb-false 1048576 (wordCount (graphOf x)) (accepted ok .few-words)))
 
   storable : length frames ≤ 1000 → (h : Hit) → List·Memᴰ h (row v (graphOf x) frames) → Storable h
-  unfolding manyWords
   storable short h m =
-      let e = is-row .each h m in
-      record {
-        score = within-i32 (h .score) (attained-within short (e .3 .attained .attained));
-        code = omega (arith, e .1 .below, ltb-false 1048576 (wordCount (graphOf x)) (accepted ok .few-words));
-      }
+      let l = within-limits short h m in
+      record { score = within-i32 (h .score) (l .0); code = omega (arith, l .1) }
 
 -- ---- what is read back
 
-pub record Answered (v x frames : List ℕ) (n k : ℕ) : Type 0 where
+pub record Answered (v x frames out : List ℕ) (n k : ℕ) : Type 0 where
   pub images : Accepted v x
   pub short : length frames ≤ 1000
   pub some-wanted : 1 ≤ n
   pub few-wanted : n ≤ 8
+  pub room : 8 * n ≤ length out
   pub counted : length (hits v (graphOf x) frames n) ≡ k
 
-pub answered : (v x frames work out : List ℕ) (n k : ℕ) → decodeAnswer v x frames n work out ≡ value k → Answered v x frames n k
+pub answered : (v x frames work out : List ℕ) (n k : ℕ) → decodeAnswer v x frames n work out ≡ value k → Answered v x frames out n k
 unfolding decodeAnswer decodeRows firstRows frameRows badFrameCount badCount
 answered v x frames work out n k e =
     let own = on Count (badCount n) ∷ on Output (ltb (length out) (8 * n)) ∷ [] in
@@ -144,12 +148,14 @@ answered v x frames work out n k e =
     let p = none-parts (firstRows v x work ++ frameRows v frames) own (u .0) in
     let q = none-parts (firstRows v x work) (frameRows v frames) (p .0) in
     let long = or-none (badFrameCount (length frames)) (any (λ s. leb (symbolCount v) s) frames) (none-says (frameRows v frames) (q .1) .0) .0 in
-    let wanted = bounds 1 8 n (not-false _ (none-says own (p .1) .0)) in
+    let s = none-says own (p .1) in
+    let wanted = bounds 1 8 n (not-false _ (s .0)) in
     record {
       images = none-parts (spaceRows work) (imageRows v x) (q .0) .1;
       short = bounds 1 1000 (length frames) (not-false _ long) .1;
       some-wanted = wanted .0;
       few-wanted = wanted .1;
+      room = ltb-false (length out) (8 * n) (s .1 .0);
       counted = u .1;
     }
 

@@ -1,141 +1,72 @@
--- The call: it answers as checking does where that refuses, and else by its own rows; then the list is written. Assumes nothing.
-use Prim.Native.Nat.{ℕ, zero, suc, _*_, _≤_}
-use mathlib.Core.Path.{_≡_, refl, sym, ap, _∙_}
-use mathlib.Core.Bool.{true}
-use mathlib.Core.List.{List, [], _∷_, _++_, append-assoc, List·Memᴰ}
+-- The call: it refuses as the search does, and else it writes what the search found, which fits and is the list of hits. Assumes nothing.
+use Prim.Native.Nat.{ℕ, _*_, _≤_}
+use mathlib.Core.Path.{_≡_, ap, _∙_}
+use mathlib.Core.List.{List, _++_, List·Memᴰ}
 use native.Mathlib.Omega.{arith}
-use native.Mathlib.Nat.{mul-le-mul}
-use lib.Dec.{ltb}
-use lib.ListN.{length, take, drop, replicate, length-take, take-append-drop}
-use lib.Seq.{drop-at, take-at}
-use borrow.Author.Tests.{ltb-false, not-false}
-use Rattle.endian.proofs.Ranges.{bounds}
+use lib.ListN.{length, drop, length-take}
+use Rattle.endian.proofs.Lists.{take-out}
 use Rattle.call.specs.declared.Refusal.{Refusal}
-use Rattle.call.specs.declared.Refusal.the-variants.{Count, Output}
-use Rattle.call.specs.Table.{value, refused, on, noneApplies, unless}
-use Rattle.call.specs.Limits.{badCount}
-use Rattle.call.specs.Buffers.{zeroed, cleared, written}
-use Rattle.call.proofs.Table.{none-parts, none-says, unless-past, unless-value, value-passed, refused-before, refused-with}
-use Rattle.call.proofs.Buffers.{cleared-long, written-refused}
-use Rattle.lexicon.specs.Lexicon.{sinkOf}
-use Rattle.graph.specs.Graph.{graphOf, wordCount}
-use Rattle.graph.specs.Conditions.{placeCount}
-use Rattle.graph.specs.Checking.{firstRows, checkAnswer}
-use Rattle.graph.proofs.Accepted.{Passed, accepted, places-limit}
-use Rattle.checking.specs.Tables.{TableOf, Opened, filled}
+use Rattle.call.specs.Table.{value, refused}
+use Rattle.call.specs.Buffers.{written}
+use Rattle.call.proofs.Table.{unless-value, value-passed, refused-with}
+use Rattle.call.proofs.Buffers.{written-refused}
+use Rattle.graph.specs.Graph.{graphOf}
 use Rattle.ranking.specs.Hits.{Hit, hitBytes}
-use Rattle.decoder.specs.Decoding.{AcceptedFrames, frameRows, row, hits, decodeRows, decodeAnswer, decodeOut}
-use Rattle.decoding.specs.Held.{held, Storable}
+use Rattle.decoder.specs.StatePaths.{scoreLimit}
+use Rattle.decoder.specs.Decoding.{row, hits, decodeRows, decodeAnswer, decodeOut}
+use Rattle.decoder.proofs.Listed.{Answered, answered, within-limits}
+use Rattle.search.specs.Held.{held, Storable}
+use Rattle.search.specs.Found.{searchAnswer, found, searchTokens}
+use Rattle.search.proofs.Held.{length-held}
 use Rattle.decoding.specs.Listing.{hitsOf, Listable}
-use Rattle.decoding.specs.Calling.{callRows}
-use Rattle.decoding.specs.Places.{firstSlot}
-use Rattle.decoding.specs.Running.{Empty, Run}
-use Rattle.decoding.proofs.Held.{length-held}
 use Rattle.decoding.proofs.Listing.{hits-held, held-small}
-use Rattle.decoding.proofs.Whole.{zeros-empty}
 
--- ---- the work space
+module _ (v x frames work out : List ℕ) (n : ℕ) where
+  -- ---- a refusal
 
--- the first m of a cleared work space are zero
-take-zeros : (m n : ℕ) (l : List ℕ) → m ≤ n → take m (replicate n 0 ++ l) ≡ replicate m 0
-take-zeros zero n l h = refl
-take-zeros (suc m) zero l h = absurd (omega arith)
-take-zeros (suc m) (suc n) l h = ap (λ (z : List ℕ). 0 ∷ z) (take-zeros m n l (omega arith))
+  pub decode-refused : {r : Refusal} → searchAnswer v x frames n work out ≡ refused r → decodeAnswer v x frames n work out ≡ refused r
+  unfolding searchAnswer decodeAnswer
+  decode-refused e = refused-with {A = ℕ} (decodeRows v x frames n work out) 0 _ e
 
-front-zeros : (m n : ℕ) (w : List ℕ) → m ≤ n → take m (zeroed n w) ≡ replicate m 0
-unfolding zeroed
-front-zeros m n w h = take-zeros m n (drop n w) h
+  pub out-refused : {r : Refusal} → decodeAnswer v x frames n work out ≡ refused r → decodeOut v x frames n work out ≡ out
+  unfolding decodeOut
+  out-refused e = written-refused _ out e
 
--- the part that is lent is empty
-pub part-empty : (m : ℕ) (b w : List ℕ) → b ≡ cleared w → m ≤ 64000 → 64000 ≤ length w → Empty (take m b)
-part-empty m b w e k h j = rw (e, cleared-long w h, front-zeros m 64000 w k) (zeros-empty m j)
+  -- ---- a list
 
--- zero again, it leaves the work space cleared
-pub part-zeroed : (m : ℕ) (b w ys zs : List ℕ) → b ≡ cleared w → m ≤ 64000 → 64000 ≤ length w → length ys ≡ m
-    → zs ≡ replicate (length (take m (ys ++ drop m b))) 0 → zs ++ drop m (ys ++ drop m b) ≡ cleared w
-part-zeroed m b w ys zs e k h long z =
-    let front : take m b ≡ replicate m 0 = rw (e, cleared-long w h) (front-zeros m 64000 w k) in
-    let zeros : zs ≡ take m b =
-    z ∙ ap (λ l. replicate {A = ℕ} (length l) 0) (take-at ys (drop m b) m long) ∙ ap (λ (i : ℕ). replicate {A = ℕ} i 0) long ∙ sym front in
-    ap (λ l. zs ++ l) (drop-at ys (drop m b) m long) ∙ ap (λ l. l ++ drop m b) zeros ∙ take-append-drop m b ∙ e
+  few-hits : length (hits v (graphOf x) frames n) ≤ n
+  unfolding hits
+  few-hits = omega (arith, length-take n (row v (graphOf x) frames))
 
--- ---- after checking
+  module _ {k : ℕ} (e : searchAnswer v x frames n work out ≡ value k) where
+    pub call-answer : decodeAnswer v x frames n work out ≡ value (length (hits v (graphOf x) frames n))
+    unfolding searchAnswer decodeAnswer
+    call-answer = unless-value (decodeRows v x frames n work out) _ (value-passed {A = ℕ} (decodeRows v x frames n work out) 0 k e .0)
 
-module _ (v x work : List ℕ) where
-  module _ (frames : List ℕ) (n : ℕ) (out : List ℕ) where
-    rows-so : decodeRows v x frames n work out ≡ firstRows v x work ++ callRows v frames n out
-    unfolding decodeRows callRows
-    rows-so = append-assoc (firstRows v x work) (frameRows v frames) _
-
-    pub decode-refused : {r : Refusal} → checkAnswer v x work ≡ refused r → decodeAnswer v x frames n work out ≡ refused r
-    unfolding checkAnswer decodeAnswer
-    decode-refused e = rw rows-so (refused-before (firstRows v x work) (callRows v frames n out) (wordCount (graphOf x)) _ e)
-
-    pub out-refused : {r : Refusal} → decodeAnswer v x frames n work out ≡ refused r → decodeOut v x frames n work out ≡ out
-    unfolding decodeOut
-    out-refused e = written-refused _ out e
-
-    pub call-refused : {W : ℕ} {r : Refusal} → Passed v x work W → unless {A = ℕ} (callRows v frames n out) 0 ≡ refused r
-        → decodeAnswer v x frames n work out ≡ refused r
-    unfolding decodeAnswer
-    call-refused p e =
-        rw rows-so (unless-past (firstRows v x work) (callRows v frames n out) _ (p .rows) ∙ refused-with {A = ℕ} (callRows v frames n out) 0 _ e)
-
-    -- no row applies
-    pub record Clear : Type 0 where
-      pub none : noneApplies (callRows v frames n out) ≡ true
-      pub heard : AcceptedFrames v frames
-      pub some : 1 ≤ n
-      pub few : n ≤ 8
-      pub room : 8 * n ≤ length out
-
-    pub call-clear : {k : ℕ} → unless {A = ℕ} (callRows v frames n out) 0 ≡ value k → Clear
-    unfolding callRows badCount
-    call-clear {k} e =
-        let p = value-passed {A = ℕ} (callRows v frames n out) 0 k e .0 in
-        let q = none-parts (frameRows v frames) (on Count (badCount n) ∷ on Output (ltb (length out) (8 * n)) ∷ []) p in
-        let s = none-says (on Count (badCount n) ∷ on Output (ltb (length out) (8 * n)) ∷ []) (q .1) in
-        let b = bounds 1 8 n (not-false _ (s .0)) in
-        record { none = p; heard = q .0; some = b .0; few = b .1; room = ltb-false (length out) (8 * n) (s .1 .0) }
-
-    pub call-answer : {W : ℕ} → Passed v x work W → Clear → decodeAnswer v x frames n work out ≡ value (length (hits v (graphOf x) frames n))
-    unfolding decodeAnswer
-    call-answer p c =
-        rw rows-so (unless-past (firstRows v x work) (callRows v frames n out) _ (p .rows) ∙ unless-value (callRows v frames n out) _ (c .none))
-
-    pub call-out : {W : ℕ} → Passed v x work W → Clear
-        → hitBytes (hits v (graphOf x) frames n) ++ drop (length (hitBytes (hits v (graphOf x) frames n))) out ≡ decodeOut v x frames n work out
+    pub call-out : hitBytes (hits v (graphOf x) frames n) ++ drop (length (hitBytes (hits v (graphOf x) frames n))) out ≡ decodeOut v x frames n work out
     unfolding decodeOut written
-    call-out p c = rw (call-answer p c)
+    call-out = rw call-answer
 
-    -- a store of n tokens a place
-    pub call-run : {W : ℕ} {lists counts firsts b : List ℕ} → Passed v x work W → Clear → Opened (value W) x lists counts
-        → TableOf (sinkOf x) (firstSlot v (graphOf x) n) firsts → length b ≡ 8 * (n * placeCount v (graphOf x))
-        → Run v x frames n lists counts firsts b
-    unfolding filled
-    call-run p c o t l = record {
-      ready = record { accepted = p .images; lists-of = o .listed; counts-of = o .counted; firsts-of = t };
-      roomy = record { some = c .some; few = c .few; room = omega (arith, l) };
-      heard = c .heard;
-    }
+    abbrev call : Answered v x frames out n (length (hits v (graphOf x) frames n))
+    call = answered v x frames work out n _ call-answer
 
-    pub store-few : {W : ℕ} → Passed v x work W → Clear → 8 * (n * placeCount v (graphOf x)) ≤ 64000
-    store-few p c =
-        let room : n * placeCount v (graphOf x) ≤ 8 * 1000 = mul-le-mul {n₂ = 8} {m₂ = 1000} (c .few) (places-limit (accepted (p .images))) in
-        omega (arith, room)
+    storable : (h : Hit) → List·Memᴰ h (hits v (graphOf x) frames n) → Storable h
+    unfolding hits scoreLimit
+    storable h m =
+        let l = within-limits v x frames (call .images) (call .short) h (take-out n (row v (graphOf x) frames) m) in
+        record { score = omega (arith, l .0); code = omega (arith, l .1) }
 
-    few-hits : length (hits v (graphOf x) frames n) ≤ n
-    unfolding hits
-    few-hits = omega (arith, length-take n (row v (graphOf x) frames))
+    module _ {tokens : List ℕ} (f : tokens ≡ searchTokens v x frames n work out) where
+      held-so : tokens ≡ held 8 (hits v (graphOf x) frames n)
+      unfolding searchTokens found
+      held-so = f ∙ ap (λ a. found a (hits v (graphOf x) frames n)) e
 
-    module _ (c : Clear) {tokens : List ℕ} (e : tokens ≡ held 8 (hits v (graphOf x) frames n))
-        (s : (h : Hit) → List·Memᴰ h (hits v (graphOf x) frames n) → Storable h) where
       pub says-hits : hitsOf tokens ≡ hits v (graphOf x) frames n
-      says-hits = rw e (hits-held 8 (hits v (graphOf x) frames n) (omega (arith, few-hits, c .few)) s)
+      says-hits = rw held-so (hits-held 8 (hits v (graphOf x) frames n) (omega (arith, few-hits, call .few-wanted)) storable)
 
       pub listable : Listable tokens out
       listable = record {
-        eight = rw e (length-held 8 (hits v (graphOf x) frames n));
-        small = λ y i. held-small 8 (hits v (graphOf x) frames n) s y (rw e at i);
-        room = rw says-hits (omega (arith, few-hits, c .room));
+        eight = rw held-so (length-held 8 (hits v (graphOf x) frames n));
+        small = λ y i. held-small 8 (hits v (graphOf x) frames n) storable y (rw held-so at i);
+        room = rw says-hits (omega (arith, few-hits, call .room));
       }

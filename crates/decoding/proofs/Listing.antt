@@ -21,7 +21,7 @@ use Rattle.endian.proofs.Lists.{mem-getD, flatMap-append}
 use Rattle.endian.proofs.Signed.{toZ-low}
 use Rattle.ranking.specs.Hits.{Hit, hit, hitBytes}
 use Rattle.ranking.proofs.Hits.{length-hitBytes}
-use Rattle.decoding.specs.Held.{raised, biased, tokenOf, pad, held, Storable}
+use Rattle.search.specs.Held.{raised, biased, tokenOf, pad, held, Storable}
 use Rattle.decoding.specs.Listing.{hitOf, hitsOf, Listable}
 
 -- ---- bytes
@@ -205,15 +205,3 @@ held-small (suc n) [] s x (here e) = rw e (omega arith)
 held-small (suc n) [] s x (there m) = held-small n [] s x m
 held-small (suc n) (h ∷ l) s x (here e) = rw e (token-small h (s h (here refl)))
 held-small (suc n) (h ∷ l) s x (there m) = held-small n l (λ g i. s g (there i)) x m
-
--- n slots, and no token after them
-pub held-longer : (n k : ℕ) (l : List Hit) → length l ≤ n → held (n + k) l ≡ held n l ++ replicate k 0
-unfolding pad
-held-longer zero k [] h = let e : 0 + k ≡ k = omega arith in rw e (blank k)
-  where
-    blank : (k : ℕ) → pad k [] ≡ replicate k 0
-    blank zero = refl
-    blank (suc k) = ap (λ l. 0 ∷ l) (blank k)
-held-longer zero k (a ∷ l) h = absurd (omega arith)
-held-longer (suc n) k [] h = let e : suc n + k ≡ suc (n + k) = omega arith in rw e (ap (λ l. 0 ∷ l) (held-longer n k [] (omega arith)))
-held-longer (suc n) k (a ∷ l) h = let e : suc n + k ≡ suc (n + k) = omega arith in rw e (ap (λ m. tokenOf a ∷ m) (held-longer n k l (omega arith)))

@@ -1,9 +1,1 @@
-pub mod Slots
-pub mod Held
-pub mod Places
-pub mod Gains
 pub mod Listing
-pub mod Calling
-pub mod Stored
-pub mod Carrying
-pub mod Running

@@ -1,4 +1,3 @@
-pub mod Open
 pub mod Order
 pub mod Insertion
 pub mod Covering

@@ -1,243 +1,63 @@
--- `decode` meets its contract: it answers as checking does where that refuses, then by its own rows, and else writes the list. Assumes nothing.
-use Prim.Native.Nat.{ℕ, _-_, _*_, _≤_}
-use mathlib.Core.Path.{_≡_, refl, sym, ap, _∙_}
+-- `decode` meets its contract: it refuses as the search does, and else writes the list that the search found. Assumes nothing.
+use mathlib.Core.Path.{_≡_, sym, ap, _∙_}
 use mathlib.Core.List.{List, _++_}
-use native.Mathlib.Omega.{arith}
 use borrow.Author.Needs.{needs}
 use lib.ListN.{length, drop}
-use lib.Seq.{length-take-le}
 use Rattle.call.specs.Table.{answerOf, value}
-use Rattle.call.specs.Buffers.{cleared}
-use Rattle.call.proofs.Buffers.{cleared-length}
-use Rattle.graph.specs.Graph.{graphOf}
-use Rattle.graph.specs.Conditions.{placeCount}
-use Rattle.graph.proofs.Accepted.{accepted, Passed, passed}
 use Rattle.ranking.specs.Hits.{Hit, hitBytes}
 use Rattle.decoder.proofs.Demanded.{left-meets}
-use Rattle.decoding.proofs.Calling.{decode-refused, out-refused, call-refused, Clear, call-clear, call-answer, call-out, call-run, store-few, says-hits, listable, part-empty, part-zeroed}
+use Rattle.search.specs.Found.{searchAnswer}
+use Rattle.decoding.proofs.Calling.{decode-refused, out-refused, call-answer, call-out, says-hits, listable}
 use Rattle.decoding.proofs.decode.Statement.{statement}
 use Rattle.decoding.proofs.decode.Tie as tie
 
 returns : tie.Need-returns
 returns c =
-    let o = c .before .before .before .before in
+    let s = c .before .before .before .before .search .ensures in
     let e = ap answerOf (c .enum-told2 .given .1) in
-    let q = decode-refused _ _ _ _ _ _ (sym (o .«open» .ensures .0) ∙ e) in
+    let q = decode-refused _ _ _ _ _ _ (sym (s .0) ∙ e) in
     let u = sym (out-refused _ _ _ _ _ _ q) in
-    (e ∙ sym q, (o .«open» .ensures .1 .0, (u, left-meets _ _ _ _ _ _ _ _ (e ∙ sym q) u)))
+    (e ∙ sym q, (s .1 .0, (u, left-meets _ _ _ _ _ _ _ _ (e ∙ sym q) u)))
 
 -- where the call began
 abbrev begin : tie.After-enum-told → tie.Start
-begin c = c .before .before .before .before .before .before .before .before .before .before .before .before .before
+begin c = c .before .before .before .before .before .before .before .before .before .before .before .before
 
--- checking has answered W
+-- the search has answered a value
 passes : (c : tie.After-enum-told) →
     let a = begin c .args in
-    Passed (a .voice .now) (a .lexicon .now) (a .work .now) (c .enum-told .given .0 .0)
-passes c =
-    let o = c .before .before .before .before in
-    passed _ _ _ (sym (o .«open» .ensures .0) ∙ ap answerOf (c .enum-told .given .1))
-
-returns-2 : tie.Need-returns-2
-returns-2 c =
-    let j = c .before .before in
-    let k = j .before .before in
-    let o = k .before .before .before .before in
-    let e = ap answerOf (c .enum-told4 .given .1) in
-    let q = call-refused _ _ _ _ _ _ (passes k) (sym (j .judge-call .ensures) ∙ e) in
-    let u = sym (out-refused _ _ _ _ _ _ q) in
-    (e ∙ sym q, (o .«open» .ensures .1 .0, (u, left-meets _ _ _ _ _ _ _ _ (e ∙ sym q) u)))
-
--- no row applies
-clear-call : (c : tie.After-enum-told3) →
-    let k = c .before .before .before .before in
-    let a = begin k .args in
-    Clear (a .voice .now) (a .lexicon .now) (a .work .now) (a .frames .now) (a .n) (a .out .now)
-clear-call c =
-    let j = c .before .before in
-    call-clear _ _ _ _ _ _ (sym (j .judge-call .ensures) ∙ ap answerOf (c .enum-told3 .given .1))
-
-room : (c : tie.After-enum-told) → 64000 ≤ length (c .before .before .before .before .«open» .last .1 .1 .0)
-room c =
-    let o = c .before .before .before .before in
-    let w = o .before .before .before .before .before .before .before .before .before .args .work .now in
-    omega (arith, ap length (o .«open» .ensures .1 .0), cleared-length w, passes c .room)
-
-find-slots-requires : tie.Need-find-slots-requires
-find-slots-requires c κs =
-    let i = accepted (passes (c .before .before .before .before .before) .images) in
-    ((i .voice, i .lexicon), (clear-call (c .before) .few, refl))
-
--- ---- the store
-
-abbrev told : tie.After-find-slots → tie.After-enum-told3
-told c = c .before .before
-
-abbrev checked : tie.After-find-slots → tie.After-enum-told
-checked c = told c .before .before .before .before
-
-abbrev start : tie.After-find-slots → tie.Start
-start c = begin (checked c)
-
-counted : (c : tie.After-find-slots)
-    → c .find-slots .result ≡ start c .args .n * placeCount (start c .args .voice .now) (graphOf (start c .args .lexicon .now))
-counted c = c .find-slots .ensures .1
-
--- it lies in the work space
-inside : (c : tie.After-find-slots) → 8 * c .find-slots .result ≤ 64000
-inside c = omega (arith, counted c, store-few _ _ _ _ _ _ (passes (checked c)) (clear-call (told c)))
-
--- its length, as the part is lent
-abbrev size : tie.After-find-slots → ℕ
-size c = 8 * c .find-slots .result - 0
-
-small : (c : tie.After-find-slots) → size c ≤ 64000
-small c = omega (arith, inside c)
-
-fits : (c : tie.After-find-slots) → size c ≤ length (checked c .before .before .before .before .«open» .last .1 .1 .0)
-fits c = omega (arith, inside c, room (checked c))
-
-abbrev found : tie.After-firsts2 → tie.After-find-slots
-found c = c .before .before .before
-
-best-words-requires : tie.Need-best-words-requires
-best-words-requires c κs =
-    let f = c .before .before .before .before in
-    let t = f .before .before in
-    let k = t .before .before .before .before in
-    let o = k .before .before .before .before in
-    let a = o .before .before .before .before .before .before .before .before .before .args in
-    let part = o .«open» .last .1 .1 .0 in
-    let long = length-take-le (size f) part (fits f) in (
-      call-run _ _ _ _ _ _ (passes k) (clear-call t) (rw (k .enum-told .given .1) at (o .«open» .ensures .1 .1)) (f .find-slots .ensures .0)
-          (long ∙ ap (λ (p : ℕ). 8 * p - 0) (counted f) ∙ omega arith),
-      part-empty (size f) part (a .work .now) (o .«open» .ensures .1 .0) (small f) (passes k .room),
-    )
-
--- ---- after it
-
-abbrev listed : tie.After-zero → tie.After-best-words
-listed c = c .before .before .before .before
+    searchAnswer (a .voice .now) (a .lexicon .now) (a .frames .now) (a .n) (a .work .now) (a .out .now) ≡ value (c .enum-told .given .0 .0)
+passes c = sym (c .before .before .before .before .search .ensures .0) ∙ ap answerOf (c .enum-told .given .1)
 
 put-hits-requires : tie.Need-put-hits-requires
 put-hits-requires c κs =
-    let b = listed (c .before .before .before .before) in
-    listable _ _ _ _ _ _ (clear-call (told (found (b .before .before)))) (b .best-words .ensures .0) (b .best-words .ensures .1)
+    let t = c .before .before .before in
+    listable _ _ _ _ _ _ (passes t) (t .before .before .before .before .search .ensures .1 .1)
 
--- the work space is left cleared
-wiped : (c : tie.After-zero) →
-    let b = listed c in
-    let f = found (b .before .before) in
-    let o = checked f .before .before .before .before in
-    c .zero .last .0 ++ drop (size f) (b .best-words .last .1 .1 .1 .1 .1 .1 .1 .0 ++ drop (size f) (o .«open» .last .1 .1 .0)) ≡ cleared (start f .args .work .now)
-wiped c =
-    let b = listed c in
-    let f = found (b .before .before) in
-    let o = checked f .before .before .before .before in
-    part-zeroed (size f) (o .«open» .last .1 .1 .0) (start f .args .work .now) (b .best-words .last .1 .1 .1 .1 .1 .1 .1 .0) (c .zero .last .0)
-    (o .«open» .ensures .1 .0) (small f)
-    (passes (checked f) .room) (b .best-words .kept .1 .1 .1 .1 .1 .1 .1 .0 ∙ length-take-le (size f) (o .«open» .last .1 .1 .0) (fits f))
-    (c .zero .ensures)
-
-returns-3 : tie.Need-returns-3
-returns-3 c =
+returns-2 : tie.Need-returns-2
+returns-2 c =
     let p = c .before .before in
-    let z = p .before .before .before .before .before in
-    let b = listed z in
-    let f = found (b .before .before) in
-    let t = told f in
-    let k = checked f in
-    let a = start f .args in
-    let e = says-hits (a .voice .now) (a .lexicon .now) (a .work .now) (a .frames .now) (a .n) (a .out .now) (clear-call t) (b .best-words .ensures .0) (b .best-words .ensures .1) in
-    let answer = ap value (p .put-hits .ensures .1 ∙ ap length e) ∙ sym (call-answer _ _ _ _ _ _ (passes k) (clear-call t)) in
+    let t = p .before .before .before .before in
+    let a = begin t .args in
+    let s = t .before .before .before .before .search .ensures in
+    let e = says-hits (a .voice .now) (a .lexicon .now) (a .frames .now) (a .work .now) (a .out .now) (a .n) (passes t) (s .1 .1) in
+    let answer = ap value (p .put-hits .ensures .1 ∙ ap length e) ∙ sym (call-answer _ _ _ _ _ _ (passes t)) in
     let out =
     p .put-hits .ensures .0 ∙ ap (λ (l : List Hit). hitBytes l ++ drop (length (hitBytes l)) (a .out .now)) e
-    ∙ call-out _ _ _ _ _ _ (passes k) (clear-call t) in
-    (answer, (wiped z, (out, left-meets _ _ _ _ _ _ _ _ answer out)))
-
-mul-store : tie.Need-mul-store
-mul-store c = let h = inside c in search needs
-
-part-best-words-end : tie.Need-part-best-words-end
-part-best-words-end c = let h = fits (found c) in search needs
-
-part-zero-end : tie.Need-part-zero-end
-part-zero-end c = let h = fits (found (c .before .before .before .before)) in search needs
-
-same-length-4 : tie.Need-same-length-4
-same-length-4 c = ap length (wiped (c .before .before .before .before .before .before .before)) ∙ cleared-length _
-
-sub-zero : tie.Need-sub-zero
-sub-zero c = search needs
-
-part-zero-start : tie.Need-part-zero-start
-part-zero-start c = search needs
-
-zero-requires : tie.Need-zero-requires
-zero-requires c κs = search needs
-
-open-requires : tie.Need-open-requires
-open-requires c κs = search needs
-
-enum-told : tie.Need-enum-told
-enum-told c = search needs
-
-enum-told-2 : tie.Need-enum-told-2
-enum-told-2 c = search needs
-
-same-length : tie.Need-same-length
-same-length c = search needs
-
-judge-call-requires : tie.Need-judge-call-requires
-judge-call-requires c κs = accepted (passes (c .before) .images) .voice
-
-enum-told-3 : tie.Need-enum-told-3
-enum-told-3 c = search needs
-
-enum-told-4 : tie.Need-enum-told-4
-enum-told-4 c = search needs
-
-same-length-2 : tie.Need-same-length-2
-same-length-2 c = search needs
-
-same-length-3 : tie.Need-same-length-3
-same-length-3 c = search needs
-
-sub-best-words : tie.Need-sub-best-words
-sub-best-words c = search needs
-
-part-best-words-start : tie.Need-part-best-words-start
-part-best-words-start c = search needs
-
-same-length-5 : tie.Need-same-length-5
-same-length-5 c = search needs
+    ∙ call-out _ _ _ _ _ _ (passes t) in
+    (answer, (s .1 .0, (out, left-meets _ _ _ _ _ _ _ _ answer out)))
 
 pub decode-spec : {M : Type 1} → statement M
 decode-spec =
     tie.close
     (tie.spec
-    open-requires
-    enum-told
-    enum-told-2
-    same-length
+    (λ c κs. search needs)
+    (λ c. search needs)
+    (λ c. search needs)
+    (λ c. search needs)
+    (λ c. search needs)
     returns
-    judge-call-requires
-    enum-told-3
-    enum-told-4
-    same-length-2
-    same-length-3
-    returns-2
-    find-slots-requires
-    mul-store
-    sub-best-words
-    part-best-words-start
-    part-best-words-end
-    best-words-requires
-    sub-zero
-    part-zero-start
-    part-zero-end
-    zero-requires
     put-hits-requires
-    same-length-4
-    same-length-5
-    returns-3)
+    (λ c. search needs)
+    (λ c. search needs)
+    returns-2)

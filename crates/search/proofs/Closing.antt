@@ -1,0 +1,271 @@
+-- After the last frame. The search for the arc to the sink: its increment is what the successors before it add up to. And the list of hits while the
+-- tokens of each node's last state are offered to it. Assumes nothing.
+use Prim.Native.Nat.{ℕ, suc, _+_, _-_, _*_, _≤_, _<_}
+use mathlib.Core.Path.{_≡_, refl, sym, ap, _∙_}
+use mathlib.Core.Bool.{Bool, true, false, _||_, true≢false}
+use mathlib.Core.List.{List, [], _∷_, _++_, map, append-nil, List·Memᴰ, List·Memᴰ·head as here, Memᴰ·append-right as in-right, Memᴰ·of-map, List·Memᴰ·not-nil as not-nil}
+use native.Mathlib.Omega.{arith}
+use native.Mathlib.Nat.{mul-add}
+use borrow.Author.Tests.{ne-eqb}
+use lib.Dec.{eqb}
+use lib.IntN.{pos}
+use lib.ListN.{length, getD, take, replicate}
+use Rattle.endian.specs.Bytes.{u16}
+use Rattle.endian.specs.Lists.{sum, has}
+use Rattle.endian.proofs.Integers.{size-sum}
+use Rattle.endian.proofs.Lists.{mem-has}
+use Rattle.endian.proofs.Search.{has-mem}
+use Rattle.voice.specs.Voice.{letterCount, states}
+use Rattle.voice.proofs.Letters.{states-range, states-there}
+use Rattle.voice.proofs.Scores.{letters-few}
+use Rattle.lexicon.specs.Lexicon.{nodeCount, nodeLetter, sinkOf, successors}
+use Rattle.lexicon.proofs.WellFormed.{letter-known}
+use Rattle.graph.specs.Graph.{graphOf, sink, pathCount, increment}
+use Rattle.graph.proofs.Sound.{Sound}
+use Rattle.graph.proofs.Accepted.{AcceptedImages, accepted, sound-images, words-limit}
+use Rattle.graph.proofs.Codes.{pathCount-sink, pathCount-below, arc-count}
+use Rattle.checking.proofs.Tables.{entry}
+use Rattle.checking.specs.Tables.{WellFormed}
+use Rattle.checking.proofs.Arcs.{shape-of, sound-of, nodes-there, list-entry, ArcNext, arc-next, arcs-done}
+use Rattle.checking.proofs.Increments.{CountsPassed, counts-start, split-here, increment-here, counts-below, counts-next}
+use Rattle.checking.proofs.Reached.{count-within-words}
+use Rattle.ranking.specs.Hits.{Hit}
+use Rattle.passing.specs.Best.{shift}
+use Rattle.passing.specs.Tokens.{bestTokens, lastState, finalScore, carried, ending}
+use Rattle.search.specs.Slots.{slots, offered, Room, Falling, Offer}
+use Rattle.search.specs.Held.{raised, held, Storable, upOf, downOf}
+use Rattle.search.specs.Places.{firstPlace}
+use Rattle.search.specs.Stored.{Ready, Roomy, Place}
+use Rattle.search.specs.Running.{Arcs, LastArc, Ending, Ended}
+use Rattle.search.proofs.Lending.{copied, length-copied}
+use Rattle.search.proofs.Held.{Moves}
+use Rattle.search.proofs.Kept.{best-falling, offered-best, offer-ready}
+use Rattle.search.proofs.Storing.{place-there, place-room, slot-small}
+
+-- ---- the arc to the sink
+
+-- no arc before the offset leads there
+pub record EndAhead (x : List ℕ) (w at stop total : ℕ) : Type 0 where
+  pub counts : CountsPassed x w at stop total
+  pub none-yet : has (sinkOf x) (counts .earlier) ≡ false
+
+has-more : (a : ℕ) (l : List ℕ) (y : ℕ) → has a l ≡ false → ¬ (a ≡ y) → has a (l ++ (y ∷ [])) ≡ false
+unfolding has
+has-more a [] y h n = rw (ne-eqb a y n)
+has-more a (z ∷ l) y h n = go (eqb a z) h (has-more a l y)
+  where
+    go : (t : Bool) → t || has a l ≡ false → (has a l ≡ false → ¬ (a ≡ y) → has a (l ++ (y ∷ [])) ≡ false) → t || has a (l ++ (y ∷ [])) ≡ false
+    go true e ih = e
+    go false e ih = ih e n
+
+module _ {x lists counts : List ℕ} (a : Arcs x lists counts) {w : ℕ} (h : w ≤ nodeCount x) where
+  formed : WellFormed x
+  formed = a .listed .well-formed
+
+  below : w < sink (graphOf x)
+  unfolding sink
+  below = omega arith
+
+  pub count-entry : {s : ℕ} → s ≤ sinkOf x → getD counts s 0 ≡ pathCount (graphOf x) s
+  count-entry {s} l = entry (a .counted) {u = s} (omega arith)
+
+  pub count-own : getD counts w 0 ≡ pathCount (graphOf x) w
+  unfolding sinkOf
+  count-own = count-entry (omega arith)
+
+  pub ahead-start : EndAhead x w (getD lists w 0 + 2) (getD lists w 0 + 2 + 2 * u16 x (getD lists w 0)) 0
+  unfolding has counts-start
+  ahead-start = record { counts = counts-start formed h (list-entry (a .listed) h); none-yet = refl }
+
+  module _ {at stop total : ℕ} (p : EndAhead x w at stop total) where
+    module _ (l : at < stop) where
+      pub ahead-arc : ArcNext x w at stop (p .counts .later)
+      ahead-arc = arc-next (p .counts .arcs) l
+
+      pub ahead-here : u16 x at ≡ sinkOf x → LastArc (graphOf x) w total
+      unfolding sink sinkOf
+      ahead-here e =
+          let member : List·Memᴰ (u16 x at) (successors x w) =
+          rw (split-here formed h (p .counts) ahead-arc) (in-right (p .counts .earlier) (here refl)) in
+          let m : List·Memᴰ (suc (nodeCount x)) (successors x w) = rw e at member in
+          record { there = λ t. rw e at (increment-here formed h (p .counts) ahead-arc); none = λ f. absurd (true≢false (sym (mem-has m) ∙ f)) }
+
+      pub ahead-below : total + pathCount (graphOf x) (u16 x at) ≤ pathCount (graphOf x) w
+      ahead-below = counts-below formed h (p .counts) ahead-arc
+
+      pub ahead-next : ¬ (u16 x at ≡ sinkOf x) → EndAhead x w (at + 2) stop (total + pathCount (graphOf x) (u16 x at))
+      unfolding counts-next
+      ahead-next n = record {
+        counts = counts-next formed h (p .counts) ahead-arc;
+        none-yet = has-more (sinkOf x) (p .counts .earlier) (u16 x at) (p .none-yet) (λ e. n (sym e));
+      }
+
+    pub ahead-done : stop ≤ at → LastArc (graphOf x) w total
+    unfolding sink sinkOf
+    ahead-done l =
+        let e : successors x w ≡ p .counts .earlier = p .counts .split ∙ rw (arcs-done (p .counts .arcs) l) (append-nil (p .counts .earlier)) in
+        let f : has (suc (nodeCount x)) (successors x w) ≡ false = rw e (p .none-yet) in
+        record {
+          there = λ t. absurd (true≢false (sym t ∙ f));
+          none = λ f. p .counts .total-is ∙ ap (λ l. sum (map (pathCount (graphOf x)) l)) (sym e) ∙ sym (pathCount-below (sound-of formed) below);
+        }
+
+-- ---- a node's last state
+
+module _ {v x : List ℕ} {n : ℕ} {lists counts firsts : List ℕ} (r : Ready v x n lists counts firsts) where
+  pub images : AcceptedImages v x
+  images = accepted (r .accepted)
+
+  pub arcs-of : Arcs x lists counts
+  unfolding sink
+  arcs-of = record {
+    listed = record { well-formed = record { letters = letterCount v; judged = images .lexicon }; table = r .lists-of };
+    counted = r .counts-of;
+    few = λ {u} h. omega (arith, count-within-words (sound-images images) (images .all-reached) {u = u} (omega arith), words-limit images);
+  }
+
+-- the last state of a node, as it is read
+abbrev pub lastAt : List ℕ → List ℕ → ℕ → ℕ
+lastAt v x w = getD v (2 + 2 * getD x (1 + w) 0) 0 - 1
+
+pub record EndPlace (v x : List ℕ) (n : ℕ) (firsts : List ℕ) (w : ℕ) (b : List ℕ) : Type 0 where
+  pub vertex : w < 401
+  pub node-there : 1 + w < length x
+  pub letter-there : 2 + 2 * getD x (1 + w) 0 < length v
+  pub letter-small : getD x (1 + w) 0 < 64
+  pub some : 1 ≤ getD v (2 + 2 * getD x (1 + w) 0) 0
+  pub few : getD v (2 + 2 * getD x (1 + w) 0) 0 ≤ 4
+  pub slot-small : getD firsts w 0 + n * lastAt v x w ≤ 8000
+  pub room : Room n (getD firsts w 0 + n * lastAt v x w) b
+  pub place : Place v (graphOf x) w (lastState v (graphOf x) w)
+  pub slot : slots n (getD firsts w 0 + n * lastAt v x w) b ≡ slots n (n * (firstPlace v (graphOf x) w + lastState v (graphOf x) w)) b
+
+module _ {v x : List ℕ} {n : ℕ} {lists counts firsts : List ℕ} {w : ℕ} {b : List ℕ} (r : Ready v x n lists counts firsts) (m : Roomy v x n b)
+    (low : 1 ≤ w) (high : w ≤ nodeCount x) where
+  known : nodeLetter x w < letterCount v
+  known = letter-known (letterCount v) x (images r .lexicon) w low high
+
+  slot-is : getD firsts w 0 + n * lastAt v x w ≡ n * (firstPlace v (graphOf x) w + lastAt v x w)
+  unfolding sinkOf
+  slot-is = ap (λ (a : ℕ). a + n * lastAt v x w) (entry (r .firsts-of) {u = w} (omega arith)) ∙ sym (mul-add n _ _)
+
+  pub end-place : EndPlace v x n firsts w b
+  unfolding nodeLetter states lastState sink
+  end-place =
+      let s = states-range v (images r .voice) known in
+      let p : Place v (graphOf x) w (lastAt v x w) = record { low = low; high = omega arith; state = omega (arith, s) } in
+      record {
+        vertex = omega (arith, shape-of (arcs-of r .listed .well-formed) .few);
+        node-there = omega (arith, nodes-there (arcs-of r .listed .well-formed));
+        letter-there = states-there v (images r .voice) known;
+        letter-small = omega (arith, known, letters-few v (images r .voice));
+        some = s .0;
+        few = s .1;
+        slot-small = rw slot-is (slot-small v x (r .accepted) m (omega (arith, place-there v x p)));
+        room = rw slot-is (place-room v x m p);
+        place = p;
+        slot = ap (λ (k : ℕ). slots n k b) slot-is;
+      }
+
+-- ---- its tokens are candidates for the list
+
+pub level-up : upOf (pos 0) ≡ 281474976710656
+unfolding upOf raised
+level-up = refl
+
+pub level-down : (d : ℕ) → downOf d ≡ 281474976710656 + d
+unfolding downOf
+level-down d = omega arith
+
+module _ {v x : List ℕ} {n : ℕ} {lists counts firsts : List ℕ} {w : ℕ} {b list : List ℕ} (e : Ending v x n lists counts firsts w b list) where
+  end-at : EndPlace v x n firsts w b
+  end-at = end-place (e .ready) (e .roomy) (e .low) (e .high)
+
+  graph-ok : Sound (graphOf x)
+  graph-ok = sound-images (images (e .ready))
+
+  under : w < sink (graphOf x)
+  under = below (arcs-of (e .ready)) (e .high)
+
+  -- what the last state holds
+  abbrev last-tokens : List Hit
+  last-tokens = e .P w (lastState v (graphOf x) w)
+
+  own : getD counts w 0 ≡ pathCount (graphOf x) w
+  own = count-own (arcs-of (e .ready)) (e .high)
+
+  pub end-none : {d : ℕ} → LastArc (graphOf x) w d → d ≡ getD counts w 0 → has (sink (graphOf x)) (successors x w) ≡ false
+  end-none {d} a q = go (has (sink (graphOf x)) (successors x w)) refl
+    where
+      go : (t : Bool) → has (sink (graphOf x)) (successors x w) ≡ t → has (sink (graphOf x)) (successors x w) ≡ false
+      go false p = p
+      go true p = absurd (omega (arith, a .there p, own, arc-count graph-ok under (has-mem (successors x w) p), pathCount-sink graph-ok))
+
+  pub end-there : {d : ℕ} → LastArc (graphOf x) w d → ¬ (d ≡ getD counts w 0) → has (sink (graphOf x)) (successors x w) ≡ true
+  end-there {d} a q = go (has (sink (graphOf x)) (successors x w)) refl
+    where
+      go : (t : Bool) → has (sink (graphOf x)) (successors x w) ≡ t → has (sink (graphOf x)) (successors x w) ≡ true
+      go true p = p
+      go false p = absurd (q (a .none p ∙ sym own))
+
+  pub end-nothing : has (sink (graphOf x)) (successors x w) ≡ false → Ended e list
+  unfolding ending
+  end-nothing p = record { holds = rw (p, append-nil (e .s)) (e .holds) }
+
+  end-from : (h : Hit) → List·Memᴰ h last-tokens → Storable h
+  end-from h i =
+      let B = e .bound (end-at .place) i in
+      record { score = B .score; code = omega (arith, B .code, words-limit (images (e .ready))) }
+
+  keeps : bestTokens n last-tokens ≡ last-tokens
+  keeps = e .stored .kept (end-at .place)
+
+  pub end-falls : Falling (slots n (getD firsts w 0 + n * lastAt v x w) b)
+  end-falls = rw (end-at .slot ∙ e .stored .holds (end-at .place)) (rw keeps at (best-falling n last-tokens end-from))
+
+  module _ (t : has (sink (graphOf x)) (successors x w) ≡ true) {d : ℕ} (q : d ≡ increment (graphOf x) w (sink (graphOf x))) where
+    end-to : (h : Hit) → List·Memᴰ h last-tokens → Storable (shift (pos 0) d h)
+    unfolding shift
+    end-to h i =
+        let B = e .bound (end-at .place) i in
+        record {
+          score = omega (arith, B .score, size-sum (h .score) (pos 0));
+          code = omega (arith, B .code, words-limit (images (e .ready)), arc-count graph-ok under (has-mem (successors x w) t), q);
+        }
+
+    end-moves : Moves (pos 0) d (bestTokens n last-tokens)
+    end-moves = rw keeps (record { small = omega arith; from = end-from; to = end-to })
+
+    -- the arrivals of this node at the sink
+    ends-so : ending v (graphOf x) (e .P) w ≡ map (shift (pos 0) d) last-tokens
+    unfolding ending carried finalScore
+    ends-so = rw (t, q) refl
+
+    module _ {tokens : List ℕ} (c : tokens ≡ slots n (getD firsts w 0 + n * lastAt v x w) b ++ replicate (8 - n) 0) where
+      copied-tokens : take n tokens ≡ held n (bestTokens n last-tokens)
+      copied-tokens = rw (c, keeps) (copied n _ b ∙ end-at .slot ∙ e .stored .holds (end-at .place))
+
+      pub end-offer : Offer n 0 281474976710656 (281474976710656 + d) tokens list
+      end-offer =
+          rw (level-up, level-down d) at
+          (offer-ready n (pos 0) d last-tokens end-moves {k = 0} {from = tokens} {b = list} {s = e .s}
+          (record { some = e .roomy .some; few = e .roomy .few; room = omega (arith, e .long, e .roomy .few) })
+          (rw (c, length-copied n (getD firsts w 0 + n * lastAt v x w) b (e .roomy .few)) (e .roomy .few))
+          copied-tokens (e .holds) (e .storable))
+
+      pub end-offered : {list′ : List ℕ} → slots n 0 list′ ≡ offered 281474976710656 (281474976710656 + d) (take n tokens) (slots n 0 list)
+          → Ended e list′
+      end-offered o =
+          let f : offered (upOf (pos 0)) (downOf d) (held n (bestTokens n last-tokens)) (held n (bestTokens n (e .s))) ≡ held n (bestTokens n (e .s ++ map (shift (pos 0) d) last-tokens)) = offered-best n (pos 0) d last-tokens end-moves (e .s) (e .storable) in
+          record { holds = o ∙ rw (copied-tokens, e .holds, ends-so) (rw (level-up, level-down d) at f) }
+
+  -- what arrives from this node can be stored
+  pub end-storable : (h : Hit) → List·Memᴰ h (ending v (graphOf x) (e .P) w) → Storable h
+  unfolding ending
+  end-storable h i = go (has (sink (graphOf x)) (successors x w)) refl
+    where
+      go : (t : Bool) → has (sink (graphOf x)) (successors x w) ≡ t → Storable h
+      go true t =
+          let u = Memᴰ·of-map (shift (pos 0) (increment (graphOf x) w (sink (graphOf x)))) last-tokens (rw (ends-so t refl) at i) in
+          rw (← u .2) (end-to t refl (u .0) (u .1))
+      go false t = absurd (not-nil (rw t at i))

@@ -1,0 +1,345 @@
+-- Tokens handed on along the arcs of a vertex: one arc, and the loop over all. What is left to pass on from the store so far is what was to be
+-- passed on from the store at the beginning; the increment of the next arc is the sum of the counts before it. Assumes nothing.
+use Prim.Native.Nat.{ℕ, zero, suc, _+_, _*_, _^_, _≤_, _<_}
+use mathlib.Core.Path.{_≡_, refl, sym, ap, _∙_}
+use mathlib.Core.Bool.{Bool, true, false}
+use mathlib.Core.Logic.{inl, ⊎-elim}
+use mathlib.Core.List.{List, [], _∷_, _++_, Memᴰ·append-right, List·Memᴰ, List·Memᴰ·head as here, List·Memᴰ·tail as there, List·Memᴰ·append-cases as append-cases}
+use native.Mathlib.Omega.{arith}
+use native.Mathlib.Nat.{add-zero}
+use lib.ListN.{length, getD}
+use Rattle.endian.specs.Bytes.{u16}
+use Rattle.voice.specs.Voice.{letterCount, states, firstState, emission}
+use Rattle.voice.proofs.Letters.{states-range}
+use Rattle.voice.proofs.Scores.{letters-few}
+use Rattle.lexicon.specs.Lexicon.{nodeCount, nodeLetter, sinkOf, successors}
+use Rattle.lexicon.proofs.WellFormed.{letter-known}
+use Rattle.graph.specs.Graph.{Graph, graphOf, sink, pathCount, wordCount, increment}
+use Rattle.graph.proofs.Codes.{arc-count}
+use Rattle.graph.proofs.Accepted.{AcceptedImages, accepted}
+use Rattle.checking.specs.Tables.{WellFormed, Listed}
+use Rattle.checking.proofs.Tables.{entry}
+use Rattle.checking.proofs.Arcs.{shape-of, sound-of, nodes-there, has-entry, ListThere, list-entry, list-at, ArcNext, arc-next, arcs-done}
+use Rattle.checking.proofs.Increments.{CountsPassed, counts-start, split-here, increment-here, counts-below, counts-next}
+use Rattle.ranking.specs.Hits.{Hit}
+use Rattle.decoder.specs.Score.{plus}
+use Rattle.passing.specs.Tokens.{Store, bestTokens, stateOf, heard, overArc}
+use Rattle.passing.specs.InPlace.{passOn}
+use Rattle.passing.proofs.Order.{hits-strict}
+use Rattle.passing.proofs.Best.{best-from, best-best}
+use Rattle.passing.proofs.InPlace.{put-node}
+use Rattle.search.specs.Slots.{Changed}
+use Rattle.search.specs.Held.{held, pad, downOf}
+use Rattle.search.specs.Gains.{entryGain}
+use Rattle.search.specs.Places.{firstPlace, firstSlot}
+use Rattle.search.specs.Stored.{Ready, Bound, Place, Stored, source, Handing, Handed, handedOn}
+use Rattle.search.specs.Carrying.{Worth, Offering, joined, Arc, overOne}
+use Rattle.search.proofs.Numbers.{token-some}
+use Rattle.search.proofs.Lending.{changed-apart}
+use Rattle.search.proofs.Storing.{PutAt, same, other, put-at, stored-put, stored-ext, pass-nothing, words-few, place-there, place-room, slot-small, carried-bound, bound-storable, movers}
+use Rattle.search.proofs.Carrying.{emission-range, worth-by, handed-long, handed-take}
+
+-- ---- what is accepted
+
+module _ {v x : List ℕ} {n : ℕ} {lists counts firsts : List ℕ} (r : Ready v x n lists counts firsts) where
+  images : AcceptedImages v x
+  images = accepted (r .accepted)
+
+  pub lexicon-formed : WellFormed x
+  lexicon-formed = record { letters = letterCount v; judged = images .lexicon }
+
+  pub known : {u : ℕ} → 1 ≤ u → u ≤ nodeCount x → nodeLetter x u < letterCount v
+  known {u} h k = letter-known (letterCount v) x (images .lexicon) u h k
+
+  pub letter-few : {u : ℕ} → 1 ≤ u → u ≤ nodeCount x → nodeLetter x u < 64
+  letter-few h k = omega (arith, known h k, letters-few v (images .voice))
+
+  pub state-range : {u : ℕ} → 1 ≤ u → u ≤ nodeCount x → (1 ≤ states v (nodeLetter x u)) × (states v (nodeLetter x u) ≤ 4)
+  state-range h k = states-range v (images .voice) (known h k)
+
+  pub place-of : {u s : ℕ} → 1 ≤ u → u ≤ nodeCount x → s < states v (nodeLetter x u) → Place v (graphOf x) u s
+  unfolding sink
+  place-of h k l = record { low = h; high = omega arith; state = l }
+
+  pub first-at : {u : ℕ} → u ≤ nodeCount x → getD firsts u 0 ≡ firstSlot v (graphOf x) n u
+  unfolding sinkOf
+  first-at h = entry (r .firsts-of) (omega arith)
+
+-- ---- one arc
+
+-- the bytes and entries that are read for it
+pub record ArcRead (x firsts entries : List ℕ) (u : ℕ) : Type 0 where
+  pub there : 1 + u < length x
+  pub letter : getD x (1 + u) 0 < 64
+  pub long-entries : length entries ≡ 64
+  pub long-firsts : length firsts ≡ 402
+  pub few : u ≤ 400
+  pub slot : getD firsts u 0 ≤ 8000
+
+-- what is handed on stays where another place changes
+source-apart : (root : Bool) (n k : ℕ) {slot : ℕ} {l b b′ : List ℕ} → (root ≡ false → k + n ≤ slot) → Changed slot n l b b′
+    → source root n k b′ ≡ source root n k b
+unfolding source
+source-apart true n k a c = refl
+source-apart false n k a c = changed-apart c n k (inl (a refl))
+
+module _ {x : List ℕ} {n nodes : ℕ} {firsts entries : List ℕ} {root : Bool} {from u down : ℕ} {b : List ℕ}
+    (t : Arc x n nodes firsts entries root from u down b) where
+  abbrev w : ℕ
+  w = t .w
+
+  abbrev h : Handing x n (t .lists) (t .counts) firsts entries w root from b
+  h = t .handing
+
+  abbrev g : Graph
+  g = graphOf x
+
+  vertex : w < sink g
+  unfolding sink
+  vertex = omega (arith, h .vertex)
+
+  rises : (w < u) × (u ≤ sink g)
+  rises = sound-of (lexicon-formed (h .ready)) .rises vertex (t .arc)
+
+  gap : increment g (w) u + pathCount g u ≤ pathCount g (w)
+  gap = arc-count (sound-of (lexicon-formed (h .ready))) vertex (t .arc)
+
+  words : wordCount g < 2 ^ 32
+  words = words-few (h .v) x (h .ready .accepted)
+
+  worth : u ≤ nodeCount x → Worth (getD entries (getD x (1 + u) 0) 0) (plus (h .score) (heard (h .v) g (h .k) u 0))
+  unfolding nodeLetter entryGain heard stateOf
+  worth k =
+      worth-by (h .moved) (emission (h .v) (firstState (h .v) (nodeLetter x u) + 0) (h .k)) (h .score-is) (h .small) (emission-range (h .v) _ (h .k))
+      (h .gains .entry u (omega (arith, rises .0)) k)
+
+  module _ (k : u ≤ nodeCount x) where
+    one : 1 ≤ u
+    one = omega (arith, rises .0)
+
+    place : Place (h .v) g u 0
+    place = place-of (h .ready) one k (state-range (h .ready) one k .0)
+
+    slot-is : getD firsts u 0 ≡ n * (firstPlace (h .v) g u + 0)
+    slot-is = rw add-zero (first-at (h .ready) k)
+
+    pub arc-read : ArcRead x firsts entries u
+    unfolding nodeLetter
+    arc-read = record {
+      there = omega (arith, nodes-there (lexicon-formed (h .ready)));
+      letter = letter-few (h .ready) one k;
+      long-entries = h .gains .long;
+      long-firsts = h .ready .firsts-of .long;
+      few = omega (arith, shape-of (lexicon-formed (h .ready)) .few);
+      slot = rw slot-is (slot-small (h .v) x (h .ready .accepted) (h .roomy) (omega (arith, place-there (h .v) x place)));
+    }
+
+    pub arc-offering : Offering n (getD firsts u 0) (getD entries (getD x (1 + u) 0) 0) down (source root n from b) b
+    arc-offering = record {
+      score = plus (h .score) (heard (h .v) g (h .k) u 0);
+      d = increment g (w) u;
+      l = h .l;
+      s = h .Q u 0;
+      worth = worth k;
+      down-is = t .down-is;
+      room = rw slot-is (place-room (h .v) x (h .roomy) place);
+      long = handed-long (h .l) (h .handed) (omega arith);
+      handed = handed-take (h .l) (h .handed) (omega arith);
+      movers = movers n (h .M) (w) u _ _ (h .l) words (h .fits) (h .best) (λ a e. worth k .small e) (λ y i. h .bound i) gap;
+      holds = rw slot-is (h .stored .holds place);
+      best = h .stored .kept place;
+      storable = λ z i. bound-storable words (h .fits) (h .above place (rises .0) i);
+    }
+
+    pub arc-apart : root ≡ false → from + n ≤ getD firsts u 0
+    arc-apart z = rw (first-at (h .ready) k) (h .apart z (rises .0) k)
+
+    pub arc-source : {l b′ : List ℕ} → Changed (getD firsts u 0) n l b b′ → source root n from b′ ≡ source root n from b
+    arc-source c = source-apart root n from arc-apart c
+
+    pub arc-done : {b′ : List ℕ} → Changed (getD firsts u 0) n (held n (joined arc-offering)) b b′ → Stored (h .v) g n (overOne t) b′
+    unfolding joined overOne arc-offering
+    arc-done c = stored-put place (h .stored) (rw slot-is at c) (best-best hits-strict n _)
+
+  -- the sink has no place
+  pub arc-sink : nodes < u → Stored (h .v) g n (overOne t) b
+  unfolding overOne sink
+  arc-sink k = stored-ext (h .stored) (λ z s p. put-node (h .Q) u 0 _ (λ e. omega (arith, p .high, t .nodes-is)))
+
+  pub arc-above : {z s : ℕ} {y : Hit} → Place (h .v) g z s → w < z → List·Memᴰ y (overOne t z s) → Bound g (h .M + 65536) z y
+  unfolding overOne sink
+  arc-above {z} {s} {y} p l i = go (put-at (h .Q) u 0 _ z s)
+    where
+      new : List Hit
+      new = overArc (h .v) g (h .k) (h .score) (w) u (h .l)
+
+      go : PutAt (h .Q) u 0 (bestTokens n (h .Q u 0 ++ new)) z s → Bound g (h .M + 65536) z y
+      go (other d q) = h .above p l (rw q at i)
+      go (same e f q) =
+          let k : u ≤ nodeCount x = omega (arith, p .high) in
+          rw e (⊎-elim
+          (λ j. h .above (place k) (rises .0) j)
+          (λ j. carried-bound (h .M) (w) u _ _ (h .l) (λ a e. worth k .small e) (λ y i. h .bound i) gap j)
+          (append-cases (h .Q u 0) (best-from hits-strict n (h .Q u 0 ++ new) y (rw q at i))))
+
+-- ---- all arcs
+
+module _ {x : List ℕ} {n : ℕ} {lists counts firsts entries : List ℕ} {w : ℕ} {root : Bool} {from : ℕ} {b₀ : List ℕ}
+    (t : Handing x n lists counts firsts entries w root from b₀) where
+  -- Q is the store when the arcs to the earlier successors are done
+  pub record HandingLeft (at stop down : ℕ) (b : List ℕ) : Type 0 where
+    pub Q : Store
+    pub total : ℕ
+    pub sums : CountsPassed x w at stop total
+    pub down-is : down ≡ downOf total
+    pub stored : Stored (t .v) (graphOf x) n Q b
+    pub above : {u s : ℕ} {y : Hit} → Place (t .v) (graphOf x) u s → w < u → List·Memᴰ y (Q u s) → Bound (graphOf x) (t .M + 65536) u y
+    pub long : length b ≡ length b₀
+    pub source-kept : source root n from b ≡ source root n from b₀
+    pub passed : passOn (t .v) (graphOf x) n (t .k) (λ u. t .score) w (t .l) (sums .later) Q ≡ handedOn t
+
+  -- some token is handed on, so that the paths from w are among all
+  some-words : ¬ (getD (source root n from b₀) 0 0 ≡ 0) → pathCount (graphOf x) w ≤ wordCount (graphOf x)
+  unfolding pad
+  some-words z = go n (t .l) (t .handed) (λ y i. t .bound i)
+    where
+      go : (m : ℕ) (l : List Hit) → source root n from b₀ ≡ held m l → ((y : Hit) → List·Memᴰ y l → Bound (graphOf x) (t .M) w y)
+          → pathCount (graphOf x) w ≤ wordCount (graphOf x)
+      go zero [] e f = absurd (z (rw e refl))
+      go (suc m) [] e f = absurd (z (rw e refl))
+      go m (y ∷ l) e f = omega (arith, f y (here refl) .code)
+
+  -- a node's first slot is inside
+  pub source-room : root ≡ false → 8 * from + 8 ≤ length b₀
+  source-room z = let r = t .inside z in omega (arith, r .room, r .some)
+
+  abbrev formed : WellFormed x
+  formed = lexicon-formed (t .ready)
+
+  listed : Listed x lists
+  listed = record { well-formed = formed; table = t .ready .lists-of }
+
+  pub vertex-few : w ≤ 400
+  vertex-few = omega (arith, t .vertex, shape-of formed .few)
+
+  pub list-of : ListThere x (getD lists w 0)
+  list-of = list-at listed (t .vertex)
+
+  pub handing-start : HandingLeft (getD lists w 0 + 2) (getD lists w 0 + 2 + 2 * u16 x (getD lists w 0)) 281474976710656 b₀
+  unfolding downOf handedOn counts-start
+  handing-start = record {
+    Q = t .Q;
+    total = 0;
+    sums = counts-start formed (t .vertex) (list-entry listed (t .vertex));
+    down-is = refl;
+    stored = t .stored;
+    above = t .above;
+    long = refl;
+    source-kept = refl;
+    passed = refl;
+  }
+
+  module _ {at stop down : ℕ} {b : List ℕ} (L : HandingLeft at stop down b) where
+    so-far : Handing x n lists counts firsts entries w root from b
+    so-far = record {
+      v = t .v;
+      k = t .k;
+      M = t .M;
+      score = t .score;
+      l = t .l;
+      Q = L .Q;
+      ready = t .ready;
+      roomy = record { some = t .roomy .some; few = t .roomy .few; room = rw (L .long) (t .roomy .room) };
+      vertex = t .vertex;
+      gains = t .gains;
+      moved = t .moved;
+      score-is = t .score-is;
+      small = t .small;
+      handed = L .source-kept ∙ t .handed;
+      inside = λ z. let r = t .inside z in record { some = r .some; few = r .few; room = rw (L .long) (r .room) };
+      apart = t .apart;
+      best = t .best;
+      bound = t .bound;
+      fits = t .fits;
+      stored = L .stored;
+      above = L .above;
+    }
+
+    module _ (h : at < stop) {u : ℕ} (e : u ≡ u16 x at) where
+      pub next : ArcNext x w at stop (L .sums .later)
+      next = arc-next (L .sums .arcs) h
+
+      in-list : List·Memᴰ u (successors x w)
+      in-list = rw (e, split-here formed (t .vertex) (L .sums) next) (Memᴰ·append-right (L .sums .earlier) (here refl))
+
+      pub left-arc : {nodes : ℕ} → nodes ≡ nodeCount x → Arc x n nodes firsts entries root from u down b
+      left-arc q = record {
+        w = w;
+        lists = lists;
+        counts = counts;
+        handing = so-far;
+        nodes-is = q;
+        arc = in-list;
+        down-is = rw e (L .down-is ∙ ap downOf (increment-here formed (t .vertex) (L .sums) next));
+      }
+
+      pub successor-few : u ≤ 401
+      unfolding sinkOf
+      successor-few = omega (arith, e, has-entry formed (next .bounded))
+
+      count-is : getD counts u 0 ≡ pathCount (graphOf x) (u16 x at)
+      count-is = rw e (entry (t .ready .counts-of) (omega (arith, next .bounded)))
+
+      -- the counts don't overflow where there are tokens
+      pub down-few : ¬ (getD (source root n from b₀) 0 0 ≡ 0) → down + getD counts u 0 < 281474976710656 + 4294967296
+      unfolding downOf
+      down-few z =
+          omega (arith, L .down-is, count-is, counts-below formed (t .vertex) (L .sums) next, some-words z, words-few (t .v) x (t .ready .accepted))
+
+      pub handing-next : {nodes : ℕ} (q : nodes ≡ nodeCount x) {b′ : List ℕ} → Stored (left-arc q .handing .v) (graphOf x) n (overOne (left-arc q)) b′
+          → source root n from b′ ≡ source root n from b → length b′ ≡ length b
+          → HandingLeft (at + 2) stop (down + getD counts u 0) b′
+      unfolding passOn overOne downOf left-arc so-far counts-next
+      handing-next q S f l = record {
+        Q = overOne (left-arc q);
+        total = L .total + pathCount (graphOf x) (u16 x at);
+        sums = counts-next formed (t .vertex) (L .sums) next;
+        down-is = omega (arith, L .down-is, count-is);
+        stored = S;
+        above = arc-above (left-arc q);
+        long = l ∙ L .long;
+        source-kept = f ∙ L .source-kept;
+        passed = rw (next .split, ← e) at (L .passed);
+      }
+
+    pub handing-done : stop ≤ at → Handed t b
+    unfolding passOn
+    handing-done end =
+        let e : L .Q ≡ handedOn t = rw (arcs-done (L .sums .arcs) end) at (L .passed) in
+        record { stored = rw e at (L .stored); above = λ {u} {s} p l i. L .above p l (rw (sym (ap (λ (P : Store). P u s) e)) at i); long = L .long }
+
+  no-tokens : (m : ℕ) (l : List Hit) → 1 ≤ m → source root n from b₀ ≡ held m l → ((y : Hit) → List·Memᴰ y l → Bound (graphOf x) (t .M) w y)
+      → getD (source root n from b₀) 0 0 ≡ 0 → l ≡ []
+  unfolding pad
+  no-tokens m [] h e f z = refl
+  no-tokens zero (y ∷ l) h e f z = absurd (omega arith)
+  no-tokens (suc m) (y ∷ l) h e f z =
+      let s = bound-storable (words-few (t .v) x (t .ready .accepted)) (omega (arith, t .fits)) (f y (here refl)) in
+      let z′ = rw e at z in
+      absurd (omega (arith, token-some y s))
+
+  -- nothing is passed on
+  pub handing-nothing : getD (source root n from b₀) 0 0 ≡ 0 → Handed t b₀
+  unfolding handedOn
+  handing-nothing z = record {
+    stored = stored-ext (t .stored) (λ u s p. nothing p);
+    above = λ p l i. t .above p l (rw (nothing p) at i);
+    long = refl;
+  }
+    where
+      e : t .l ≡ []
+      e = no-tokens n (t .l) (t .roomy .some) (t .handed) (λ y i. t .bound i) z
+
+      nothing : {u s : ℕ} → Place (t .v) (graphOf x) u s
+          → passOn (t .v) (graphOf x) n (t .k) (λ u. t .score) w (t .l) (successors x w) (t .Q) u s ≡ t .Q u s
+      nothing p = rw e (pass-nothing n (t .k) (λ u. t .score) w (successors x w) (t .Q) (λ u s q. t .stored .kept q) p)

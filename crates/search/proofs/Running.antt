@@ -1,0 +1,210 @@
+-- Frame by frame: what the places hold after the root's token is passed on, while the nodes take their turns, and when all have had theirs.
+-- By the theorems of token passing in one store. Assumes nothing.
+use Prim.Native.Nat.{ℕ, zero, suc, _+_, _-_, _*_, _≤_, _<_}
+use mathlib.Core.Path.{_≡_, refl, sym, ap, _∙_}
+use mathlib.Core.Bool.{true, false, true≢false}
+use mathlib.Core.List.{List, [], _∷_, List·Memᴰ, List·Memᴰ·not-nil as not-nil, List·Memᴰ·eq-of-singleton as only}
+use mathlib.Core.Option.{some}
+use native.Mathlib.Omega.{arith}
+use borrow.Author.Tests.{leb-false, not-false}
+use lib.Dec.{leb}
+use lib.IntN.{pos}
+use lib.ListN.{length, getD, replicate}
+use lib.Seq.{take-nil}
+use Rattle.endian.specs.Lists.{any}
+use Rattle.endian.specs.Integers.{eqZ}
+use Rattle.endian.proofs.Booleans.{or-none}
+use Rattle.endian.proofs.Ranges.{bounds}
+use Rattle.call.specs.Limits.{badFrameCount}
+use Rattle.call.proofs.Table.{none-says}
+use Rattle.voice.specs.Voice.{letterCount, symbolCount, linkScore, impossible}
+use Rattle.lexicon.specs.Lexicon.{nodeCount}
+use Rattle.graph.specs.Graph.{graphOf, sink, wordCount}
+use Rattle.graph.proofs.Sound.{Sound, sound}
+use Rattle.graph.proofs.Accepted.{accepted}
+use Rattle.ranking.specs.Hits.{Hit, hit}
+use Rattle.endian.specs.Integers.{eqZ}
+use Rattle.decoder.specs.Score.{possible}
+use Rattle.decoder.specs.Decoding.{AcceptedFrames, frameRows}
+use Rattle.passing.specs.Best.{insert, rowOf}
+use Rattle.passing.specs.Tokens.{Store, bestTokens, tokens, initialScore}
+use Rattle.passing.specs.InPlace.{passNode, passDown, passRoot}
+use Rattle.passing.proofs.InPlace.{first-frame, next-frame}
+use Rattle.passing.proofs.Bounds.{token-bounded}
+use Rattle.search.specs.Slots.{slots}
+use Rattle.search.specs.Gains.{MoveGains, EntryGains, Hearing}
+use Rattle.search.specs.Stored.{Roomy, Bound, Stored, Within, source, Handing, handedOn, Handed, Turn, turned, TurnDone}
+use Rattle.search.specs.Running.{Empty, Run, StoredAt}
+use Rattle.search.proofs.Held.{held-none}
+use Rattle.search.proofs.Storing.{stored-ext}
+
+-- ---- stores
+
+pub roomy-same : {v x : List ℕ} {n : ℕ} {b b′ : List ℕ} → length b′ ≡ length b → Roomy v x n b → Roomy v x n b′
+roomy-same e r = record { some = r .some; few = r .few; room = rw e (r .room) }
+
+pub empty-slots : (n k : ℕ) (b : List ℕ) → Empty b → slots n k b ≡ replicate n 0
+unfolding slots
+empty-slots zero k b e = refl
+empty-slots (suc n) k b e = rw (e k) (ap (λ l. 0 ∷ l) (empty-slots n (k + 1) b e))
+
+pub none-best : (n : ℕ) → bestTokens n [] ≡ []
+unfolding rowOf
+none-best n = take-nil n
+
+-- ---- frames
+
+module _ (v frames : List ℕ) (h : AcceptedFrames v frames) where
+  tests : (badFrameCount (length frames) ≡ false) × (any (λ k. leb (symbolCount v) k) frames ≡ false)
+  unfolding frameRows
+  tests = or-none (badFrameCount (length frames)) (any (λ k. leb (symbolCount v) k) frames) (none-says (frameRows v frames) h .0)
+
+  pub frame-count : (1 ≤ length frames) × (length frames ≤ 1000)
+  unfolding badFrameCount
+  frame-count = bounds 1 1000 (length frames) (not-false _ (tests .0))
+
+  pub symbol-known : (i : ℕ) → i < length frames → getD frames i 0 < symbolCount v
+  unfolding any
+  symbol-known i l = go frames (tests .1) i l
+    where
+      go : (l : List ℕ) → any (λ k. leb (symbolCount v) k) l ≡ false → (i : ℕ) → i < length l → getD l i 0 < symbolCount v
+      go [] e i k = absurd (omega arith)
+      go (y ∷ l) e zero k = leb-false (symbolCount v) y (or-none (leb (symbolCount v) y) (any (λ k. leb (symbolCount v) k) l) e .0)
+      go (y ∷ l) e (suc i) k = go l (or-none (leb (symbolCount v) y) (any (λ k. leb (symbolCount v) k) l) e .1) i (omega arith)
+
+module _ {v x frames : List ℕ} {n : ℕ} {lists counts firsts b : List ℕ} (r : Run v x frames n lists counts firsts b) where
+  pub sound-run : Sound (graphOf x)
+  sound-run = sound (letterCount v) x (accepted (r .ready .accepted) .lexicon)
+
+  pub hearing : (i : ℕ) → i < length frames → Hearing v (getD frames i 0)
+  hearing i l = record { well-formed = accepted (r .ready .accepted) .voice; known = symbol-known v frames (r .heard) i l }
+
+  -- ---- the first frame
+
+  module _ (e : Empty b) {entries : List ℕ} (gains : EntryGains v x (getD frames 0 0) (some (pos 0)) entries) where
+    pub one-best : (n : ℕ) → 1 ≤ n → bestTokens n (hit (pos 0) 0 ∷ []) ≡ hit (pos 0) 0 ∷ []
+    unfolding rowOf insert
+    one-best zero h = absurd (omega arith)
+    one-best (suc n) h = ap (λ l. hit (pos 0) 0 ∷ l) (take-nil n)
+
+    pub root-bound : {h : Hit} → List·Memᴰ h (hit (pos 0) 0 ∷ []) → Bound (graphOf x) 0 0 h
+    unfolding wordCount
+    root-bound i = rw (only i) (record { score = omega arith; code = omega arith })
+
+    unfoldable pub root-handing : Handing x n lists counts firsts entries 0 true 0 b
+    unfolding possible impossible eqZ source
+    root-handing = record {
+      v = v;
+      k = getD frames 0 0;
+      M = 0;
+      score = some (pos 0);
+      l = hit (pos 0) 0 ∷ [];
+      Q = λ u s. [];
+      ready = r .ready;
+      roomy = r .roomy;
+      vertex = omega arith;
+      moved = pos 0;
+      score-is = refl;
+      small = omega arith;
+      gains = gains;
+      handed = refl;
+      inside = λ z. absurd (true≢false z);
+      apart = λ z. absurd (true≢false z);
+      best = one-best n (r .roomy .some);
+      bound = root-bound;
+      fits = omega arith;
+      stored = record { holds = λ p. empty-slots n _ b e ∙ held-none n; kept = λ p. none-best n };
+      above = λ p l i. absurd (not-nil i);
+    }
+
+    pub root-stored : {b′ : List ℕ} → Handed root-handing b′ → StoredAt v x frames n 0 b′
+    unfolding root-handing handedOn passRoot initialScore
+    root-stored h = stored-ext (h .stored) (λ u s p. sym (first-frame v sound-run frames n u s))
+
+-- ---- a later frame
+
+-- the nodes above m have had their turn at the frame after frame t
+pub record TurnsLeft (v x frames : List ℕ) (n t m : ℕ) (b₀ b : List ℕ) : Type 0 where
+  pub Q : Store
+  pub stored : Stored v (graphOf x) n Q b
+  pub within : Within v (graphOf x) m (65536 * suc t) Q
+  -- the turns left give what all turns give
+  pub left : passDown v (graphOf x) n (getD frames (suc t) 0) m Q
+      ≡ passDown v (graphOf x) n (getD frames (suc t) 0) (nodeCount x) (tokens v (graphOf x) frames n t)
+  pub low : m ≤ nodeCount x
+  pub long : length b ≡ length b₀
+
+module _ {v x frames : List ℕ} {n : ℕ} {lists counts firsts b₀ : List ℕ} (r : Run v x frames n lists counts firsts b₀) (t : ℕ) where
+  pub turns-start : {m : ℕ} → m ≡ nodeCount x → StoredAt v x frames n t b₀ → TurnsLeft v x frames n t m b₀ b₀
+  unfolding sink
+  turns-start e s = rw e (record {
+    Q = tokens v (graphOf x) frames n t;
+    stored = s;
+    within = record {
+      old = λ {u} {s} p l i. let B = token-bounded v (sound-run r) frames n t u s i in record { score = B .score; code = B .code };
+      new = λ p l i. absurd (omega (arith, p .high));
+    };
+    left = refl;
+    low = omega arith;
+    long = refl;
+  })
+
+  module _ (h : suc t < length frames) {loops steps entries : List ℕ} (moves : MoveGains v x (getD frames (suc t) 0) loops steps)
+      (links : EntryGains v x (getD frames (suc t) 0) (possible (linkScore v 0)) entries) {m : ℕ} {b : List ℕ} (k : 1 ≤ m) (d : TurnsLeft v x frames n t m b₀ b) where
+    unfoldable pub turn-next : Turn v x n lists counts firsts loops steps entries m b
+    turn-next = record {
+      k = getD frames (suc t) 0;
+      M = 65536 * suc t;
+      P = d .Q;
+      ready = r .ready;
+      roomy = roomy-same (d .long) (r .roomy);
+      low = k;
+      high = d .low;
+      moves = moves;
+      links = links;
+      stored = d .stored;
+      within = d .within;
+      fits = omega (arith, frame-count v frames (r .heard));
+    }
+
+    one-turn : (m : ℕ) (Q : Store) → 1 ≤ m
+        → passDown v (graphOf x) n (getD frames (suc t) 0) (m - 1) (passNode v (graphOf x) n (getD frames (suc t) 0) m Q)
+        ≡ passDown v (graphOf x) n (getD frames (suc t) 0) m Q
+    unfolding passDown
+    one-turn zero Q h = absurd (omega arith)
+    one-turn (suc m) Q h = let e : suc m - 1 ≡ m = omega arith in rw e
+
+    pub turns-next : {b′ : List ℕ} → TurnDone turn-next b′ → TurnsLeft v x frames n t (m - 1) b₀ b′
+    unfolding turn-next turned
+    turns-next e = record {
+      Q = passNode v (graphOf x) n (getD frames (suc t) 0) m (d .Q);
+      stored = e .stored;
+      within = e .within;
+      left = one-turn m (d .Q) k ∙ d .left;
+      low = omega (arith, d .low);
+      long = e .long ∙ d .long;
+    }
+
+  pub turns-done : {m : ℕ} {b : List ℕ} → m ≤ 0 → TurnsLeft v x frames n t m b₀ b → StoredAt v x frames n (suc t) b
+  unfolding passDown
+  turns-done {m} h d =
+      let z : m ≡ 0 = omega arith in
+      let e : passDown v (graphOf x) n (getD frames (suc t) 0) 0 (d .Q) ≡ passDown v (graphOf x) n (getD frames (suc t) 0) (nodeCount x) (tokens v (graphOf x) frames n t) =
+      ap (λ j. passDown v (graphOf x) n (getD frames (suc t) 0) j (d .Q)) (sym z) ∙ d .left in
+      stored-ext (d .stored) (λ u s p. sym (ap (λ (P : Store). P u s) e ∙ next-frame v (sound-run r) frames n u s t (p .low) (p .high) (p .state)))
+
+-- ---- all frames
+
+-- frames 0 to t are done
+pub record FramesDone (v x frames : List ℕ) (n t : ℕ) (b₀ b : List ℕ) : Type 0 where
+  pub stored : StoredAt v x frames n t b
+  pub low : t < length frames
+  pub long : length b ≡ length b₀
+
+pub run-same : {v x frames : List ℕ} {n : ℕ} {lists counts firsts b b′ : List ℕ} → length b′ ≡ length b → Run v x frames n lists counts firsts b
+    → Run v x frames n lists counts firsts b′
+run-same e r = record { ready = r .ready; roomy = roomy-same e (r .roomy); heard = r .heard }
+
+pub frames-end : {v x frames : List ℕ} {n t : ℕ} {b₀ b : List ℕ} → length frames ≤ t + 1 → FramesDone v x frames n t b₀ b
+    → StoredAt v x frames n (length frames - 1) b
+frames-end {frames} {t} h d = let e : length frames - 1 ≡ t = omega (arith, d .low) in rw e (d .stored)

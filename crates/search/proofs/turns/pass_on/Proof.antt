@@ -1,0 +1,130 @@
+-- `turns::pass_on` meets its contract: what is left to pass on from the store so far is what was to be passed on. The measure is what is left of
+-- the list. Assumes nothing.
+use Prim.Native.Nat.{_+_, _-_, _*_, _≤_, _<_}
+use mathlib.Core.Path.{_≡_, sym, _∙_}
+use native.Mathlib.Omega.{arith}
+use borrow.Author.Needs.{needs}
+use borrow.Author.Tests.{eqb-true, eqb-false}
+use lib.Dec.{eqb}
+use lib.ListN.{getD}
+use Rattle.checking.proofs.Arcs.{arc-next}
+use Rattle.search.specs.Stored.{source, Handing}
+use Rattle.search.proofs.Handing.{HandingLeft, source-room, vertex-few, list-of, handing-start, left-arc, successor-few, down-few, handing-next, handing-done, handing-nothing}
+use Rattle.search.proofs.turns.pass_on.Statement.{statement}
+use Rattle.search.proofs.turns.pass_on.Tie as tie
+
+abbrev Inv-loop : tie.InvT-loop
+Inv-loop lexicon n nodes lists counts firsts entries vertex root from store₀ start stop at₀ down₀ store at down =
+    (t : Handing lexicon n lists counts firsts entries vertex root from store₀) → HandingLeft t at stop down store
+
+abbrev μ-loop : tie.MeasureT-loop
+μ-loop lexicon n nodes lists counts firsts entries vertex root from store₀ start stop at₀ down₀ store at down = stop - at
+
+abbrev begin : tie.After-is-empty Inv-loop μ-loop → tie.Start Inv-loop μ-loop
+begin c = c .before .before .before .before
+
+-- whether the vertex has tokens
+tested : (c : tie.After-is-empty Inv-loop μ-loop) →
+    let a = begin c .args in c .is-empty .result ≡ eqb (getD (source (a .root) (a .n) (a .from) (a .store .now)) 0 0) 0
+tested c = c .is-empty .ensures (begin c .args .n) (begin c .pre .0 .roomy .some)
+
+returns : tie.Need-returns Inv-loop μ-loop
+returns c = λ t. handing-nothing t (eqb-true _ _ (sym (tested (c .before)) ∙ c .if1 .taken))
+
+loop-holds : tie.Need-loop-holds Inv-loop μ-loop
+loop-holds c = λ t. rw (c .number-at .ensures) (handing-start t)
+
+abbrev at-list : tie.After-number-at Inv-loop μ-loop → tie.Start Inv-loop μ-loop
+at-list c = begin (c .before .before .before)
+
+-- where the list ends
+small : (c : tie.After-number-at Inv-loop μ-loop)
+    → getD (at-list c .args .lists .now) (at-list c .args .vertex) 0 + 2 + 2 * c .number-at .result ≤ 9204
+small c = rw (c .number-at .ensures) (list-of (at-list c .pre .0) .small)
+
+abbrev start : tie.At-loop Inv-loop μ-loop → tie.Start Inv-loop μ-loop
+start l = at-list (l .before)
+
+number-at-requires-2 : tie.Need-number-at-requires-2 Inv-loop μ-loop
+number-at-requires-2 c κs =
+    let t = start (c .before) .pre .0 in
+    let i = c .before .loop .inv t in
+    omega (arith, arc-next (i .sums .arcs) (c .loop-test .taken) .room, i .sums .arcs .there)
+
+hand-over-requires : tie.Need-hand-over-requires Inv-loop μ-loop
+hand-over-requires c κs =
+    let m = c .before in
+    let l = m .before .before in
+    let t = start l .pre .0 in
+    left-arc t (l .loop .inv t) (m .before .loop-test .taken) (m .number-at2 .ensures) (start l .pre .1)
+
+-- the successor has an entry of the table
+entry : (c : tie.After-number-at2 Inv-loop μ-loop) → c .number-at2 .result ≤ 401
+entry c =
+    let l = c .before .before in
+    let t = start l .pre .0 in
+    successor-few t (l .loop .inv t) (c .before .loop-test .taken) (c .number-at2 .ensures)
+
+sum : (c : tie.After-number-at2 Inv-loop μ-loop) →
+    c .before .before .loop .down + getD (start (c .before .before) .args .counts .now) (c .number-at2 .result) 0 < 281474976710656 + 4294967296
+sum c =
+    let l = c .before .before in
+    let t = start l .pre .0 in
+    let e = l .before .before .before in
+    let f = e .if1 .left in
+    let e = e .before in
+    down-few t (l .loop .inv t) (c .before .loop-test .taken) (c .number-at2 .ensures) (eqb-false _ _ (sym (tested e) ∙ f))
+
+add-at-2 : tie.Need-add-at-2 Inv-loop μ-loop
+add-at-2 c =
+    let i = c .before .before .before .before .before .before in
+    let l = i .before in
+    let h = arc-next (l .loop .inv (start l .pre .0) .sums .arcs) (i .loop-test .taken) .room in
+    let g = small (l .before) in
+    search needs
+
+loop-again : tie.Need-loop-again Inv-loop μ-loop
+loop-again c =
+    let o = c .before .before .before in
+    let m = o .before .before in
+    let l = m .before .before in
+    let h = m .before .loop-test .taken in
+    let e = m .number-at2 .ensures in
+    let q = start l .pre .1 in
+    λ t. let i = l .loop .inv t in handing-next t i h e q (o .hand-over .ensures .0 (left-arc t i h e q)) (o .hand-over .ensures .1) (o .hand-over .kept .1 .1 .1 .1 .1 .1 .1 .1 .1 .0)
+
+same-length-2 : tie.Need-same-length-2 Inv-loop μ-loop
+same-length-2 c = c .before .loop .inv (start (c .before) .pre .0) .long
+
+returns-2 : tie.Need-returns-2 Inv-loop μ-loop
+returns-2 c = λ t. handing-done t (c .before .loop .inv t) (c .loop-test .left)
+
+pub pass-on-spec : {M : Type 1} → statement M
+pass-on-spec =
+    tie.close
+    (tie.spec
+    Inv-loop
+    μ-loop
+    (λ c κs z. source-room (c .before .before .before .pre .0) z)
+    (λ c. search needs)
+    returns
+    (λ c. let h = vertex-few (begin (c .before) .pre .0) in search needs)
+    (λ c. let h = vertex-few (begin (c .before) .pre .0) in search needs)
+    (λ c. let h = list-of (begin (c .before .before) .pre .0) .small in search needs)
+    (λ c. let h = list-of (begin (c .before .before) .pre .0) .small in search needs)
+    (λ c κs. let h = list-of (begin (c .before .before) .pre .0) .there in omega (arith, h))
+    (λ c. let h = small c in search needs)
+    (λ c. let h = small c in search needs)
+    (λ c. let h = small c in search needs)
+    loop-holds
+    number-at-requires-2
+    hand-over-requires
+    (λ c. let h = entry (c .before .before .before .before) in search needs)
+    (λ c. let h = entry (c .before .before .before .before) in search needs)
+    (λ c. let h = sum (c .before .before .before .before .before) in search needs)
+    (λ c. let h = sum (c .before .before .before .before .before) in search needs)
+    add-at-2
+    (search needs)
+    loop-again
+    same-length-2
+    returns-2)

@@ -1,0 +1,129 @@
+-- What the store holds at a node's turn, by node and state, and what the functions of a frame ask and leave. No public contract cites this.
+-- Assumes nothing.
+use Prim.Native.Nat.{ℕ, suc, _+_, _-_, _*_, _≤_, _<_}
+use mathlib.Core.Path.{_≡_}
+use mathlib.Core.Bool.{Bool, true, false}
+use mathlib.Core.List.{List, [], _∷_, List·Memᴰ}
+use mathlib.Core.Option.{Option}
+use lib.IntN.{ℤ, pos, natAbs}
+use lib.Signed.{mag}
+use lib.ListN.{length}
+use Rattle.voice.specs.Voice.{states, linkScore}
+use Rattle.lexicon.specs.Lexicon.{nodeCount, sinkOf, arcsAt, successors}
+use Rattle.graph.specs.Graph.{Graph, graphOf, sink, pathCount, wordCount}
+use Rattle.graph.specs.Conditions.{placeCount}
+use Rattle.graph.specs.Checking.{Accepted}
+use Rattle.checking.specs.Tables.{TableOf}
+use Rattle.ranking.specs.Hits.{Hit, hit}
+use Rattle.decoder.specs.Score.{possible}
+use Rattle.passing.specs.Tokens.{Store, bestTokens}
+use Rattle.passing.specs.InPlace.{passOn, passNode}
+use Rattle.search.specs.Slots.{slots, Room}
+use Rattle.search.specs.Held.{held}
+use Rattle.search.specs.Places.{firstPlace, firstSlot}
+use Rattle.search.specs.Gains.{MoveGains, EntryGains}
+
+-- accepted images, and the tables of their vertices; the first slots are those of n tokens a place
+pub record Ready (v x : List ℕ) (n : ℕ) (lists counts firsts : List ℕ) : Type 0 where
+  pub accepted : Accepted v x
+  pub lists-of : TableOf (sinkOf x) (arcsAt x) lists
+  pub counts-of : TableOf (suc (sinkOf x)) (pathCount (graphOf x)) counts
+  pub firsts-of : TableOf (sinkOf x) (firstSlot v (graphOf x) n) firsts
+
+-- n tokens a place, 1 to 8, and room for every place
+pub record Roomy (v x : List ℕ) (n : ℕ) (b : List ℕ) : Type 0 where
+  pub some : 1 ≤ n
+  pub few : n ≤ 8
+  pub room : 8 * (n * placeCount v (graphOf x)) ≤ length b
+
+-- a token at node u: its score is within M, and its code leaves room for the paths from there
+pub record Bound (g : Graph) (M u : ℕ) (h : Hit) : Type 0 where
+  pub score : natAbs (h .score) ≤ M
+  pub code : h .code + pathCount g u ≤ wordCount g
+
+-- state s of node u
+pub record Place (v : List ℕ) (g : Graph) (u s : ℕ) : Type 0 where
+  pub low : 0 < u
+  pub high : u < sink g
+  pub state : s < states v (g .letter u)
+
+-- every place holds what P says, the n best of their own
+pub record Stored (v : List ℕ) (g : Graph) (n : ℕ) (P : Store) (b : List ℕ) : Type 0 where
+  pub holds : {u s : ℕ} → Place v g u s → slots n (n * (firstPlace v g u + s)) b ≡ held n (P u s)
+  pub kept : {u s : ℕ} → Place v g u s → bestTokens n (P u s) ≡ P u s
+
+-- nodes up to m hold tokens of the frame before, within M; those above m hold tokens of this frame, within one move more
+pub record Within (v : List ℕ) (g : Graph) (m M : ℕ) (P : Store) : Type 0 where
+  pub old : {u s : ℕ} {h : Hit} → Place v g u s → u ≤ m → List·Memᴰ h (P u s) → Bound g M u h
+  pub new : {u s : ℕ} {h : Hit} → Place v g u s → m < u → List·Memᴰ h (P u s) → Bound g (M + 65536) u h
+
+-- ---- the tokens of a vertex are passed on along its arcs
+
+-- what a vertex hands on: the root its one token, which has no place, and a node those of its n slots from k on
+unfoldable pub source : Bool → ℕ → ℕ → List ℕ → List ℕ
+source true n k b = held n (hit (pos 0) 0 ∷ [])
+source false n k b = slots n k b
+
+-- vertex w, root or node, hands on the tokens l over arcs of one score, at a frame of symbol k
+pub record Handing (x : List ℕ) (n : ℕ) (lists counts firsts entries : List ℕ) (w : ℕ) (root : Bool) (from : ℕ) (b : List ℕ) : Type 0 where
+  pub v : List ℕ
+  pub k : ℕ
+  pub M : ℕ
+  pub score : Option ℤ
+  pub l : List Hit
+  pub Q : Store
+  pub ready : Ready v x n lists counts firsts
+  pub roomy : Roomy v x n b
+  pub vertex : w ≤ nodeCount x
+  pub gains : EntryGains v x k score entries
+  -- the score is a stored one
+  pub moved : ℤ
+  pub score-is : score ≡ possible moved
+  pub small : mag moved < 32768
+  pub handed : source root n from b ≡ held n l
+  -- a node's slots are in the store, and the places of later nodes are apart from them
+  pub inside : root ≡ false → Room n from b
+  pub apart : {u : ℕ} → root ≡ false → w < u → u ≤ nodeCount x → from + n ≤ firstSlot v (graphOf x) n u
+  pub best : bestTokens n l ≡ l
+  pub bound : {h : Hit} → List·Memᴰ h l → Bound (graphOf x) M w h
+  pub fits : M + 65536 ≤ 67108864
+  pub stored : Stored v (graphOf x) n Q b
+  pub above : {u s : ℕ} {h : Hit} → Place v (graphOf x) u s → w < u → List·Memᴰ h (Q u s) → Bound (graphOf x) (M + 65536) u h
+
+-- the store after it
+unfoldable pub handedOn : {x : List ℕ} {n : ℕ} {lists counts firsts entries : List ℕ} {w : ℕ} {root : Bool} {from : ℕ} {b : List ℕ}
+    → Handing x n lists counts firsts entries w root from b → Store
+handedOn {x} {n} {w = w} t = passOn (t .v) (graphOf x) n (t .k) (λ u. t .score) w (t .l) (successors x w) (t .Q)
+
+pub record Handed {x : List ℕ} {n : ℕ} {lists counts firsts entries : List ℕ} {w : ℕ} {root : Bool} {from : ℕ} {b : List ℕ}
+    (t : Handing x n lists counts firsts entries w root from b) (b′ : List ℕ) : Type 0 where
+  pub stored : Stored (t .v) (graphOf x) n (handedOn t) b′
+  pub above : {u s : ℕ} {h : Hit} → Place (t .v) (graphOf x) u s → w < u → List·Memᴰ h (handedOn t u s) → Bound (graphOf x) (t .M + 65536) u h
+  pub long : length b′ ≡ length b
+
+-- ---- a node's turn
+
+pub record Turn (v x : List ℕ) (n : ℕ) (lists counts firsts loops steps entries : List ℕ) (w : ℕ) (b : List ℕ) : Type 0 where
+  pub k : ℕ
+  pub M : ℕ
+  pub P : Store
+  pub ready : Ready v x n lists counts firsts
+  pub roomy : Roomy v x n b
+  pub low : 1 ≤ w
+  pub high : w ≤ nodeCount x
+  pub moves : MoveGains v x k loops steps
+  pub links : EntryGains v x k (possible (linkScore v 0)) entries
+  pub stored : Stored v (graphOf x) n P b
+  pub within : Within v (graphOf x) w M P
+  pub fits : M + 65536 ≤ 67108864
+
+-- the store after it
+unfoldable pub turned : {v x : List ℕ} {n : ℕ} {lists counts firsts loops steps entries : List ℕ} {w : ℕ} {b : List ℕ}
+    → Turn v x n lists counts firsts loops steps entries w b → Store
+turned {v} {x} {n} {w = w} t = passNode v (graphOf x) n (t .k) w (t .P)
+
+pub record TurnDone {v x : List ℕ} {n : ℕ} {lists counts firsts loops steps entries : List ℕ} {w : ℕ} {b : List ℕ}
+    (t : Turn v x n lists counts firsts loops steps entries w b) (b′ : List ℕ) : Type 0 where
+  pub stored : Stored v (graphOf x) n (turned t) b′
+  pub within : Within v (graphOf x) (w - 1) (t .M) (turned t)
+  pub long : length b′ ≡ length b
