@@ -93,30 +93,30 @@ moves-of {n} {l = l} w m e = rw (m .best) (record { small = w .small e; from = m
 -- ---- tokens are offered
 
 module _ {n slot gain down : ℕ} {from b : List ℕ} (t : Offering n slot gain down from b) where
-  pub hand-nothing : gain ≡ 0 → Changed slot n (held n (joined t)) b b
+  pub pass-to-nothing : gain ≡ 0 → Changed slot n (held n (joined t)) b b
   unfolding joined carried
-  hand-nothing z = record {
+  pass-to-nothing z = record {
     inside = rw (t .worth .none-is z, append-nil, t .best) (t .holds);
     outside = λ j h. refl;
   }
 
-  pub hand-ready : ¬ (gain ≡ 0) → Offer n slot (gain * 4294967296) down from b
-  hand-ready z =
+  pub pass-to-ready : ¬ (gain ≡ 0) → Offer n slot (gain * 4294967296) down from b
+  pass-to-ready z =
       let a = possible-score (t .worth) z in
       rw (up-is (t .worth) (a .1), t .down-is)
       (offer-ready n (a .0) (t .d) (t .l) (moves-of (t .worth) (t .movers) (a .1)) {s = t .s} (t .room) (t .long)
-      (t .handed ∙ ap (held n) (sym (t .movers .best))) (t .holds ∙ ap (held n) (sym (t .best))) (t .storable))
+      (t .given ∙ ap (held n) (sym (t .movers .best))) (t .holds ∙ ap (held n) (sym (t .best))) (t .storable))
 
-  pub hand-done : ¬ (gain ≡ 0) → {b′ : List ℕ} → Changed slot n (offered (gain * 4294967296) down (take n from) (slots n slot b)) b b′
+  pub pass-to-done : ¬ (gain ≡ 0) → {b′ : List ℕ} → Changed slot n (offered (gain * 4294967296) down (take n from) (slots n slot b)) b b′
       → Changed slot n (held n (joined t)) b b′
   unfolding joined carried
-  hand-done z {b′} c =
+  pass-to-done z {b′} c =
       let a = possible-score (t .worth) z in
       let sum : offered (upOf (a .0)) (downOf (t .d)) (held n (t .l)) (held n (t .s)) ≡ held n (best byCode n (t .s ++ map (shift (a .0) (t .d)) (t .l))) =
       ap₂ (λ p q. offered (upOf (a .0)) (downOf (t .d)) (held n p) (held n q)) (sym (t .movers .best)) (sym (t .best))
       ∙ offered-best n (a .0) (t .d) (t .l) (moves-of (t .worth) (t .movers) (a .1)) (t .s) (t .storable) in
       record {
-        inside = rw (a .1) (c .inside ∙ rw (up-is (t .worth) (a .1), t .down-is, t .handed, t .holds) sum);
+        inside = rw (a .1) (c .inside ∙ rw (up-is (t .worth) (a .1), t .down-is, t .given, t .holds) sum);
         outside = c .outside;
       }
 
@@ -163,15 +163,15 @@ held-take-more (suc n) zero l h = absurd (omega arith)
 held-take-more (suc n) (suc m) [] h = ap (λ r. 0 ∷ r) (held-take-more n m [] (omega arith))
 held-take-more (suc n) (suc m) (x ∷ l) h = ap (λ r. tokenOf x ∷ r) (held-take-more n m l (omega arith))
 
--- tokens handed on as a list of m
+-- tokens passed on as a list of m
 module _ {n m : ℕ} (l : List Hit) {from : List ℕ} (e : from ≡ held m l) (few : n ≤ m) where
-  pub handed-long : n ≤ length from
-  handed-long = rw (e, length-held) few
+  pub passed-long : n ≤ length from
+  passed-long = rw (e, length-held) few
 
-  pub handed-take : take n from ≡ held n l
-  handed-take = rw e (held-take-more n m l few)
+  pub passed-take : take n from ≡ held n l
+  passed-take = rw e (held-take-more n m l few)
 
--- ---- what a vertex hands on
+-- ---- what a vertex passes on
 
 root-list : 576460756598390783 ∷ 0 ∷ 0 ∷ 0 ∷ 0 ∷ 0 ∷ 0 ∷ 0 ∷ [] ≡ held 8 (hit (pos 0) 0 ∷ [])
 unfolding raised tokenOf pad
@@ -182,17 +182,17 @@ module _ {n slot gain down : ℕ} {root : Bool} (k : ℕ) {b : List ℕ} (t : Of
   module _ (e : root ≡ true) where
     same-tokens : take n (576460756598390783 ∷ 0 ∷ 0 ∷ 0 ∷ 0 ∷ 0 ∷ 0 ∷ 0 ∷ []) ≡ take n (source root n k b)
     unfolding source
-    same-tokens = handed-take (hit (pos 0) 0 ∷ []) root-list (t .room .few) ∙ rw e (sym (held-take-more n n (hit (pos 0) 0 ∷ []) (omega arith)))
+    same-tokens = passed-take (hit (pos 0) 0 ∷ []) root-list (t .room .few) ∙ rw e (sym (held-take-more n n (hit (pos 0) 0 ∷ []) (omega arith)))
 
     pub root-ready : Offer n slot (gain * 4294967296) down (576460756598390783 ∷ 0 ∷ 0 ∷ 0 ∷ 0 ∷ 0 ∷ 0 ∷ 0 ∷ []) b
     root-ready =
-        let o = hand-ready t z in
+        let o = pass-to-ready t z in
         record { room = o .room; long = t .room .few; bears = rw same-tokens (o .bears); source = rw same-tokens (o .source); target = o .target }
 
     pub root-done : {b′ : List ℕ}
         → Changed slot n (offered (gain * 4294967296) down (take n (576460756598390783 ∷ 0 ∷ 0 ∷ 0 ∷ 0 ∷ 0 ∷ 0 ∷ 0 ∷ [])) (slots n slot b)) b b′
         → Changed slot n (held n (joined t)) b b′
-    root-done c = hand-done t z (rw same-tokens at c)
+    root-done c = pass-to-done t z (rw same-tokens at c)
 
   -- the tokens of a node
   module _ (e : root ≡ false) where
@@ -201,8 +201,8 @@ module _ {n slot gain down : ℕ} {root : Bool} (k : ℕ) {b : List ℕ} (t : Of
     own-tokens = rw e
 
     pub node-ready : Offer n slot (gain * 4294967296) down (slots n k b) b
-    node-ready = rw own-tokens at (hand-ready t z)
+    node-ready = rw own-tokens at (pass-to-ready t z)
 
     pub node-done : {b′ : List ℕ} → Changed slot n (offered (gain * 4294967296) down (slots n k b) (slots n slot b)) b b′
         → Changed slot n (held n (joined t)) b b′
-    node-done c = hand-done t z (rw (own-tokens, take-slots) c)
+    node-done c = pass-to-done t z (rw (own-tokens, take-slots) c)

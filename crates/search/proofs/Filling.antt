@@ -23,18 +23,18 @@ use Rattle.voice.proofs.Scores.{letters-few, emission-there}
 use Rattle.lexicon.specs.Lexicon.{nodeCount, nodeLetter}
 use Rattle.decoder.specs.Score.{possible}
 use Rattle.search.specs.Held.{raised}
-use Rattle.search.specs.Gains.{raisedOf, raisedGain, letterPairs, pairScore, loopRaised, stepRaised, loopGain, stepGain, entryGain, linkGain, Marked, Letters, Among, InUse, Begins, LetterEntries, Entries, Filled, Gained, MoveGains, EntryGains, Hearing, AtLetter, Long}
+use Rattle.search.specs.Gains.{raisedOf, raisedGain, letterPairs, pairScore, loopRaised, stepRaised, loopGain, stepGain, entryGain, linkGain, LettersMarked, Letters, Among, InUse, Begins, LetterEntries, Entries, Filled, Gained, MoveGains, EntryGains, Hearing, AtLetter, Long}
 use Rattle.search.proofs.Gaining.{raised-below, gain-both, letter-small, letter-few, state-there, loop-score, step-score}
 use Rattle.search.proofs.Carrying.{emission-range}
 
 -- ---- the letters in use
 
-pub marks-start : {x : List ℕ} {marks : List Bool} → length marks ≡ 64 → Marked x 0 marks
+pub marks-start : {x : List ℕ} {marks : List Bool} → length marks ≡ 64 → LettersMarked x 0 marks
 marks-start e = record { long = e; marked = λ u l h. absurd (omega arith) }
 
 -- the letter of the next node gets its mark
-pub marks-next : {x : List ℕ} {m : ℕ} {marks : List Bool} → getD x (2 + m) 0 < 64 → Marked x m marks
-    → Marked x (m + 1) (set marks (getD x (2 + m) 0) true)
+pub marks-next : {x : List ℕ} {m : ℕ} {marks : List Bool} → getD x (2 + m) 0 < 64 → LettersMarked x m marks
+    → LettersMarked x (m + 1) (set marks (getD x (2 + m) 0) true)
 unfolding nodeLetter
 marks-next {x} {m} {marks} h d = record {
   long = length-set marks (getD x (2 + m) 0) true ∙ d .long;
@@ -97,7 +97,7 @@ module _ {v : List ℕ} {marks : List Bool} {letter n : ℕ} {letters : List ℕ
 
 pub found-done : {v x letters : List ℕ} {marks : List Bool} {letter n : ℕ} → letterCount v ≤ 64
     → ((u : ℕ) → 1 ≤ u → u ≤ nodeCount x → nodeLetter x u < letterCount v)
-    → letterCount v ≤ letter → Marked x (nodeCount x) marks → Found v marks letter letters n → InUse v x letters n
+    → letterCount v ≤ letter → LettersMarked x (nodeCount x) marks → Found v marks letter letters n → InUse v x letters n
 found-done few known h m f = record {
   letters-of = record { long = f .long; few = omega (arith, f .few, f .inside); known = λ i k. omega (arith, f .known i k, f .inside) };
   all = λ u l k. f .all _ (omega (arith, known u l k)) (m .marked u l k);

@@ -28,7 +28,7 @@ use Rattle.voice.proofs.Scores.{letters-few, state-known, pair-there}
 use Rattle.decoder.specs.declared.score.Score.{Score}
 use Rattle.decoder.specs.Score.{meaning, possible, plus}
 use Rattle.search.specs.Held.{raised}
-use Rattle.search.specs.Gains.{raisedOf, gainOf, raisedGain, letterPairs, pairOf, pairScore, Stored, loopRaised, stepRaised, AtLetter}
+use Rattle.search.specs.Gains.{raisedOf, gainOf, raisedGain, letterPairs, pairOf, pairScore, StoredPairs, loopRaised, stepRaised, AtLetter}
 
 -- ---- the sum of two scores
 
@@ -181,7 +181,7 @@ pair-stored v s false zero = omega arith
 pair-stored v s false (suc zero) = omega arith
 pair-stored v s false (suc (suc n)) = omega arith
 
-pub pairs-stored : (v : List ℕ) (first n : ℕ) → Stored (letterPairs v first n)
+pub pairs-stored : (v : List ℕ) (first n : ℕ) → StoredPairs (letterPairs v first n)
 unfolding letterPairs
 pairs-stored v first n zero which = pair-stored v first (ltb 0 n) which
 pairs-stored v first n (suc zero) which = pair-stored v (first + 1) (ltb 1 n) which

@@ -11,7 +11,7 @@ pub mod Gaining
 pub mod Storing
 pub mod Carrying
 pub mod Filling
-pub mod Handing
+pub mod PassingOn
 pub mod Renewing
 pub mod Stretch
 pub mod Turning

@@ -32,7 +32,7 @@ use Rattle.search.specs.Carrying.{Worth, Staying, Offering, stayed, join
 use Rattle.search.proofs.Slots.{length-slots}
 use Rattle.search.proofs.Lending.{changed-apart, take-slots}
 use Rattle.search.proofs.Storing.{PutAt, same, other, put-at, block, words-few, carried-bound, bound-storable, movers}
-use Rattle.search.proofs.Carrying.{emission-range, worth-of, worth-few, hand-ready, hand-done}
+use Rattle.search.proofs.Carrying.{emission-range, worth-of, worth-few, pass-to-ready, pass-to-done}
 
 mul-next : (n a : ℕ) → n * suc a ≡ n * a + n
 mul-next n a = mul-comm n (suc a) ∙ suc-mul a n ∙ ap (λ (m : ℕ). m + n) (mul-comm a n)
@@ -192,7 +192,7 @@ module _ {n entry s : ℕ} {loops steps b : List ℕ} (t : Renewing n entry (suc
         down-is = refl;
         room = room-at here long;
         long = omega (arith, length-slots n (n * s - n) b′);
-        handed = take-slots n (n * s - n) b′ ∙ old-slots;
+        given = take-slots n (n * s - n) b′ ∙ old-slots;
         movers = movers n (t .M) (t .node) (t .node) 0 _ _ words (t .fits) (t .stored .kept (inside before)) (λ a q. step-worth .small q) (λ h i. t .bound before i) (omega arith);
         holds = c .inside;
         best = best-best hits-strict n _;
@@ -206,13 +206,13 @@ module _ {n entry s : ℕ} {loops steps b : List ℕ} (t : Renewing n entry (suc
         up = getD steps (entry + s) 0 * 4294967296
 
         pub step-ready : Offer n (n * s) up 281474976710656 (slots n (n * s - n) b′) b′
-        step-ready = hand-ready step-offering z
+        step-ready = pass-to-ready step-offering z
 
         pub step-done : {b″ : List ℕ} → Changed (n * s) n (offered up 281474976710656 (slots n (n * s - n) b′) (slots n (n * s) b′)) b′ b″
             → Own n (t .S) (renewedOne t (t .node)) b″
         unfolding joined step-offering stayed staying
         step-done {b″} d =
-            let j = hand-done step-offering z {b′ = b″} (rw (take-slots n (n * s - n) b′) d) in
+            let j = pass-to-done step-offering z {b′ = b″} (rw (take-slots n (n * s - n) b′) d) in
             done
             (record { inside = j .inside ∙ ap (held n) (best-left hits-strict n _ _); outside = λ i h. j .outside i h ∙ c .outside i h })
             renewed-is

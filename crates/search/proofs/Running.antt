@@ -33,7 +33,7 @@ use Rattle.passing.proofs.InPlace.{first-frame, next-frame}
 use Rattle.passing.proofs.Bounds.{token-bounded}
 use Rattle.search.specs.Slots.{slots}
 use Rattle.search.specs.Gains.{MoveGains, EntryGains, Hearing}
-use Rattle.search.specs.Stored.{Roomy, Bound, Stored, Within, source, Handing, handedOn, Handed, Turn, turned, TurnDone}
+use Rattle.search.specs.Stored.{Roomy, Bound, Stored, Within, source, PassingOn, passedOn, PassedOn, Turn, turned, TurnDone}
 use Rattle.search.specs.Running.{Empty, Run, StoredAt}
 use Rattle.search.proofs.Held.{held-none}
 use Rattle.search.proofs.Storing.{stored-ext}
@@ -91,9 +91,9 @@ module _ {v x frames : List ℕ} {n : ℕ} {lists counts firsts b : List ℕ} (r
     unfolding wordCount
     root-bound i = rw (only i) (record { score = omega arith; code = omega arith })
 
-    unfoldable pub root-handing : Handing x n lists counts firsts entries 0 true 0 b
+    unfoldable pub root-passing : PassingOn x n lists counts firsts entries 0 true 0 b
     unfolding possible impossible eqZ source
-    root-handing = record {
+    root-passing = record {
       v = v;
       k = getD frames 0 0;
       M = 0;
@@ -107,7 +107,7 @@ module _ {v x frames : List ℕ} {n : ℕ} {lists counts firsts b : List ℕ} (r
       score-is = refl;
       small = omega arith;
       gains = gains;
-      handed = refl;
+      given = refl;
       inside = λ z. absurd (true≢false z);
       apart = λ z. absurd (true≢false z);
       best = one-best n (r .roomy .some);
@@ -117,8 +117,8 @@ module _ {v x frames : List ℕ} {n : ℕ} {lists counts firsts b : List ℕ} (r
       above = λ p l i. absurd (not-nil i);
     }
 
-    pub root-stored : {b′ : List ℕ} → Handed root-handing b′ → StoredAt v x frames n 0 b′
-    unfolding root-handing handedOn passRoot initialScore
+    pub root-stored : {b′ : List ℕ} → PassedOn root-passing b′ → StoredAt v x frames n 0 b′
+    unfolding root-passing passedOn passRoot initialScore
     root-stored h = stored-ext (h .stored) (λ u s p. sym (first-frame v sound-run frames n u s))
 
 -- ---- a later frame

@@ -28,12 +28,12 @@ use Rattle.passing.proofs.InPlace.{renew-apart, pass-other, node-own, node-othe
 use Rattle.search.specs.Slots.{slots}
 use Rattle.search.specs.Held.{held}
 use Rattle.search.specs.Places.{firstPlace, firstSlot}
-use Rattle.search.specs.Stored.{Bound, Place, Stored, source, Handing, Handed, handedOn, Turn, TurnDone, turned}
+use Rattle.search.specs.Stored.{Bound, Place, Stored, source, PassingOn, PassedOn, passedOn, Turn, TurnDone, turned}
 use Rattle.search.specs.Carrying.{Renewal, renewal}
 use Rattle.search.proofs.Numbering.{place-end}
 use Rattle.search.proofs.Storing.{block, place-there, place-room, slot-small, carried-bound}
 use Rattle.search.proofs.Carrying.{emission-range, move-small}
-use Rattle.search.proofs.Handing.{lexicon-formed, known, letter-few, state-range, place-of, first-at}
+use Rattle.search.proofs.PassingOn.{lexicon-formed, known, letter-few, state-range, place-of, first-at}
 
 -- ---- bounds of a renewed state
 
@@ -127,9 +127,9 @@ module _ {v x : List ℕ} {n : ℕ} {lists counts firsts loops steps entries : L
   last-apart : {u : ℕ} → w < u → u ≤ nodeCount x → getD firsts w 0 + n * (count - 1) + n ≤ firstSlot v g n u
   last-apart {u} l h = rw slot-is (block n (omega (arith, count-is, count-range, place-end v g {u = w} {w = u} (t .low) l)))
 
-  pub handing : Handing x n lists counts firsts entries w false (getD firsts w 0 + n * (count - 1)) b
+  pub passing-on : PassingOn x n lists counts firsts entries w false (getD firsts w 0 + n * (count - 1)) b
   unfolding linkScore source
-  handing = record {
+  passing-on = record {
     v = v;
     k = t .k;
     M = t .M;
@@ -143,7 +143,7 @@ module _ {v x : List ℕ} {n : ℕ} {lists counts firsts loops steps entries : L
     moved = linkScore v 0;
     score-is = refl;
     small = i16-range v _;
-    handed = old-slots;
+    given = old-slots;
     inside = λ z. rw slot-is (place-room v x (t .roomy) last);
     apart = λ z l h. last-apart l h;
     best = t .stored .kept (rw last-is at last);
@@ -155,21 +155,21 @@ module _ {v x : List ℕ} {n : ℕ} {lists counts firsts loops steps entries : L
 
   -- ---- renewal
 
-  module _ {b′ : List ℕ} (H : Handed handing b′) where
+  module _ {b′ : List ℕ} (H : PassedOn passing-on b′) where
     -- no arc leads back to the node
-    own-kept : {s : ℕ} → handedOn handing w s ≡ t .P w s
-    unfolding handedOn handing
+    own-kept : {s : ℕ} → passedOn passing-on w s ≡ t .P w s
+    unfolding passedOn passing-on
     own-kept {s} =
         pass-other v g n (t .k) _ w old (g .successors w) (t .P) w s (λ i. omega (arith, sound-of (lexicon-formed (t .ready)) .rises below i))
 
     pub renewing : Renewal n (4 * letter) (getD firsts w 0) count loops steps b′
-    unfolding nodeLetter states handing
+    unfolding nodeLetter states passing-on
     renewing = record {
       v = v;
       x = x;
       k = t .k;
       M = t .M;
-      P = handedOn handing;
+      P = passedOn passing-on;
       node = w;
       accepted = t .ready .accepted;
       roomy = record { some = t .roomy .some; few = t .roomy .few; room = rw (H .long) (t .roomy .room) };
@@ -185,7 +185,7 @@ module _ {v x : List ℕ} {n : ℕ} {lists counts firsts loops steps entries : L
     }
 
     same-turn : renewal renewing ≡ turned t
-    unfolding handedOn turned handing renewing renewal passNode entryScore linkScore states nodeLetter
+    unfolding passedOn turned passing-on renewing renewal passNode entryScore linkScore states nodeLetter
     same-turn = refl
 
     -- nodes below hold what they held
@@ -204,12 +204,12 @@ module _ {v x : List ℕ} {n : ℕ} {lists counts firsts loops steps entries : L
         (λ r y m j. t .within .old (place (omega (arith, count-is))) (omega arith) j)
         (best-from hits-strict n _ h (rw (turned-own l) at i))
 
-    turned-above : {u : ℕ} (s : ℕ) → w < u → turned t u s ≡ handedOn handing u s
-    unfolding turned passNode handedOn handing entryScore linkScore
+    turned-above : {u : ℕ} (s : ℕ) → w < u → turned t u s ≡ passedOn passing-on u s
+    unfolding turned passNode passedOn passing-on entryScore linkScore
     turned-above {u} s l = renew-apart v g n (t .k) w _ _ {w = u} {r = s} (λ q. omega arith)
 
     pub turn-done : {b″ : List ℕ} → Stored (renewing .v) (graphOf (renewing .x)) n (renewal renewing) b″ → length b″ ≡ length b′ → TurnDone t b″
-    unfolding handing renewing
+    unfolding passing-on renewing
     turn-done {b″} S long = record {
       stored = rw same-turn at S;
       within = record {

@@ -19,7 +19,7 @@ use Rattle.search.specs.Slots.{slots, Room}
 use Rattle.search.specs.Held.{held, downOf, Storable}
 use Rattle.search.specs.Places.{firstSlot}
 use Rattle.search.specs.Gains.{gainOf, MoveGains}
-use Rattle.search.specs.Stored.{Roomy, Bound, Stored, Handing}
+use Rattle.search.specs.Stored.{Roomy, Bound, Stored, PassingOn}
 
 -- ---- one place
 
@@ -54,7 +54,7 @@ pub record Offering (n slot gain down : ℕ) (from b : List ℕ) : Type 0 where
   pub down-is : down ≡ downOf d
   pub room : Room n slot b
   pub long : n ≤ length from
-  pub handed : take n from ≡ held n l
+  pub given : take n from ≡ held n l
   pub movers : Movers n score d l
   pub holds : slots n slot b ≡ held n s
   pub best : bestTokens n s ≡ s
@@ -72,7 +72,7 @@ pub record Arc (x : List ℕ) (n nodes : ℕ) (firsts entries : List ℕ) (root 
   pub w : ℕ
   pub lists : List ℕ
   pub counts : List ℕ
-  pub handing : Handing x n lists counts firsts entries w root from b
+  pub passing-on : PassingOn x n lists counts firsts entries w root from b
   pub nodes-is : nodes ≡ nodeCount x
   pub arc : List·Memᴰ u (successors x w)
   pub down-is : down ≡ downOf (increment (graphOf x) w u)
@@ -80,7 +80,7 @@ pub record Arc (x : List ℕ) (n nodes : ℕ) (firsts entries : List ℕ) (root 
 unfoldable pub overOne : {x : List ℕ} {n nodes : ℕ} {firsts entries : List ℕ} {root : Bool} {from u down : ℕ} {b : List ℕ}
     → Arc x n nodes firsts entries root from u down b → Store
 overOne {x} {n} {u = u} t =
-    let h = t .handing in
+    let h = t .passing-on in
     put (h .Q) u 0 (bestTokens n (h .Q u 0 ++ overArc (h .v) (graphOf x) (h .k) (h .score) (t .w) u (h .l)))
 
 -- ---- the states of a node

@@ -46,8 +46,8 @@ unfoldable pub pairScore : List (List ℤ) → ℕ → ℕ → ℕ
 pairScore pairs s which = raisedOf (possible (getD (getD pairs s []) which (pos 0)))
 
 -- pairs of stored scores: each is within 16 bits
-abbrev pub Stored : List (List ℤ) → Type 0
-Stored pairs = (s which : ℕ) → mag (getD (getD pairs s []) which (pos 0)) < 32768
+abbrev pub StoredPairs : List (List ℤ) → Type 0
+StoredPairs pairs = (s which : ℕ) → mag (getD (getD pairs s []) which (pos 0)) < 32768
 
 -- ---- once a call
 
@@ -78,7 +78,7 @@ linkGain v k link l = raisedGain link (raisedOf (possible (emission v (firstStat
 -- ---- the letters in use
 
 -- the letters of the nodes up to m have a mark
-pub record Marked (x : List ℕ) (m : ℕ) (marks : List Bool) : Type 0 where
+pub record LettersMarked (x : List ℕ) (m : ℕ) (marks : List Bool) : Type 0 where
   pub long : length marks ≡ 64
   pub marked : (u : ℕ) → 1 ≤ u → u ≤ m → getD marks (nodeLetter x u) false ≡ true
 

@@ -59,13 +59,13 @@ pub record Within (v : List ℕ) (g : Graph) (m M : ℕ) (P : Store) : Type 0 wh
 
 -- ---- the tokens of a vertex are passed on along its arcs
 
--- what a vertex hands on: the root its one token, which has no place, and a node those of its n slots from k on
+-- what a vertex passes on: the root its one token, which has no place, and a node those of its n slots from k on
 unfoldable pub source : Bool → ℕ → ℕ → List ℕ → List ℕ
 source true n k b = held n (hit (pos 0) 0 ∷ [])
 source false n k b = slots n k b
 
--- vertex w, root or node, hands on the tokens l over arcs of one score, at a frame of symbol k
-pub record Handing (x : List ℕ) (n : ℕ) (lists counts firsts entries : List ℕ) (w : ℕ) (root : Bool) (from : ℕ) (b : List ℕ) : Type 0 where
+-- vertex w, root or node, passes on the tokens l over arcs of one score, at a frame of symbol k
+pub record PassingOn (x : List ℕ) (n : ℕ) (lists counts firsts entries : List ℕ) (w : ℕ) (root : Bool) (from : ℕ) (b : List ℕ) : Type 0 where
   pub v : List ℕ
   pub k : ℕ
   pub M : ℕ
@@ -80,7 +80,7 @@ pub record Handing (x : List ℕ) (n : ℕ) (lists counts firsts entries : List 
   pub moved : ℤ
   pub score-is : score ≡ possible moved
   pub small : mag moved < 32768
-  pub handed : source root n from b ≡ held n l
+  pub given : source root n from b ≡ held n l
   -- a node's slots are in the store, and the places of later nodes are apart from them
   pub inside : root ≡ false → Room n from b
   pub apart : {u : ℕ} → root ≡ false → w < u → u ≤ nodeCount x → from + n ≤ firstSlot v (graphOf x) n u
@@ -91,14 +91,14 @@ pub record Handing (x : List ℕ) (n : ℕ) (lists counts firsts entries : List 
   pub above : {u s : ℕ} {h : Hit} → Place v (graphOf x) u s → w < u → List·Memᴰ h (Q u s) → Bound (graphOf x) (M + 65536) u h
 
 -- the store after it
-unfoldable pub handedOn : {x : List ℕ} {n : ℕ} {lists counts firsts entries : List ℕ} {w : ℕ} {root : Bool} {from : ℕ} {b : List ℕ}
-    → Handing x n lists counts firsts entries w root from b → Store
-handedOn {x} {n} {w = w} t = passOn (t .v) (graphOf x) n (t .k) (λ u. t .score) w (t .l) (successors x w) (t .Q)
+unfoldable pub passedOn : {x : List ℕ} {n : ℕ} {lists counts firsts entries : List ℕ} {w : ℕ} {root : Bool} {from : ℕ} {b : List ℕ}
+    → PassingOn x n lists counts firsts entries w root from b → Store
+passedOn {x} {n} {w = w} t = passOn (t .v) (graphOf x) n (t .k) (λ u. t .score) w (t .l) (successors x w) (t .Q)
 
-pub record Handed {x : List ℕ} {n : ℕ} {lists counts firsts entries : List ℕ} {w : ℕ} {root : Bool} {from : ℕ} {b : List ℕ}
-    (t : Handing x n lists counts firsts entries w root from b) (b′ : List ℕ) : Type 0 where
-  pub stored : Stored (t .v) (graphOf x) n (handedOn t) b′
-  pub above : {u s : ℕ} {h : Hit} → Place (t .v) (graphOf x) u s → w < u → List·Memᴰ h (handedOn t u s) → Bound (graphOf x) (t .M + 65536) u h
+pub record PassedOn {x : List ℕ} {n : ℕ} {lists counts firsts entries : List ℕ} {w : ℕ} {root : Bool} {from : ℕ} {b : List ℕ}
+    (t : PassingOn x n lists counts firsts entries w root from b) (b′ : List ℕ) : Type 0 where
+  pub stored : Stored (t .v) (graphOf x) n (passedOn t) b′
+  pub above : {u s : ℕ} {h : Hit} → Place (t .v) (graphOf x) u s → w < u → List·Memᴰ h (passedOn t u s) → Bound (graphOf x) (t .M + 65536) u h
   pub long : length b′ ≡ length b
 
 -- ---- a node's turn

@@ -205,7 +205,7 @@ fn later_frames(
     }
 }
 
-// All frames, with the tables of the letters in use at hand.
+// All frames, with the tables of the letters in use made.
 fn run_frames(
     voice: &[u8],
     lexicon: &[u8],

@@ -11,7 +11,7 @@ ghost use Rattle.voice.specs.Voice.{letterCount, linkScore, stateCount, symbols
 ghost use Rattle.lexicon.specs.Lexicon.{nodeCount, nodeLetter, lexiconVerdict};
 ghost use Rattle.checking.specs.Tables.{WellFormed};
 ghost use Rattle.decoder.specs.Score.{possible};
-ghost use Rattle.search.specs.Gains.{raisedOf, letterPairs, pairScore, Stored, loopRaised, stepRaised, Marked, Letters, InUse, Begins, Entries, Filled, AtLetter};
+ghost use Rattle.search.specs.Gains.{raisedOf, letterPairs, pairScore, StoredPairs, loopRaised, stepRaised, LettersMarked, Letters, InUse, Begins, Entries, Filled, AtLetter};
 use decoder::score::STORED_IMPOSSIBLE;
 use decoder::score::Score;
 use endian::i16_of;
@@ -36,7 +36,7 @@ pub(crate) fn raise(stored: i16) -> u32
 // The move scorer: of one letter's pairs, the raised loop (0) or step (1) of a state.
 fn move_score(pairs: [[i16; 2]; 4], state: usize, which: usize) -> u32
     requires { ⌜ (state < 4) × (which < 2) ⌝ }
-    requires { ⌜ Stored pairs ⌝ }
+    requires { ⌜ StoredPairs pairs ⌝ }
     ensures { λ r. ⌜ r ≡ pairScore pairs state which ⌝ }
 {
     raise(pairs[state][which])
@@ -95,8 +95,8 @@ pub(crate) fn link_score(voice: &[u8]) -> i16
 // Marks each letter that some node has.
 fn mark_letters(lexicon: &[u8], marks: &mut [bool; 64])
     requires { ⌜ WellFormed (now lexicon) × ((u : ℕ) → 1 ≤ u → u ≤ nodeCount (now lexicon) → nodeLetter (now lexicon) u < 64) ⌝ }
-    requires { ⌜ Marked (now lexicon) 0 (now marks) ⌝ }
-    ensures { λ _. ⌜ Marked (now (lexicon .entry)) (nodeCount (now (lexicon .entry))) (now (marks .exit)) ⌝ }
+    requires { ⌜ LettersMarked (now lexicon) 0 (now marks) ⌝ }
+    ensures { λ _. ⌜ LettersMarked (now (lexicon .entry)) (nodeCount (now (lexicon .entry))) (now (marks .exit)) ⌝ }
 {
     let nodes = u16_at(lexicon, 0) as usize;
     let mut node = 0;
@@ -153,7 +153,7 @@ fn state_scores(
     stepping: &mut [u32; 256],
 )
     requires { ⌜ (state < 4) × (entry < 256) ⌝ }
-    requires { ⌜ Stored pairs ⌝ }
+    requires { ⌜ StoredPairs pairs ⌝ }
     ensures { λ _. ⌜ now (looping .exit) ≡ set (now (looping .entry)) entry (pairScore pairs state 0) ⌝ }
     ensures { λ _. ⌜ (state ≡ 0 → now (stepping .exit) ≡ now (stepping .entry)) ⌝ }
     ensures { λ _. ⌜ ((s : ℕ) → state ≡ suc s → now (stepping .exit) ≡ set (now (stepping .entry)) entry (pairScore pairs s 1)) ⌝ }

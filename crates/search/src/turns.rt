@@ -10,7 +10,7 @@ ghost use Rattle.lexicon.specs.Lexicon.{nodeCount};
 ghost use Rattle.graph.specs.Graph.{graphOf};
 ghost use Rattle.search.specs.Slots.{Changed};
 ghost use Rattle.search.specs.Held.{held};
-ghost use Rattle.search.specs.Stored.{Stored, source, Handing, Handed, Turn, TurnDone};
+ghost use Rattle.search.specs.Stored.{Stored, source, PassingOn, PassedOn, Turn, TurnDone};
 ghost use Rattle.search.specs.Carrying.{Staying, Offering, Arc, Own, Renewing, Renewal, stayed, joined, overOne, renewedOne, renewedAll, renewal};
 use crate::parts::clear_at;
 use crate::parts::offer_at;
@@ -32,7 +32,7 @@ fn number_at(lexicon: &[u8], at: usize) -> usize
 }
 
 // Offers the tokens of a vertex to a place, unless the move is impossible: the root's, which has no place of its own, or those of an earlier place.
-fn hand(store: &mut [u8], n: usize, root: bool, from: usize, slot: usize, gain: u32, down: u64)
+fn pass_to(store: &mut [u8], n: usize, root: bool, from: usize, slot: usize, gain: u32, down: u64)
     requires { ⌜ Offering n slot gain down (source root n from (now store)) (now store) × (root ≡ false → from + n ≤ slot) ⌝ }
     ensures { λ _. ⌜ ((t : Offering n slot gain down (source root n from (now (store .entry))) (now (store .entry))) → Changed slot n (held n (joined t)) (now (store .entry)) (now (store .exit))) ⌝ }
 {
@@ -48,8 +48,8 @@ fn hand(store: &mut [u8], n: usize, root: bool, from: usize, slot: usize, gain: 
     offer_from(store, n, from, slot, up, down);
 }
 
-// Hands the tokens on over one arc, to node t; the sink has no place.
-fn hand_over(
+// Passes the tokens on over one arc, to node t; the sink has no place.
+fn pass_over(
     lexicon: &[u8],
     n: usize,
     nodes: usize,
@@ -62,14 +62,14 @@ fn hand_over(
     store: &mut [u8],
 )
     requires { ⌜ Arc (now lexicon) n nodes (now firsts) (now entries) root from t down (now store) ⌝ }
-    ensures { λ _. ⌜ ((a : Arc (now (lexicon .entry)) n nodes (now (firsts .entry)) (now (entries .entry)) root from t down (now (store .entry))) → Stored (a .handing .v) (graphOf (now (lexicon .entry))) n (overOne a) (now (store .exit))) ⌝ }
+    ensures { λ _. ⌜ ((a : Arc (now (lexicon .entry)) n nodes (now (firsts .entry)) (now (entries .entry)) root from t down (now (store .entry))) → Stored (a .passing-on .v) (graphOf (now (lexicon .entry))) n (overOne a) (now (store .exit))) ⌝ }
     ensures { λ _. ⌜ source root n from (now (store .exit)) ≡ source root n from (now (store .entry)) ⌝ }
 {
     if nodes < t {
         return;
     }
     let gain = entries[lexicon[1 + t] as usize];
-    hand(store, n, root, from, firsts[t] as usize, gain, down);
+    pass_to(store, n, root, from, firsts[t] as usize, gain, down);
 }
 
 // A vertex without tokens; the root has one.
@@ -97,9 +97,9 @@ pub(crate) fn pass_on(
     from: usize,
     store: &mut [u8],
 )
-    requires { ⌜ Handing (now lexicon) n (now lists) (now counts) (now firsts) (now entries) vertex root from (now store) ⌝ }
+    requires { ⌜ PassingOn (now lexicon) n (now lists) (now counts) (now firsts) (now entries) vertex root from (now store) ⌝ }
     requires { ⌜ nodes ≡ nodeCount (now lexicon) ⌝ }
-    ensures { λ _. ⌜ ((t : Handing (now (lexicon .entry)) n (now (lists .entry)) (now (counts .entry)) (now (firsts .entry)) (now (entries .entry)) vertex root from (now (store .entry))) → Handed t (now (store .exit))) ⌝ }
+    ensures { λ _. ⌜ ((t : PassingOn (now (lexicon .entry)) n (now (lists .entry)) (now (counts .entry)) (now (firsts .entry)) (now (entries .entry)) vertex root from (now (store .entry))) → PassedOn t (now (store .exit))) ⌝ }
 {
     if is_empty(&store[..], root, from) {
         return;
@@ -110,7 +110,7 @@ pub(crate) fn pass_on(
     let mut down = LIFT;
     while at < stop {
         let t = number_at(lexicon, at);
-        hand_over(
+        pass_over(
             lexicon,
             n,
             nodes,

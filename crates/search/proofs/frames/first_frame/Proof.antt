@@ -8,7 +8,7 @@ use Rattle.voice.proofs.Scores.{symbols-few}
 use Rattle.lexicon.specs.Lexicon.{nodeCount}
 use Rattle.search.specs.Gains.{EntryGains, Hearing}
 use Rattle.search.proofs.Filling.{gained-long, root-gains}
-use Rattle.search.proofs.Running.{frame-count, hearing, root-handing, root-stored}
+use Rattle.search.proofs.Running.{frame-count, hearing, root-passing, root-stored}
 use Rattle.search.proofs.frames.first_frame.Statement.{statement}
 use Rattle.search.proofs.frames.first_frame.Tie as tie
 
@@ -35,14 +35,14 @@ pass-on-requires c κs =
     let u = c .before .before in
     let g = u .before in
     let p = start g .pre in
-    (root-handing (p .0) (p .1 .0) (gains g), u .u16-at .ensures)
+    (root-passing (p .0) (p .1 .0) (gains g), u .u16-at .ensures)
 
 returns : tie.Need-returns
 returns c =
     let m = c .before .before in
     let g = m .before .before .before .before in
     let p = start g .pre in
-    (root-stored (p .0) (p .1 .0) (gains g) (m .pass-on .ensures (root-handing (p .0) (p .1 .0) (gains g))), gained-long (g .frame-gains .ensures))
+    (root-stored (p .0) (p .1 .0) (gains g) (m .pass-on .ensures (root-passing (p .0) (p .1 .0) (gains g))), gained-long (g .frame-gains .ensures))
 
 shared-slice-read-symbol : tie.Need-shared-slice-read-symbol
 shared-slice-read-symbol c = let h = frame-count _ _ (c .before .before .before .before .before .pre .0 .heard) in search needs

@@ -7,13 +7,13 @@ use borrow.Author.Needs.{needs}
 use lib.ListN.{length, getD}
 use Rattle.lexicon.specs.Lexicon.{nodeCount, nodeLetter}
 use Rattle.checking.proofs.Arcs.{shape-of, nodes-there}
-use Rattle.search.specs.Gains.{Marked}
+use Rattle.search.specs.Gains.{LettersMarked}
 use Rattle.search.proofs.Filling.{marks-next}
 use Rattle.search.proofs.scores.mark_letters.Statement.{statement}
 use Rattle.search.proofs.scores.mark_letters.Tie as tie
 
 abbrev Inv-loop : tie.InvT-loop
-Inv-loop lexicon marks₀ nodes node₀ marks node = Marked lexicon node marks × (node ≤ nodes)
+Inv-loop lexicon marks₀ nodes node₀ marks node = LettersMarked lexicon node marks × (node ≤ nodes)
 
 abbrev μ-loop : tie.MeasureT-loop
 μ-loop lexicon marks₀ nodes node₀ marks node = nodes - node

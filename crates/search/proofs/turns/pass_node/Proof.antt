@@ -1,6 +1,6 @@
 -- `turns::pass_node` meets its contract: the node's last tokens are passed on, and then its states are renewed. Assumes nothing.
 use borrow.Author.Needs.{needs}
-use Rattle.search.proofs.Turning.{node-there, node-few, letter-small, letter-there, count-range, slot-few, renewing, handing, turn-done}
+use Rattle.search.proofs.Turning.{node-there, node-few, letter-small, letter-there, count-range, slot-few, renewing, passing-on, turn-done}
 use Rattle.search.proofs.turns.pass_node.Statement.{statement}
 use Rattle.search.proofs.turns.pass_node.Tie as tie
 
@@ -11,19 +11,19 @@ abbrev at-last : tie.After-first → tie.Start
 at-last c = start (c .before .before)
 
 pass-on-requires : tie.Need-pass-on-requires
-pass-on-requires c κs = let p = at-last (c .before) .pre in (handing (p .0), p .1)
+pass-on-requires c κs = let p = at-last (c .before) .pre in (passing-on (p .0), p .1)
 
 renew-node-requires : tie.Need-renew-node-requires
 renew-node-requires c κs =
     let o = c .before .before .before in
     let t = at-last (o .before .before) .pre .0 in
-    renewing t (o .pass-on .ensures (handing t))
+    renewing t (o .pass-on .ensures (passing-on t))
 
 returns : tie.Need-returns
 returns c =
     let r = c .before .before in
     let o = r .before .before .before .before in
-    λ t. let H = o .pass-on .ensures (handing t) in turn-done t H (r .renew-node .ensures (renewing t H)) (r .renew-node .kept .0)
+    λ t. let H = o .pass-on .ensures (passing-on t) in turn-done t H (r .renew-node .ensures (renewing t H)) (r .renew-node .kept .0)
 
 pub pass-node-spec : {M : Type 1} → statement M
 pass-node-spec =

@@ -8,14 +8,14 @@ use borrow.Author.Tests.{eqb-true, eqb-false}
 use lib.Dec.{eqb}
 use lib.ListN.{getD}
 use Rattle.checking.proofs.Arcs.{arc-next}
-use Rattle.search.specs.Stored.{source, Handing}
-use Rattle.search.proofs.Handing.{HandingLeft, source-room, vertex-few, list-of, handing-start, left-arc, successor-few, down-few, handing-next, handing-done, handing-nothing}
+use Rattle.search.specs.Stored.{source, PassingOn}
+use Rattle.search.proofs.PassingOn.{PassingLeft, source-room, vertex-few, list-of, passing-start, left-arc, successor-few, down-few, passing-next, passing-done, passing-nothing}
 use Rattle.search.proofs.turns.pass_on.Statement.{statement}
 use Rattle.search.proofs.turns.pass_on.Tie as tie
 
 abbrev Inv-loop : tie.InvT-loop
 Inv-loop lexicon n nodes lists counts firsts entries vertex root from store₀ start stop at₀ down₀ store at down =
-    (t : Handing lexicon n lists counts firsts entries vertex root from store₀) → HandingLeft t at stop down store
+    (t : PassingOn lexicon n lists counts firsts entries vertex root from store₀) → PassingLeft t at stop down store
 
 abbrev μ-loop : tie.MeasureT-loop
 μ-loop lexicon n nodes lists counts firsts entries vertex root from store₀ start stop at₀ down₀ store at down = stop - at
@@ -29,10 +29,10 @@ tested : (c : tie.After-is-empty Inv-loop μ-loop) →
 tested c = c .is-empty .ensures (begin c .args .n) (begin c .pre .0 .roomy .some)
 
 returns : tie.Need-returns Inv-loop μ-loop
-returns c = λ t. handing-nothing t (eqb-true _ _ (sym (tested (c .before)) ∙ c .if1 .taken))
+returns c = λ t. passing-nothing t (eqb-true _ _ (sym (tested (c .before)) ∙ c .if1 .taken))
 
 loop-holds : tie.Need-loop-holds Inv-loop μ-loop
-loop-holds c = λ t. rw (c .number-at .ensures) (handing-start t)
+loop-holds c = λ t. rw (c .number-at .ensures) (passing-start t)
 
 abbrev at-list : tie.After-number-at Inv-loop μ-loop → tie.Start Inv-loop μ-loop
 at-list c = begin (c .before .before .before)
@@ -51,8 +51,8 @@ number-at-requires-2 c κs =
     let i = c .before .loop .inv t in
     omega (arith, arc-next (i .sums .arcs) (c .loop-test .taken) .room, i .sums .arcs .there)
 
-hand-over-requires : tie.Need-hand-over-requires Inv-loop μ-loop
-hand-over-requires c κs =
+pass-over-requires : tie.Need-pass-over-requires Inv-loop μ-loop
+pass-over-requires c κs =
     let m = c .before in
     let l = m .before .before in
     let t = start l .pre .0 in
@@ -91,13 +91,13 @@ loop-again c =
     let h = m .before .loop-test .taken in
     let e = m .number-at2 .ensures in
     let q = start l .pre .1 in
-    λ t. let i = l .loop .inv t in handing-next t i h e q (o .hand-over .ensures .0 (left-arc t i h e q)) (o .hand-over .ensures .1) (o .hand-over .kept .1 .1 .1 .1 .1 .1 .1 .1 .1 .0)
+    λ t. let i = l .loop .inv t in passing-next t i h e q (o .pass-over .ensures .0 (left-arc t i h e q)) (o .pass-over .ensures .1) (o .pass-over .kept .1 .1 .1 .1 .1 .1 .1 .1 .1 .0)
 
 same-length-2 : tie.Need-same-length-2 Inv-loop μ-loop
 same-length-2 c = c .before .loop .inv (start (c .before) .pre .0) .long
 
 returns-2 : tie.Need-returns-2 Inv-loop μ-loop
-returns-2 c = λ t. handing-done t (c .before .loop .inv t) (c .loop-test .left)
+returns-2 c = λ t. passing-done t (c .before .loop .inv t) (c .loop-test .left)
 
 pub pass-on-spec : {M : Type 1} → statement M
 pass-on-spec =
@@ -118,7 +118,7 @@ pass-on-spec =
     (λ c. let h = small c in search needs)
     loop-holds
     number-at-requires-2
-    hand-over-requires
+    pass-over-requires
     (λ c. let h = entry (c .before .before .before .before) in search needs)
     (λ c. let h = entry (c .before .before .before .before) in search needs)
     (λ c. let h = sum (c .before .before .before .before .before) in search needs)

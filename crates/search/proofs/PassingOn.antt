@@ -1,4 +1,4 @@
--- Tokens handed on along the arcs of a vertex: one arc, and the loop over all. What is left to pass on from the store so far is what was to be
+-- Tokens passed on along the arcs of a vertex: one arc, and the loop over all. What is left to pass on from the store so far is what was to be
 -- passed on from the store at the beginning; the increment of the next arc is the sum of the counts before it. Assumes nothing.
 use Prim.Native.Nat.{ℕ, zero, suc, _+_, _*_, _^_, _≤_, _<_}
 use mathlib.Core.Path.{_≡_, refl, sym, ap, _∙_}
@@ -32,12 +32,12 @@ use Rattle.search.specs.Slots.{Changed}
 use Rattle.search.specs.Held.{held, pad, downOf}
 use Rattle.search.specs.Gains.{entryGain}
 use Rattle.search.specs.Places.{firstPlace, firstSlot}
-use Rattle.search.specs.Stored.{Ready, Bound, Place, Stored, source, Handing, Handed, handedOn}
+use Rattle.search.specs.Stored.{Ready, Bound, Place, Stored, source, PassingOn, PassedOn, passedOn}
 use Rattle.search.specs.Carrying.{Worth, Offering, joined, Arc, overOne}
 use Rattle.search.proofs.Numbers.{token-some}
 use Rattle.search.proofs.Lending.{changed-apart}
 use Rattle.search.proofs.Storing.{PutAt, same, other, put-at, stored-put, stored-ext, pass-nothing, words-few, place-there, place-room, slot-small, carried-bound, bound-storable, movers}
-use Rattle.search.proofs.Carrying.{emission-range, worth-by, handed-long, handed-take}
+use Rattle.search.proofs.Carrying.{emission-range, worth-by, passed-long, passed-take}
 
 -- ---- what is accepted
 
@@ -76,7 +76,7 @@ pub record ArcRead (x firsts entries : List ℕ) (u : ℕ) : Type 0 where
   pub few : u ≤ 400
   pub slot : getD firsts u 0 ≤ 8000
 
--- what is handed on stays where another place changes
+-- what is passed on stays where another place changes
 source-apart : (root : Bool) (n k : ℕ) {slot : ℕ} {l b b′ : List ℕ} → (root ≡ false → k + n ≤ slot) → Changed slot n l b b′
     → source root n k b′ ≡ source root n k b
 unfolding source
@@ -88,8 +88,8 @@ module _ {x : List ℕ} {n nodes : ℕ} {firsts entries : List ℕ} {root : Bool
   abbrev w : ℕ
   w = t .w
 
-  abbrev h : Handing x n (t .lists) (t .counts) firsts entries w root from b
-  h = t .handing
+  abbrev h : PassingOn x n (t .lists) (t .counts) firsts entries w root from b
+  h = t .passing-on
 
   abbrev g : Graph
   g = graphOf x
@@ -143,8 +143,8 @@ module _ {x : List ℕ} {n nodes : ℕ} {firsts entries : List ℕ} {root : Bool
       worth = worth k;
       down-is = t .down-is;
       room = rw slot-is (place-room (h .v) x (h .roomy) place);
-      long = handed-long (h .l) (h .handed) (omega arith);
-      handed = handed-take (h .l) (h .handed) (omega arith);
+      long = passed-long (h .l) (h .given) (omega arith);
+      given = passed-take (h .l) (h .given) (omega arith);
       movers = movers n (h .M) (w) u _ _ (h .l) words (h .fits) (h .best) (λ a e. worth k .small e) (λ y i. h .bound i) gap;
       holds = rw slot-is (h .stored .holds place);
       best = h .stored .kept place;
@@ -185,9 +185,9 @@ module _ {x : List ℕ} {n nodes : ℕ} {firsts entries : List ℕ} {root : Bool
 -- ---- all arcs
 
 module _ {x : List ℕ} {n : ℕ} {lists counts firsts entries : List ℕ} {w : ℕ} {root : Bool} {from : ℕ} {b₀ : List ℕ}
-    (t : Handing x n lists counts firsts entries w root from b₀) where
+    (t : PassingOn x n lists counts firsts entries w root from b₀) where
   -- Q is the store when the arcs to the earlier successors are done
-  pub record HandingLeft (at stop down : ℕ) (b : List ℕ) : Type 0 where
+  pub record PassingLeft (at stop down : ℕ) (b : List ℕ) : Type 0 where
     pub Q : Store
     pub total : ℕ
     pub sums : CountsPassed x w at stop total
@@ -196,12 +196,12 @@ module _ {x : List ℕ} {n : ℕ} {lists counts firsts entries : List ℕ} {w : 
     pub above : {u s : ℕ} {y : Hit} → Place (t .v) (graphOf x) u s → w < u → List·Memᴰ y (Q u s) → Bound (graphOf x) (t .M + 65536) u y
     pub long : length b ≡ length b₀
     pub source-kept : source root n from b ≡ source root n from b₀
-    pub passed : passOn (t .v) (graphOf x) n (t .k) (λ u. t .score) w (t .l) (sums .later) Q ≡ handedOn t
+    pub passed : passOn (t .v) (graphOf x) n (t .k) (λ u. t .score) w (t .l) (sums .later) Q ≡ passedOn t
 
-  -- some token is handed on, so that the paths from w are among all
+  -- some token is passed on, so that the paths from w are among all
   some-words : ¬ (getD (source root n from b₀) 0 0 ≡ 0) → pathCount (graphOf x) w ≤ wordCount (graphOf x)
   unfolding pad
-  some-words z = go n (t .l) (t .handed) (λ y i. t .bound i)
+  some-words z = go n (t .l) (t .given) (λ y i. t .bound i)
     where
       go : (m : ℕ) (l : List Hit) → source root n from b₀ ≡ held m l → ((y : Hit) → List·Memᴰ y l → Bound (graphOf x) (t .M) w y)
           → pathCount (graphOf x) w ≤ wordCount (graphOf x)
@@ -225,9 +225,9 @@ module _ {x : List ℕ} {n : ℕ} {lists counts firsts entries : List ℕ} {w : 
   pub list-of : ListThere x (getD lists w 0)
   list-of = list-at listed (t .vertex)
 
-  pub handing-start : HandingLeft (getD lists w 0 + 2) (getD lists w 0 + 2 + 2 * u16 x (getD lists w 0)) 281474976710656 b₀
-  unfolding downOf handedOn counts-start
-  handing-start = record {
+  pub passing-start : PassingLeft (getD lists w 0 + 2) (getD lists w 0 + 2 + 2 * u16 x (getD lists w 0)) 281474976710656 b₀
+  unfolding downOf passedOn counts-start
+  passing-start = record {
     Q = t .Q;
     total = 0;
     sums = counts-start formed (t .vertex) (list-entry listed (t .vertex));
@@ -239,8 +239,8 @@ module _ {x : List ℕ} {n : ℕ} {lists counts firsts entries : List ℕ} {w : 
     passed = refl;
   }
 
-  module _ {at stop down : ℕ} {b : List ℕ} (L : HandingLeft at stop down b) where
-    so-far : Handing x n lists counts firsts entries w root from b
+  module _ {at stop down : ℕ} {b : List ℕ} (L : PassingLeft at stop down b) where
+    so-far : PassingOn x n lists counts firsts entries w root from b
     so-far = record {
       v = t .v;
       k = t .k;
@@ -255,7 +255,7 @@ module _ {x : List ℕ} {n : ℕ} {lists counts firsts entries : List ℕ} {w : 
       moved = t .moved;
       score-is = t .score-is;
       small = t .small;
-      handed = L .source-kept ∙ t .handed;
+      given = L .source-kept ∙ t .given;
       inside = λ z. let r = t .inside z in record { some = r .some; few = r .few; room = rw (L .long) (r .room) };
       apart = t .apart;
       best = t .best;
@@ -277,7 +277,7 @@ module _ {x : List ℕ} {n : ℕ} {lists counts firsts entries : List ℕ} {w : 
         w = w;
         lists = lists;
         counts = counts;
-        handing = so-far;
+        passing-on = so-far;
         nodes-is = q;
         arc = in-list;
         down-is = rw e (L .down-is ∙ ap downOf (increment-here formed (t .vertex) (L .sums) next));
@@ -296,11 +296,11 @@ module _ {x : List ℕ} {n : ℕ} {lists counts firsts entries : List ℕ} {w : 
       down-few z =
           omega (arith, L .down-is, count-is, counts-below formed (t .vertex) (L .sums) next, some-words z, words-few (t .v) x (t .ready .accepted))
 
-      pub handing-next : {nodes : ℕ} (q : nodes ≡ nodeCount x) {b′ : List ℕ} → Stored (left-arc q .handing .v) (graphOf x) n (overOne (left-arc q)) b′
+      pub passing-next : {nodes : ℕ} (q : nodes ≡ nodeCount x) {b′ : List ℕ} → Stored (left-arc q .passing-on .v) (graphOf x) n (overOne (left-arc q)) b′
           → source root n from b′ ≡ source root n from b → length b′ ≡ length b
-          → HandingLeft (at + 2) stop (down + getD counts u 0) b′
+          → PassingLeft (at + 2) stop (down + getD counts u 0) b′
       unfolding passOn overOne downOf left-arc so-far counts-next
-      handing-next q S f l = record {
+      passing-next q S f l = record {
         Q = overOne (left-arc q);
         total = L .total + pathCount (graphOf x) (u16 x at);
         sums = counts-next formed (t .vertex) (L .sums) next;
@@ -312,10 +312,10 @@ module _ {x : List ℕ} {n : ℕ} {lists counts firsts entries : List ℕ} {w : 
         passed = rw (next .split, ← e) at (L .passed);
       }
 
-    pub handing-done : stop ≤ at → Handed t b
+    pub passing-done : stop ≤ at → PassedOn t b
     unfolding passOn
-    handing-done end =
-        let e : L .Q ≡ handedOn t = rw (arcs-done (L .sums .arcs) end) at (L .passed) in
+    passing-done end =
+        let e : L .Q ≡ passedOn t = rw (arcs-done (L .sums .arcs) end) at (L .passed) in
         record { stored = rw e at (L .stored); above = λ {u} {s} p l i. L .above p l (rw (sym (ap (λ (P : Store). P u s) e)) at i); long = L .long }
 
   no-tokens : (m : ℕ) (l : List Hit) → 1 ≤ m → source root n from b₀ ≡ held m l → ((y : Hit) → List·Memᴰ y l → Bound (graphOf x) (t .M) w y)
@@ -329,16 +329,16 @@ module _ {x : List ℕ} {n : ℕ} {lists counts firsts entries : List ℕ} {w : 
       absurd (omega (arith, token-some y s))
 
   -- nothing is passed on
-  pub handing-nothing : getD (source root n from b₀) 0 0 ≡ 0 → Handed t b₀
-  unfolding handedOn
-  handing-nothing z = record {
+  pub passing-nothing : getD (source root n from b₀) 0 0 ≡ 0 → PassedOn t b₀
+  unfolding passedOn
+  passing-nothing z = record {
     stored = stored-ext (t .stored) (λ u s p. nothing p);
     above = λ p l i. t .above p l (rw (nothing p) at i);
     long = refl;
   }
     where
       e : t .l ≡ []
-      e = no-tokens n (t .l) (t .roomy .some) (t .handed) (λ y i. t .bound i) z
+      e = no-tokens n (t .l) (t .roomy .some) (t .given) (λ y i. t .bound i) z
 
       nothing : {u s : ℕ} → Place (t .v) (graphOf x) u s
           → passOn (t .v) (graphOf x) n (t .k) (λ u. t .score) w (t .l) (successors x w) (t .Q) u s ≡ t .Q u s

@@ -1,12 +1,12 @@
--- `turns::hand_over` meets its contract. Assumes nothing.
+-- `turns::pass_over` meets its contract. Assumes nothing.
 use Prim.Native.Nat.{_≤_}
 use mathlib.Core.Path.{refl}
 use native.Mathlib.Omega.{arith}
 use borrow.Author.Needs.{needs}
 use Rattle.lexicon.specs.Lexicon.{nodeCount}
-use Rattle.search.proofs.Handing.{ArcRead, arc-read, arc-offering, arc-apart, arc-source, arc-done, arc-sink}
-use Rattle.search.proofs.turns.hand_over.Statement.{statement}
-use Rattle.search.proofs.turns.hand_over.Tie as tie
+use Rattle.search.proofs.PassingOn.{ArcRead, arc-read, arc-offering, arc-apart, arc-source, arc-done, arc-sink}
+use Rattle.search.proofs.turns.pass_over.Statement.{statement}
+use Rattle.search.proofs.turns.pass_over.Tie as tie
 
 returns : tie.Need-returns
 returns c = ((λ a. arc-sink a (c .if1 .taken)), refl)
@@ -18,8 +18,8 @@ node c = omega (arith, c .if1 .left, c .before .before .before .pre .nodes-is)
 read : (c : tie.Else1) → let a = c .before .before .before .args in ArcRead (a .lexicon .now) (a .firsts .now) (a .entries .now) (a .t)
 read c = arc-read (c .before .before .before .pre) (node c)
 
-hand-requires : tie.Need-hand-requires
-hand-requires c κs = let e = c .before .before .before .before in
+pass-to-requires : tie.Need-pass-to-requires
+pass-to-requires c κs = let e = c .before .before .before .before in
     let a = e .before .before .before .pre in
     (arc-offering a (node e), arc-apart a (node e))
 
@@ -27,12 +27,12 @@ returns-2 : tie.Need-returns-2
 returns-2 c =
     let o = c .before .before in
     let e = o .before .before .before .before .before in
-    let f = o .hand .ensures in
+    let f = o .pass-to .ensures in
     let p = e .before .before .before .pre in
     ((λ a. arc-done a (node e) (f (arc-offering a (node e)))), arc-source p (node e) (f (arc-offering p (node e))))
 
-pub hand-over-spec : {M : Type 1} → statement M
-hand-over-spec =
+pub pass-over-spec : {M : Type 1} → statement M
+pass-over-spec =
     tie.close
     (tie.spec
     returns
@@ -44,6 +44,6 @@ hand-over-spec =
     (λ c. let h = read (c .before .before .before) .few in search needs)
     (λ c. let h = read (c .before .before .before) .few in search needs)
     (λ c. let h = read (c .before .before .before .before) .slot in search needs)
-    hand-requires
+    pass-to-requires
     (search needs)
     returns-2)

@@ -1,14 +1,14 @@
--- `turns::hand` meets its contract: by what the vertex hands on. Assumes nothing.
+-- `turns::pass_to` meets its contract: by what the vertex passes on. Assumes nothing.
 use borrow.Author.Needs.{needs}
-use Rattle.search.proofs.Carrying.{hand-nothing, root-ready, root-done, node-ready, node-done}
-use Rattle.search.proofs.turns.hand.Statement.{statement}
-use Rattle.search.proofs.turns.hand.Tie as tie
+use Rattle.search.proofs.Carrying.{pass-to-nothing, root-ready, root-done, node-ready, node-done}
+use Rattle.search.proofs.turns.pass_to.Statement.{statement}
+use Rattle.search.proofs.turns.pass_to.Tie as tie
 
 abbrev start : tie.Else1 → tie.Start
 start c = c .before .before
 
 returns : tie.Need-returns
-returns c = λ t. hand-nothing t (c .if1 .taken)
+returns c = λ t. pass-to-nothing t (c .if1 .taken)
 
 offer-at-requires : tie.Need-offer-at-requires
 offer-at-requires c κs =
@@ -37,6 +37,6 @@ returns-3 c =
     let e = r .before in
     λ t. node-done (start e .args .from) t (e .if1 .left) (r .if2 .left) (o .offer-from .ensures)
 
-pub hand-spec : {M : Type 1} → statement M
-hand-spec =
+pub pass-to-spec : {M : Type 1} → statement M
+pass-to-spec =
     tie.close (tie.spec returns (search needs) offer-at-requires (search needs) returns-2 offer-from-requires (search needs) returns-3)
