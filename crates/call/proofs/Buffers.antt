@@ -53,7 +53,7 @@ part-cleared {n} part w e h k =
     let b : n + (64000 - n) ≡ 64000 = omega arith in
     let rest : drop 64000 (part ++ drop n w) ≡ drop 64000 w =
     ap (λ (j : ℕ). drop j (part ++ drop n w)) (sym a) ∙ drop-append-add part (drop n w) (64000 - n) ∙ drop-drop (64000 - n) n w ∙ ap (λ (j : ℕ). drop j w) b in
-    cleared-long (part ++ drop n w) (omega arith) ∙ zeroed-same 64000 _ w rest ∙ sym (cleared-long w k)
+    cleared-long (part ++ drop n w) (omega arith) ∙ zeroed-same 64000 (part ++ drop n w) w rest ∙ sym (cleared-long w k)
 
 -- cleared again, it stays as it is
 pub cleared-twice : (w : List ℕ) → 64000 ≤ length w → cleared (cleared w) ≡ cleared w

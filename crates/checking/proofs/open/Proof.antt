@@ -9,6 +9,7 @@ use Rattle.call.specs.Limits.{workSpace}
 use Rattle.call.specs.Table.{answerOf}
 use Rattle.call.specs.Buffers.{cleared}
 use Rattle.call.proofs.Buffers.{cleared-short, cleared-length, part-cleared}
+use Rattle.checking.specs.Judging.{Blank}
 use Rattle.checking.proofs.Judging.{short-answer, long-answer, opened-refused}
 use Rattle.checking.proofs.open.Statement.{statement}
 use Rattle.checking.proofs.open.Tie as tie
@@ -26,20 +27,28 @@ part-long : (c : tie.Else1) → length (take 20502 (c .before .before .before .b
 part-long c =
     let h = long c in length-take-le 20502 (c .before .before .before .before .before .before .before .before .args .work .now) (omega arith)
 
-judge-images-requires : tie.Need-judge-images-requires
-judge-images-requires c κs = record {
+-- what the judge is lent, stated apart from the need, whose own terms are long
+blank : (c : tie.After-judge-images-arg3) → Blank
+    (take 20502 (c .before .before .before .before .before .before .before .before .before .before .before .args .work .now))
+    (c .before .before .before .before .before .before .blank-lists .last .0)
+    (c .before .before .before .before .blank-counts .last .0)
+blank c = record {
   room = part-long (c .before .before .before);
   no-lists = c .before .before .before .before .before .before .blank-lists .ensures;
   no-counts = c .before .before .before .before .blank-counts .ensures;
 }
 
+-- the part keeps its length
+part-kept : (c : tie.After-judge-images) → length (c .judge-images .last .1 .1 .0) ≡ length (take 20502 (c .before .before .before .before .before .before .before .before .before .before .before .before .args .work .now))
+part-kept c = c .judge-images .kept .1 .1 .0
+
 work-cleared : (c : tie.After-clear) → c .clear .last .0 ≡ cleared (c .before .before .before .before .before .before .before .before .before .before .before .before .before .before .before .before .args .work .now)
 work-cleared c =
-    let j = c .before .before .before .before .judge-images in
-    let d = c .before .before .before .before .before .before .before .before in
+    let j = c .before .before .before .before in
+    let d = j .before .before .before .before in
     c .clear .ensures
-    ∙ part-cleared (j .last .1 .1 .0) (d .before .before .before .before .before .before .before .before .args .work .now)
-    (j .kept .1 .1 .0 ∙ part-long d) (omega arith) (long d)
+    ∙ part-cleared (j .judge-images .last .1 .1 .0) (d .before .before .before .before .before .before .before .before .args .work .now)
+    (part-kept j ∙ part-long d) (omega arith) (long d)
 
 same-length : tie.Need-same-length
 same-length c = ap length (work-cleared (c .before .before .before .before)) ∙ cleared-length _
@@ -70,10 +79,10 @@ open-spec =
     (λ c. search needs)
     (λ c. search needs)
     (λ c. search needs)
-    judge-images-requires
+    (λ c κs. blank c)
     (λ c κs. search needs)
-    (λ c. search needs)
-    (λ c. search needs)
+    (λ c. c .match .keys1)
+    (λ c. c .match .keys2)
     (λ c κs. search needs)
     (λ c κs. search needs)
     same-length

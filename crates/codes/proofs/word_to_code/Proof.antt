@@ -1,8 +1,8 @@
 -- `word_to_code` meets its contract: it answers as checking does where that refuses, and else looks the word up. Assumes nothing.
 use Prim.Native.Nat.{ℕ, _≤_}
-use mathlib.Core.Path.{sym, ap, _∙_}
+use mathlib.Core.Path.{_≡_, sym, ap, _∙_}
 use mathlib.Core.List.{List, _++_}
-use lib.ListN.{length, drop}
+use lib.ListN.{length, take, drop}
 use lib.Seq.{length-take-le}
 use native.Mathlib.Omega.{arith}
 use borrow.Author.Needs.{needs}
@@ -45,26 +45,35 @@ room c =
     let w = o .before .before .before .before .before .before .before .before .args .work .now in
     omega (arith, ap length (o .«open» .ensures .1 .0), cleared-length w, passes c .room)
 
-look-up-requires : tie.Need-look-up-requires
-look-up-requires c κs =
-    let k = c .before .before .before in
-    (prepared k, length-take-le 13266 (k .before .before .before .before .«open» .last .1 .1 .0) (room k))
+-- the part that is lent on, and that it keeps its length
+part-long : (c : tie.After-enum-told) → length (take 13266 (c .before .before .before .before .«open» .last .1 .1 .0)) ≡ 13266
+part-long c = length-take-le 13266 (c .before .before .before .before .«open» .last .1 .1 .0) (room c)
+
+part-kept : (c : tie.After-look-up) →
+    length (c .look-up .last .1 .1 .1 .1 .1 .0) ≡ length (take 13266 (c .before .before .before .before .before .before .before .before .«open» .last .1 .1 .0))
+part-kept c = c .look-up .kept .1 .1 .1 .1 .1 .0
+
+work-cleared : (c : tie.After-clear) →
+    c .clear .last .0 ≡ cleared (c .before .before .before .before .before .before .before .before .before .before .before .before .before .before .before .before .before .before .before .before .args .work .now)
+work-cleared c =
+    let l = c .before .before .before .before in
+    let k = l .before .before .before .before in
+    let o = k .before .before .before .before in
+    let w = o .before .before .before .before .before .before .before .before .args .work .now in
+    let part = l .look-up .last .1 .1 .1 .1 .1 .0 in
+    c .clear .ensures
+    ∙ ap (λ (w : List ℕ). cleared (part ++ drop 13266 w)) (o .«open» .ensures .1 .0)
+    ∙ part-cleared part (cleared w) (part-kept l ∙ part-long k) (omega arith) (omega (arith, cleared-length w, passes k .room))
+    ∙ cleared-twice w (passes k .room)
+
+same-length-2 : tie.Need-same-length-2
+same-length-2 c = ap length (work-cleared (c .before .before)) ∙ cleared-length _
 
 returns-2 : tie.Need-returns-2
 returns-2 c =
     let l = c .before .before .before .before .before .before in
     let k = l .before .before .before .before in
-    let o = k .before .before .before .before in
-    let a = o .before .before .before .before .before .before .before .before .args in
-    let part = l .look-up .last .1 .1 .1 .1 .1 .0 in (
-      l .look-up .ensures ∙ sym (word-looked (a .voice .now) (a .lexicon .now) (a .work .now) (a .word .now) (passes k)),
-      c .before .before .clear .ensures
-          ∙ ap (λ (w : List ℕ). cleared (part ++ drop 13266 w)) (o .«open» .ensures .1 .0)
-          ∙ part-cleared part (cleared (a .work .now)) (l .look-up .kept .1 .1 .1 .1 .1 .0 ∙ length-take-le 13266 (o .«open» .last .1 .1 .0) (room k))
-          (omega arith)
-          (omega (arith, cleared-length (a .work .now), passes k .room))
-          ∙ cleared-twice (a .work .now) (passes k .room),
-    )
+    (l .look-up .ensures ∙ sym (word-looked _ _ _ _ (passes k)), work-cleared (c .before .before))
 
 pub word-to-code-spec : {M : Type 1} → statement M
 word-to-code-spec =
@@ -78,7 +87,7 @@ word-to-code-spec =
     (λ c. search needs)
     (λ c. search needs)
     (λ c. let h = room (c .before .before) in search needs)
-    look-up-requires
+    (λ c κs. let k = c .before .before .before in (prepared k, part-long k))
     (λ c κs. search needs)
-    (λ c. search needs)
+    same-length-2
     returns-2)

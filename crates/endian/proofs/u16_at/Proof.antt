@@ -26,4 +26,14 @@ returns-3 c = c .u16-of2 .ensures
 pub u16-at-spec : {M : Type 1} → statement M
 u16-at-spec =
     tie.close
-    (tie.spec returns (search needs) (search needs) (search needs) returns-2 (search needs) (search needs) (search needs) (search needs) returns-3)
+    (tie.spec
+    returns
+    (search needs)
+    (λ c. c .before .before .if1 .left)
+    (search needs)
+    returns-2
+    (λ c. c .before .before .if1 .left)
+    (search needs)
+    (λ c. let h = c .before .before .if2 .left in omega arith)
+    (search needs)
+    returns-3)

@@ -43,6 +43,6 @@ arcs-at-spec =
     loop-holds
     (search needs)
     (search needs)
-    (search needs)
+    (λ c. let h = c .before .loop-test .taken in omega arith)
     loop-again
     returns)

@@ -74,12 +74,12 @@ put-list-spec =
     (λ c κs. search needs)
     (search needs)
     (search needs)
-    (search needs)
+    (λ c. c .before .before .before .before .check .kept .1 .1 .0)
     returns
     (λ c κs. search needs)
     (search needs)
     (search needs)
-    (search needs)
+    (λ c. c .before .before .before .before .before .before .before .before .check .kept .1 .1 .0)
     returns-2
     put-first-line-requires
     put-lines-requires

@@ -84,7 +84,7 @@ put-report-spec =
     (λ c κs. search needs)
     (search needs)
     (λ c κs. search needs)
-    (search needs)
+    (λ c. c .before .before .before .put-list .kept .1 .1 .1 .1 .1 .1 .0)
     returns
     (search needs)
     returns-2)

@@ -98,7 +98,7 @@ judge-letters-spec =
     (search needs)
     (search needs)
     (search needs)
-    (search needs)
+    (λ c. let h = c .before .before .before .before .loop-test .taken in omega arith)
     loop-again
     (search needs)
     (search needs)

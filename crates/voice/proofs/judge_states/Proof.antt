@@ -102,6 +102,6 @@ judge-states-spec =
     (search needs)
     returns
     (search needs)
-    (search needs)
+    (λ c. let h = c .before .before .before .before .before .loop-test .taken in omega arith)
     loop-again
     returns-2)

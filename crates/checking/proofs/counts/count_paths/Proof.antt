@@ -58,6 +58,6 @@ count-paths-spec =
     (λ c κs. next (c .before))
     (λ c. let h = vertex-small (next (c .before .before)) in search needs)
     (λ c. let h = vertex-small (next (c .before .before)) in search needs)
-    (search needs)
+    (λ c. let h = c .before .before .loop-test .taken in omega arith)
     (λ c. filling-next (next (c .before .before)) (c .path-count .ensures))
     returns)

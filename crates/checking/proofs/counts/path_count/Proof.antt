@@ -66,6 +66,6 @@ path-count-spec =
     entry
     (search needs)
     add-at-2
-    (search needs)
+    (λ c. let h = c .before .before .before .loop-test .taken in omega arith)
     loop-again
     (λ c. count-done (c .before .loop .inv) (search needs)))

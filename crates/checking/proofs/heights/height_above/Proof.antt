@@ -46,7 +46,7 @@ loop-again c =
     let l = s .before .before in
     let n = arc-next (l .loop .inv .arcs) (s .before .loop-test .taken) in
     let e = entry-above (l .before .before .before .before .pre) n (s .number-at2 .ensures) in
-    height-next (l .loop .inv) n (⊎-elim (λ w. omega (arith, e)) (λ w. omega (arith, e)) (c .if1 .came))
+    height-next (l .loop .inv) n (⊎-elim (λ w. omega (arith, e, w .0 .taken, w .1)) (λ w. omega (arith, e, w .0 .left, w .1)) (c .if1 .came))
 
 pub height-above-spec : {M : Type 1} → statement M
 height-above-spec =
@@ -67,6 +67,6 @@ height-above-spec =
     (λ c. let h = entry c in search needs)
     entry
     add-at-2
-    (search needs)
+    (λ c. let h = c .before .before .before .loop-test .taken in omega arith)
     loop-again
     (λ c. height-done (c .before .loop .inv) (search needs)))

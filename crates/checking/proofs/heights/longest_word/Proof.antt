@@ -60,7 +60,7 @@ longest-word-spec =
     (λ c. let h = vertex-small (c .before .before .before .loop .inv) in search needs)
     (λ c. let h = vertex-small (c .before .before .before .loop .inv) in search needs)
     (search needs)
-    (search needs)
+    (λ c. let h = c .before .before .loop-test .taken in omega arith)
     loop-again
     height-above-requires-2
     returns)

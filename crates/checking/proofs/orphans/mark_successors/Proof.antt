@@ -83,6 +83,6 @@ mark-successors-spec =
     number-at-requires-2
     element-write-marks
     add-at-2
-    (search needs)
+    (λ c. let h = c .before .loop-test .taken in omega arith)
     loop-again
     returns)

@@ -29,6 +29,6 @@ begin-table-spec =
     (search needs)
     (search needs)
     (search needs)
-    (search needs)
+    (λ c κs. omega (arith, c .before .before .pairs .given, c .before .before .before .before .before .before .pre))
     (search needs)
     returns)

@@ -98,6 +98,6 @@ gather-spec =
     mul-join-row
     join-row-requires
     (λ c. let d = c .before .before .before .before .before .before in omega (arith, next-at d .room, d .before .loop .inv .arcs .there))
-    (λ c. let d = c .before .before .before .before .before .before in omega (arith, next-at d .room))
+    (λ c. let h = c .before .before .before .before .before .before .loop-test .taken in omega arith)
     loop-again
     returns-2)

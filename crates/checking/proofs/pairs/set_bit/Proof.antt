@@ -15,4 +15,13 @@ returns c =
     (bit-set (a .pairs .now) (a .i) (c .before .pre))
 
 pub set-bit-spec : {M : Type 1} → statement M
-set-bit-spec = tie.close (tie.spec (search needs) (search needs) (search needs) (search needs) (search needs) (search needs) returns)
+set-bit-spec =
+    tie.close
+    (tie.spec
+    (search needs)
+    (search needs)
+    (search needs)
+    (λ c. omega arith)
+    (λ c. let h = c .before .pre in omega arith)
+    (search needs)
+    returns)

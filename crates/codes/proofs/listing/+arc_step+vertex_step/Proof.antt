@@ -4,7 +4,6 @@ use Prim.Native.Nat.{ℕ, _+_, _-_, _^_, _≤_, _<_}
 use mathlib.Core.Path.{_≡_, ap, _∙_}
 use mathlib.Core.List.{[], _∷_, _++_}
 use native.Mathlib.Omega.{arith}
-use borrow.Author.Needs.{needs}
 use lib.ListN.{length, take, set, getD, length-append, length-set}
 use lib.Seq.{length-take-le}
 use Rattle.lexicon.specs.Lexicon.{nodeCount, sinkOf, arcCount, successors}
@@ -189,13 +188,13 @@ pub +arc-step+vertex-step-spec : {M : Type 1} → statement M
     (λ c κs. omega (arith, c .before .before .before .before .pre .1 .0 .1, head-of (c .before .before .before .before .pre .1 .0 .0) .there))
     (λ c κs. omega (arith, nodes-there (c .before .before .before .before .before .pre .1 .0 .0 .walkable .listed .well-formed)))
     (arc-step-put-line-requires t)
-    (λ c. search needs)
+    (λ c. c .before .before .put-line .kept .1 .1 .0)
     (arc-step-returns t)
     (λ c κs. letter-there (next-enters t (c .before .before)) (is-node t c))
     (λ c. room (next-enters t (c .before .before .before)) (is-node t (c .before)))
     (λ c. omega (arith, room (next-enters t (c .before .before .before .before)) (is-node t (c .before .before))))
     (arc-step-vertex-step-requires t)
-    (λ c. search needs)
+    (λ c. c .before .before .vertex-step .kept .1 .1 .1 .1 .1 .1 .0)
     (arc-step-returns-2 t))
     (λ t. vertex-step-lts.spec (vertex-claims t) (vertex-step-at t) vertex-step.Post
     Inv-loop
@@ -207,7 +206,7 @@ pub +arc-step+vertex-step-spec : {M : Type 1} → statement M
     (λ c. walk-starts)
     (vertex-step-arc-step-requires t)
     (λ c. omega (arith, arc-left t (c .before .before .before .before .before), head-of (c .before .before .before .before .before .before .before .before .before .before .before .before .pre .1 .0) .few))
-    (λ c. search needs)
+    (λ c. let h = c .before .before .before .before .before .loop-test .taken in omega arith)
     (vertex-step-loop-again t)
     (λ c. c .before .loop .inv .size)
     (vertex-step-returns t))

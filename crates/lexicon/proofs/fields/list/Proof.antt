@@ -82,6 +82,6 @@ list-spec =
     entry
     add-at-2
     (search needs)
-    (search needs)
+    (λ c. let h = c .before .before .before .before .before .loop-test .taken in omega arith)
     loop-again
     returns-3)

@@ -51,7 +51,7 @@ nodes-spec =
     loop-holds
     (search needs)
     returns-2
-    (search needs)
+    (λ c. c .before .if1 .left)
     cast-if2
     returns-3
     (search needs)

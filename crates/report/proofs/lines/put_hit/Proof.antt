@@ -82,18 +82,18 @@ put-hit-spec =
     (λ c κs. search needs)
     (search needs)
     (search needs)
-    (search needs)
+    (λ c. c .before .before .before .before .before .code-to-word .kept .1 .1 .1 .0)
     returns
     (λ c κs. search needs)
     (search needs)
     (search needs)
-    (search needs)
+    (λ c. c .before .before .before .before .before .before .before .before .before .code-to-word .kept .1 .1 .1 .0)
     returns-2
     (search needs)
     (search needs)
     (search needs)
     part-put-hit-line-end
     put-hit-line-requires
-    (search needs)
-    (search needs)
+    (λ c. c .before .before .before .before .before .before .before .before .before .before .before .before .before .before .before .before .code-to-word .kept .1 .1 .1 .0)
+    (λ c. c .before .before .put-hit-line .kept .1 .1 .1 .1 .0)
     returns-3)

@@ -1,5 +1,6 @@
 -- `lines::score_at` meets its contract: the four bytes hold the number. Assumes nothing.
 use mathlib.Core.Path.{_∙_}
+use native.Mathlib.Omega.{arith}
 use borrow.Author.Needs.{needs}
 use Rattle.report.proofs.Hits.{i32-four, i32-again}
 use Rattle.report.proofs.lines.score_at.Statement.{statement}
@@ -14,10 +15,10 @@ score-at-spec =
     (tie.spec
     (search needs)
     (search needs)
+    (λ c. let h = c .before .before .before .pre in omega arith)
     (search needs)
+    (λ c. let h = c .before .before .before .before .pre in omega arith)
     (search needs)
-    (search needs)
-    (search needs)
-    (search needs)
+    (λ c. let h = c .before .before .before .before .before .pre in omega arith)
     (λ c κs. search needs)
     returns)
