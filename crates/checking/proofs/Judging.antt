@@ -5,7 +5,7 @@ use mathlib.Core.List.{List, List·Memᴰ·head}
 use Prim.Native.Nat.{ℕ, suc, min, _≤_, _<_}
 use native.Mathlib.Nat.{min-le-left, le-min, min-eq-left}
 use native.Mathlib.Omega.{arith}
-use lib.ListN.{length, getD, replicate}
+use lib.ListN.{length, getD}
 use lib.Dec.{ltb}
 use borrow.Author.Tests.{lt-ltb, le-ltb, ltb-true, ltb-false}
 use Rattle.call.specs.declared.Refusal.{Refusal}
@@ -20,9 +20,9 @@ use Rattle.lexicon.specs.Lexicon.{sinkOf, arcsAt, lexiconVerdict}
 use Rattle.graph.specs.Graph.{graphOf, sink, pathCount, wordCount}
 use Rattle.graph.specs.Conditions.{orphan, manyWords}
 use Rattle.graph.specs.Checking.{lexiconRows, imageRows, firstRows, checkAnswer}
-use Rattle.checking.specs.Tables.{TableOf, filled, Opened, WellFormed, cappedCount}
+use Rattle.checking.specs.Tables.{TableOf, Tables, Opened, WellFormed, cappedCount}
 use Rattle.checking.specs.Judging.{graphRows, Judged}
-use Rattle.checking.proofs.Tables.{entry, table-start}
+use Rattle.checking.proofs.Tables.{entry}
 use Rattle.checking.proofs.Arcs.{sound-of}
 use Rattle.checking.proofs.Reached.{count-within-words}
 
@@ -132,14 +132,14 @@ module _ (x : List ℕ) {counts : List ℕ} (t : TableOf (suc (sinkOf x)) (cappe
                 capped-few (omega (arith, k, limit))
             go false e = refl
 
-    pub opened-value : {W : ℕ} {lists : List ℕ} → WellFormed x → orphan (graphOf x) ≡ false → TableOf (sinkOf x) (arcsAt x) lists
-        → Opened (value W) x lists counts
-    unfolding filled
-    opened-value w reached l = record { listed = l; counted = counts-exact w reached }
+    pub tables-exact : {lists : List ℕ} → WellFormed x → orphan (graphOf x) ≡ false → TableOf (sinkOf x) (arcsAt x) lists → Tables x lists counts
+    tables-exact w reached l = record { listed = l; counted = counts-exact w reached }
 
--- ---- after a refusal the tables are blank
+-- ---- the tables that are lent
 
-pub opened-refused : {answer : Answer ℕ} {r : Refusal} {x lists counts : List ℕ} → answer ≡ refused r → lists ≡ replicate 402 0
-    → counts ≡ replicate 402 0 → Opened answer x lists counts
-unfolding filled
-opened-refused q e f = rw (q, e, f) (record { listed = table-start _; counted = table-start _ })
+module _ {answer : Answer ℕ} {x lists₀ counts₀ : List ℕ} where
+  pub opened-value : {W : ℕ} {lists counts : List ℕ} → answer ≡ value W → Tables x lists counts → Opened answer x lists₀ counts₀ lists counts
+  opened-value e t = record { filled = λ _ _. t; kept = λ r q. absurd (refused-no-value (sym q ∙ e)) }
+
+  pub opened-refused : {r : Refusal} → answer ≡ refused r → Opened answer x lists₀ counts₀ lists₀ counts₀
+  opened-refused e = record { filled = λ W q. absurd (refused-no-value (sym e ∙ q)); kept = λ _ _. (refl, refl) }

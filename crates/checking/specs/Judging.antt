@@ -7,7 +7,7 @@ use Rattle.call.specs.declared.Refusal.the-variants.{Orphan, Places, LongWord, 
 use Rattle.call.specs.Table.{Answer, value, Row, on, unless}
 use Rattle.graph.specs.Graph.{graphOf, wordCount}
 use Rattle.graph.specs.Conditions.{orphan, placeCount, manyPlaces, hasLongWord, manyWords, sameLetters}
-use Rattle.checking.specs.Tables.{Opened}
+use Rattle.checking.specs.Tables.{Tables}
 
 -- before the images are judged: a bit for each pair of vertices, and nothing in the tables
 pub record Blank (pairs lists counts : List ℕ) : Type 0 where
@@ -28,4 +28,4 @@ graphRows v x =
 -- images judged by some of the rows: after a refusal the tables are left as they are found
 pub record Judged (rows : List Row) (answer : Answer ℕ) (x lists counts : List ℕ) : Type 0 where
   pub answered : answer ≡ unless rows (wordCount (graphOf x))
-  pub opened : (W : ℕ) → answer ≡ value W → Opened answer x lists counts
+  pub opened : (W : ℕ) → answer ≡ value W → Tables x lists counts

@@ -6,6 +6,7 @@ use mathlib.Core.List.{List}
 use lib.ListN.{length, getD}
 use lib.Dec.{ltb}
 use Rattle.call.specs.Limits.{mostWords}
+use Rattle.call.specs.declared.Refusal.{Refusal}
 use Rattle.call.specs.Table.{Answer, value, refused}
 use Rattle.voice.specs.Fields.{wellFormed}
 use Rattle.lexicon.specs.Lexicon.{sinkOf, arcsAt, lexiconVerdict}
@@ -16,15 +17,15 @@ pub record TableOf (n : ℕ) (f : ℕ → ℕ) (table : List ℕ) : Type 0 where
   pub long : length table ≡ 402
   pub holds : (u : ℕ) → getD table u 0 ≡ cond (ltb u n) (f u) 0
 
--- after a refusal no entry is filled
-unfoldable pub filled : Answer ℕ → ℕ → ℕ
-filled (value W) n = n
-filled (refused r) n = 0
-
 -- what the calls after checking work with: where the list of each vertex begins, 0 to N, and the path count of each, 0 to N + 1
-pub record Opened (answer : Answer ℕ) (x lists counts : List ℕ) : Type 0 where
-  pub listed : TableOf (filled answer (sinkOf x)) (arcsAt x) lists
-  pub counted : TableOf (filled answer (suc (sinkOf x))) (pathCount (graphOf x)) counts
+pub record Tables (x lists counts : List ℕ) : Type 0 where
+  pub listed : TableOf (sinkOf x) (arcsAt x) lists
+  pub counted : TableOf (suc (sinkOf x)) (pathCount (graphOf x)) counts
+
+-- the two tables that checking is lent, as it leaves them: with these numbers where it answers a value, and a refusal leaves them as they were
+pub record Opened (answer : Answer ℕ) (x lists₀ counts₀ lists counts : List ℕ) : Type 0 where
+  pub filled : (W : ℕ) → answer ≡ value W → Tables x lists counts
+  pub kept : (r : Refusal) → answer ≡ refused r → (lists ≡ lists₀) × (counts ≡ counts₀)
 
 -- ---- what only the private functions say
 

@@ -1,7 +1,6 @@
 // Checking: the conditions 6 to 10 of document 01's refusal table, and the calls that test 1 to 10: `open`, which leaves tables for the work that
 // follows, and `check`.
 ghost use mathlib.Core.Path.{_≡_};
-ghost use lib.ListN.{replicate};
 ghost use Rattle.call.specs.Table.{answerOf};
 ghost use Rattle.voice.specs.Fields.{wellFormed};
 ghost use Rattle.voice.specs.Voice.{letterCount, voiceVerdict};
@@ -35,21 +34,6 @@ const PLACES: usize = 1000;
 pub const LETTERS: u16 = 32;
 
 const WORDS: u32 = 1048576;
-
-// A table with nothing in it, as `open` leaves both after a refusal.
-fn blank_lists(lists: &mut [u16; 402])
-    ensures { λ _. ⌜ now (lists .exit) ≡ replicate 402 0 ⌝ }
-{
-    let blank = [0u16; 402];
-    *lists = blank;
-}
-
-fn blank_counts(counts: &mut [u32; 402])
-    ensures { λ _. ⌜ now (counts .exit) ≡ replicate 402 0 ⌝ }
-{
-    let blank = [0u32; 402];
-    *counts = blank;
-}
 
 // Rows 6 to 10, or W. A count of paths stops above the limit, so that W is exact wherever row 9 does not apply.
 fn judge_graph(
@@ -122,7 +106,8 @@ fn judge_images(
     }
 }
 
-// Checks both images, answers W, and leaves where the list of each vertex begins and its path count for the work that follows.
+// Checks both images, answers W, and leaves where the list of each vertex begins and its path count for the work that follows. A refusal leaves
+// the tables as they were.
 pub fn open(
     voice: &[u8],
     lexicon: &[u8],
@@ -132,22 +117,28 @@ pub fn open(
 ) -> Answer
     ensures { λ r. ⌜ answerOf r ≡ checkAnswer (now (voice .entry)) (now (lexicon .entry)) (now (work .entry)) ⌝ }
     ensures { λ _. ⌜ now (work .exit) ≡ checkWork (now (voice .entry)) (now (lexicon .entry)) (now (work .entry)) ⌝ }
-    ensures { λ r. ⌜ Opened (answerOf r) (now (lexicon .entry)) (now (lists .exit)) (now (counts .exit)) ⌝ }
+    ensures { λ r. ⌜ Opened (answerOf r) (now (lexicon .entry)) (now (lists .entry)) (now (counts .entry)) (now (lists .exit)) (now (counts .exit)) ⌝ }
 {
-    blank_lists(lists);
-    blank_counts(counts);
     if work.len() < WORK_SPACE {
         return Answer::Refused(Refusal::WorkSpace);
     }
-    let answer = judge_images(voice, lexicon, &mut work[0..PAIR_BYTES], lists, counts);
+    let mut all_lists = [0u16; 402];
+    let mut all_counts = [0u32; 402];
+    let answer = judge_images(
+        voice,
+        lexicon,
+        &mut work[0..PAIR_BYTES],
+        &mut all_lists,
+        &mut all_counts,
+    );
     clear(work);
     match answer {
-        Answer::Value(_) => answer,
-        Answer::Refused(_) => {
-            blank_lists(lists);
-            blank_counts(counts);
+        Answer::Value(_) => {
+            *lists = all_lists;
+            *counts = all_counts;
             answer
         }
+        Answer::Refused(_) => answer,
     }
 }
 

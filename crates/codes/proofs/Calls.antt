@@ -19,7 +19,7 @@ use Rattle.graph.specs.Graph.{graphOf, wordCount}
 use Rattle.graph.specs.Words.{wordOfCode}
 use Rattle.graph.specs.Checking.{firstRows, checkAnswer}
 use Rattle.graph.proofs.Accepted.{accepted, Passed, passed}
-use Rattle.checking.specs.Tables.{Opened, filled}
+use Rattle.checking.specs.Tables.{Tables}
 use Rattle.codes.specs.Lookup.{wordToCodeRows, wordToCodeAnswer, codeToWordRows, codeToWordAnswer, codeToWordOut, listing, listRows, listAnswer, listOut}
 use Rattle.codes.specs.Steps.{Ready, roomAnswer}
 use Rattle.codes.specs.Marks.{lookedUp}
@@ -48,8 +48,7 @@ module _ (letters out : List ℕ) {n : ℕ} (h : n ≤ length letters) where
 
 -- ---- after checking
 
-pub ready : (v x work lists counts : List ℕ) {W : ℕ} → Passed v x work W → Opened (value W) x lists counts → Ready v x lists counts
-unfolding filled
+pub ready : (v x work lists counts : List ℕ) {W : ℕ} → Passed v x work W → Tables x lists counts → Ready v x lists counts
 ready v x work lists counts p o = record {
   accepted = p .images;
   tabled = record { listed = record { well-formed = well-formed (accepted (p .images)); table = o .listed }; counted = o .counted };

@@ -12,7 +12,7 @@ use borrow.Author.Tests.{ltb-false, not-false}
 use Rattle.endian.proofs.Ranges.{bounds}
 use Rattle.call.specs.declared.Refusal.{Refusal}
 use Rattle.call.specs.declared.Refusal.the-variants.{Count, Output}
-use Rattle.call.specs.Table.{Answer, value, refused, on, noneApplies, unless}
+use Rattle.call.specs.Table.{value, refused, on, noneApplies, unless}
 use Rattle.call.specs.Limits.{badCount}
 use Rattle.call.specs.Buffers.{zeroed, cleared}
 use Rattle.call.proofs.Table.{none-parts, none-says, unless-past, value-passed, refused-before}
@@ -22,7 +22,7 @@ use Rattle.graph.specs.Graph.{graphOf, wordCount}
 use Rattle.graph.specs.Conditions.{placeCount}
 use Rattle.graph.specs.Checking.{firstRows, checkAnswer}
 use Rattle.graph.proofs.Accepted.{Passed, accepted, places-limit}
-use Rattle.checking.specs.Tables.{TableOf, Opened, filled}
+use Rattle.checking.specs.Tables.{TableOf, Tables}
 use Rattle.decoder.specs.Decoding.{AcceptedFrames, frameRows, hits, decodeRows}
 use Rattle.search.specs.Held.{held}
 use Rattle.search.specs.Found.{searchAnswer, found, searchTokens}
@@ -102,12 +102,11 @@ module _ (v x work : List ℕ) where
         record { none = p; heard = q .0; some = b .0; few = b .1; room = ltb-false (length out) (8 * n) (s .1 .0) }
 
     -- a store of n tokens a place
-    pub call-run : {W : ℕ} {answer : Answer ℕ} {lists counts firsts b : List ℕ} → Passed v x work W → Clear → answer ≡ value W
-        → Opened answer x lists counts → TableOf (sinkOf x) (firstSlot v (graphOf x) n) firsts → length b ≡ 8 * (n * placeCount v (graphOf x))
+    pub call-run : {W : ℕ} {lists counts firsts b : List ℕ} → Passed v x work W → Clear → Tables x lists counts
+        → TableOf (sinkOf x) (firstSlot v (graphOf x) n) firsts → length b ≡ 8 * (n * placeCount v (graphOf x))
         → Run v x frames n lists counts firsts b
-    unfolding filled
-    call-run p c e o t l = record {
-      ready = record { accepted = p .images; lists-of = (rw e at o) .listed; counts-of = (rw e at o) .counted; firsts-of = t };
+    call-run p c o t l = record {
+      ready = record { accepted = p .images; lists-of = o .listed; counts-of = o .counted; firsts-of = t };
       roomy = record { some = c .some; few = c .few; room = omega (arith, l) };
       heard = c .heard;
     }

@@ -10,7 +10,7 @@ use Rattle.voice.specs.Voice.{letterCount}
 use Rattle.graph.specs.Graph.{graphOf, wordCount}
 use Rattle.graph.specs.Conditions.{orphan, placeCount, manyPlaces, longWord, hasLongWord, manyWords}
 use Rattle.checking.specs.Judging.{graphRows}
-use Rattle.checking.proofs.Judging.{refusal, many-counted, words-counted, opened-value}
+use Rattle.checking.proofs.Judging.{refusal, many-counted, words-counted, tables-exact}
 use Rattle.checking.proofs.judge_graph.Statement.{statement}
 use Rattle.checking.proofs.judge_graph.Tie as tie
 
@@ -98,7 +98,7 @@ returns-6 c =
       answered =
           ap value (words-counted _ t w)
           ∙ sym (rw (o, few-places b, short-words d, w, sym (c .before .before .before .has-same-letters .ensures .0) ∙ c .if5 .left));
-      opened = λ W e. opened-value _ t w (record { letters = letterCount (s .args .voice .now); judged = s .pre .1 .0 }) o (f .before .before .before .before .before .before .before .before .before .before .before .before .before .find-lists .ensures);
+      opened = λ W e. tables-exact _ t w (record { letters = letterCount (s .args .voice .now); judged = s .pre .1 .0 }) o (f .before .before .before .before .before .before .before .before .before .before .before .before .before .find-lists .ensures);
     }
 
 pub judge-graph-spec : {M : Type 1} → statement M

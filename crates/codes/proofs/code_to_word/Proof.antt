@@ -42,7 +42,7 @@ prepared : (c : tie.After-opened) →
     Ready (a .voice .now) (a .lexicon .now) (o .«open» .last .1 .1 .1 .0) (o .«open» .last .1 .1 .1 .1 .0)
 prepared c =
     let o = c .before .before .before .before in
-    ready _ _ _ _ _ (passes c) (rw (c .opened .given .1) at (o .«open» .ensures .1 .1))
+    ready _ _ _ _ _ (passes c) (o .«open» .ensures .1 .1 .filled _ (ap answerOf (c .opened .given .1)))
 
 returns-2 : tie.Need-returns-2
 returns-2 c =

@@ -18,7 +18,7 @@ put-listing-requires : tie.Need-put-listing-requires
 put-listing-requires c κs =
     let t = c .before .before .before in
     let opened = c .before .before .before .before .before .before .before .«open» .ensures .1 .1 in
-    ready _ _ _ _ _ (passed _ _ _ (answered t)) (rw (ap answerOf (t .enum-told .given .1)) at opened)
+    ready _ _ _ _ _ (passed _ _ _ (answered t)) (opened .filled _ (ap answerOf (t .enum-told .given .1)))
 
 returns : tie.Need-returns
 returns c =

@@ -36,7 +36,7 @@ prepared : (c : tie.After-enum-told) →
     Ready (a .voice .now) (a .lexicon .now) (o .«open» .last .1 .1 .1 .0) (o .«open» .last .1 .1 .1 .1 .0)
 prepared c =
     let o = c .before .before .before .before in
-    ready _ _ _ _ _ (passes c) (rw (c .enum-told .given .1) at (o .«open» .ensures .1 .1))
+    ready _ _ _ _ _ (passes c) (o .«open» .ensures .1 .1 .filled _ (ap answerOf (c .enum-told .given .1)))
 
 -- the table has room in the work space
 room : (c : tie.After-enum-told) → 13266 ≤ length (c .before .before .before .before .«open» .last .1 .1 .0)

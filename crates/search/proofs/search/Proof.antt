@@ -103,7 +103,7 @@ best-words-requires c κs =
     let a = o .before .before .before .before .before .before .before .before .before .args in
     let part = o .«open» .last .1 .1 .0 in
     let long = length-take-le (size f) part (fits f) in (
-      call-run _ _ _ _ _ _ (passes k) (clear-call t) (ap answerOf (k .enum-told .given .1)) (o .«open» .ensures .1 .1) (f .find-slots .ensures .0)
+      call-run _ _ _ _ _ _ (passes k) (clear-call t) (o .«open» .ensures .1 .1 .filled _ (ap answerOf (k .enum-told .given .1))) (f .find-slots .ensures .0)
           (long ∙ ap (λ (p : ℕ). 8 * p - 0) (counted f) ∙ omega arith),
       part-empty (size f) part (a .work .now) (o .«open» .ensures .1 .0) (small f) (passes k .room),
     )
