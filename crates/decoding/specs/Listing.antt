@@ -8,7 +8,7 @@ use lib.Dec.{eqb}
 use lib.ListN.{length}
 use Rattle.ranking.specs.Hits.{Hit, hit}
 
--- the hit that a token says
+-- the hit that a token says: it undoes `tokenOf` (search/specs/Held)
 unfoldable pub hitOf : ℕ → Hit
 hitOf token = hit (subℕ (token / 4294967296) 134217728) (4294967295 - token % 4294967296)
 

@@ -20,7 +20,8 @@ fn put_bytes(out: &mut [u8], at: usize, bytes: [u8; 4])
     out[at + 3] = bytes[3];
 }
 
-// A hit is written in 8 bytes: i32 score, u32 code.
+// A hit is written in 8 bytes: i32 score, u32 code. A token holds the score plus 2^27 in its high half, and 2^32 - 1 less the code in its low
+// half (search/src/tokens.rt).
 fn put_hit(out: &mut [u8], at: usize, token: u64)
     requires { ⌜ (at + 8 ≤ length (now out)) × (token < 2 ^ 60) ⌝ }
     ensures { λ _. ⌜ now (out .exit) ≡ sets (now (out .entry)) at (i32Bytes (hitOf token .score) ++ u32Bytes (hitOf token .code)) ⌝ }

@@ -190,13 +190,30 @@ pairs-stored v first n (suc (suc (suc zero))) which = pair-stored v (first + 3) 
 pairs-stored v first n (suc (suc (suc (suc s)))) which = omega arith
 
 -- a pair as it is read, at its offset
-pub pair-read : (v : List ℕ) (at s : ℕ) (b : Bool) → at ≡ 3 + 2 * letterCount v + 4 * s
-    → cond b (i16 v at ∷ i16 v (at + 2) ∷ []) (impossible ∷ impossible ∷ []) ≡ pairOf v s b
+abbrev readPair : List ℕ → ℕ → Bool → List ℤ
+readPair v at b = cond b (i16 v at ∷ i16 v (at + 2) ∷ []) (impossible ∷ impossible ∷ [])
+
+pair-read : (v : List ℕ) (at s : ℕ) (b : Bool) → at ≡ 3 + 2 * letterCount v + 4 * s → readPair v at b ≡ pairOf v s b
 unfolding pairOf loopScore stepScore statesAt
 pair-read v at s b e =
     let p : at ≡ 1 + 2 * letterCount v + 2 + 4 * s = omega arith in
     let q : at + 2 ≡ 1 + 2 * letterCount v + 4 + 4 * s = omega arith in
     ap₂ (λ (x y : ℤ). cond b (x ∷ y ∷ []) (impossible ∷ impossible ∷ [])) (ap (i16 v) p) (ap (i16 v) q)
+
+-- the pairs follow each other
+pub pairs-read : (v : List ℕ) (s n : ℕ) {p q r t : List ℤ} →
+    let at = 3 + 2 * letterCount v + 4 * s in
+    p ≡ readPair v at (ltb 0 n) → q ≡ readPair v (at + 4) (ltb 1 n) → r ≡ readPair v (at + 8) (ltb 2 n) → t ≡ readPair v (at + 12) (ltb 3 n)
+    → p ∷ q ∷ r ∷ t ∷ [] ≡ letterPairs v s n
+unfolding letterPairs
+pairs-read v s n a b c d =
+    let at = 3 + 2 * letterCount v + 4 * s in
+    rw (
+      a ∙ pair-read v at s (ltb 0 n) (omega arith),
+      b ∙ pair-read v (at + 4) (s + 1) (ltb 1 n) (omega arith),
+      c ∙ pair-read v (at + 8) (s + 2) (ltb 2 n) (omega arith),
+      d ∙ pair-read v (at + 12) (s + 3) (ltb 3 n) (omega arith),
+    )
 
 -- ---- one letter
 

@@ -265,6 +265,9 @@ module _ {x : List ℕ} {n : ℕ} {lists counts firsts entries : List ℕ} {w : 
       above = L .above;
     }
 
+    pub next-there : at < stop → at + 2 ≤ length x
+    next-there h = omega (arith, arc-next (L .sums .arcs) h .room, L .sums .arcs .there)
+
     module _ (h : at < stop) {u : ℕ} (e : u ≡ u16 x at) where
       pub next : ArcNext x w at stop (L .sums .later)
       next = arc-next (L .sums .arcs) h
@@ -296,7 +299,8 @@ module _ {x : List ℕ} {n : ℕ} {lists counts firsts entries : List ℕ} {w : 
       down-few z =
           omega (arith, L .down-is, count-is, counts-below formed (t .vertex) (L .sums) next, some-words z, words-few (t .v) x (t .ready .accepted))
 
-      pub passing-next : {nodes : ℕ} (q : nodes ≡ nodeCount x) {b′ : List ℕ} → Stored (left-arc q .passing-on .v) (graphOf x) n (overOne (left-arc q)) b′
+      pub passing-next : {nodes : ℕ} → nodes ≡ nodeCount x → {b′ : List ℕ}
+          → ((a : Arc x n nodes firsts entries root from u down b) → Stored (a .passing-on .v) (graphOf x) n (overOne a) b′)
           → source root n from b′ ≡ source root n from b → length b′ ≡ length b
           → PassingLeft (at + 2) stop (down + getD counts u 0) b′
       unfolding passOn overOne downOf left-arc so-far counts-next
@@ -305,7 +309,7 @@ module _ {x : List ℕ} {n : ℕ} {lists counts firsts entries : List ℕ} {w : 
         total = L .total + pathCount (graphOf x) (u16 x at);
         sums = counts-next formed (t .vertex) (L .sums) next;
         down-is = omega (arith, L .down-is, count-is);
-        stored = S;
+        stored = S (left-arc q);
         above = arc-above (left-arc q);
         long = l ∙ L .long;
         source-kept = f ∙ L .source-kept;

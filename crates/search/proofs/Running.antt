@@ -174,9 +174,10 @@ module _ {v x frames : List ℕ} {n : ℕ} {lists counts firsts b₀ : List ℕ}
     one-turn zero Q h = absurd (omega arith)
     one-turn (suc m) Q h = let e : suc m - 1 ≡ m = omega arith in rw e
 
-    pub turns-next : {b′ : List ℕ} → TurnDone turn-next b′ → TurnsLeft v x frames n t (m - 1) b₀ b′
+    pub turns-next : {b′ : List ℕ} → ((T : Turn v x n lists counts firsts loops steps entries m b) → TurnDone T b′)
+        → TurnsLeft v x frames n t (m - 1) b₀ b′
     unfolding turn-next turned
-    turns-next e = record {
+    turns-next f = let e = f turn-next in record {
       Q = passNode v (graphOf x) n (getD frames (suc t) 0) m (d .Q);
       stored = e .stored;
       within = e .within;

@@ -208,10 +208,12 @@ module _ {v x : List ℕ} {n : ℕ} {lists counts firsts loops steps entries : L
     unfolding turned passNode passedOn passing-on entryScore linkScore
     turned-above {u} s l = renew-apart v g n (t .k) w _ _ {w = u} {r = s} (λ q. omega arith)
 
-    pub turn-done : {b″ : List ℕ} → Stored (renewing .v) (graphOf (renewing .x)) n (renewal renewing) b″ → length b″ ≡ length b′ → TurnDone t b″
+    pub turn-done : {b″ : List ℕ} → ((r : Renewal n (4 * letter) (getD firsts w 0) count loops steps b′) → Stored (r .v) (graphOf (r .x)) n (renewal r) b″)
+        → length b″ ≡ length b′
+        → TurnDone t b″
     unfolding passing-on renewing
     turn-done {b″} S long = record {
-      stored = rw same-turn at S;
+      stored = rw same-turn at (S renewing);
       within = record {
         old = λ {u} {s} p l i. t .within .old p (omega arith) (rw (turned-below {u = u} {s = s} (omega (arith, t .low))) at i);
         new = λ {u} {s} {h} p l i. elim (ℕ-discrete u w) [

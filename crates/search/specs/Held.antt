@@ -10,11 +10,12 @@ unfoldable pub raised : ℕ → ℤ → ℕ
 raised k (pos n) = k + n
 raised k (negsuc n) = k - suc n
 
--- a score with 2^27 added, so that it has no sign and is never 0
+-- a score with 2^27 added, so that a score that 1,000 frames can reach has no sign and is never 0
 abbrev pub biased : ℤ → ℕ
 biased z = raised 134217728 z
 
--- the high half is the biased score, and the low half falls as the code rises
+-- the high half is the biased score, and the low half falls as the code of 32 bits rises; that tokens give the hits back is `hits-held`
+-- (decoding/proofs/Listing)
 unfoldable pub tokenOf : Hit → ℕ
 tokenOf h = biased (h .score) * 4294967296 + (4294967295 - h .code)
 

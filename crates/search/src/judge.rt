@@ -1,4 +1,4 @@
-// What decoding tests once the images are accepted: rows 11, 12 and 16.
+// What the search tests once the images are accepted: rows 11, 12 and 16.
 ghost use mathlib.Core.Path.{_≡_};
 ghost use lib.Dec.{leb};
 ghost use Rattle.endian.specs.Lists.{any};

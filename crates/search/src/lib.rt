@@ -21,8 +21,8 @@ mod store;
 mod tokens;
 mod turns;
 
-// What is found: 0, or the first refusal that applies to decoding; and the hits as tokens, best first, with no token after them.
-pub struct Found {
+// The answer is the first refusal that applies to decoding, or 0 where none does. The tokens are the hits, best first, with no token after them.
+pub struct Searched {
     pub answer: Answer,
     pub tokens: [u64; 8],
 }
@@ -35,7 +35,7 @@ pub fn search(
     n: u32,
     work: &mut [u8],
     out: &[u8],
-) -> Found
+) -> Searched
     ensures { λ r. ⌜ answerOf (r .answer) ≡ searchAnswer (now (voice .entry)) (now (lexicon .entry)) (now (frames .entry)) n (now (work .entry)) (now (out .entry)) ⌝ }
     ensures { λ _. ⌜ now (work .exit) ≡ decodeWork (now (voice .entry)) (now (lexicon .entry)) (now (frames .entry)) n (now (work .entry)) ⌝ }
     ensures { λ r. ⌜ r .tokens ≡ searchTokens (now (voice .entry)) (now (lexicon .entry)) (now (frames .entry)) n (now (work .entry)) (now (out .entry)) ⌝ }
@@ -44,14 +44,14 @@ pub fn search(
     let mut counts = [0u32; 402];
     let opened = open(voice, lexicon, work, &mut lists, &mut counts);
     let Answer::Value(_) = opened else {
-        return Found {
+        return Searched {
             answer: opened,
             tokens: [0; 8],
         };
     };
     let judged = judge_call(voice, frames, n, out);
     let Answer::Value(_) = judged else {
-        return Found {
+        return Searched {
             answer: judged,
             tokens: [0; 8],
         };
@@ -71,7 +71,7 @@ pub fn search(
         &mut work[0..store],
     );
     zero(&mut work[0..store]);
-    Found {
+    Searched {
         answer: judged,
         tokens: tokens,
     }

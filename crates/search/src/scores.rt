@@ -24,7 +24,7 @@ const BASE: u32 = 134184960;
 pub(crate) fn raise(stored: i16) -> u32
     ensures { λ r. ⌜ r ≡ raisedOf (possible stored) ⌝ }
 {
-    // tested first, since the compiler then sees that a sum without a test does the same
+    // -32,768 raised is 0 as well: tested here, the compiler makes both cases one sum
     if stored == STORED_IMPOSSIBLE {
         let none = Score::IMPOSSIBLE;
         return none.0;

@@ -52,12 +52,12 @@ decode-spec =
     tie.close
     (tie.spec
     (λ c κs. search needs)
-    (λ c. search needs)
-    (λ c. search needs)
-    (λ c. search needs)
+    (λ c. c .match .keys1)
+    (λ c. c .match .keys2)
+    (λ c. c .before .before .before .before .search .kept .1 .1 .1 .1 .0)
     (λ c. search needs)
     returns
     put-hits-requires
-    (λ c. search needs)
-    (λ c. search needs)
+    (λ c. c .before .before .before .before .before .before .before .before .before .before .search .kept .1 .1 .1 .1 .0)
+    (λ c. c .before .before .put-hits .kept .1 .0)
     returns-2)

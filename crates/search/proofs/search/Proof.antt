@@ -162,25 +162,25 @@ open-requires : tie.Need-open-requires
 open-requires c κs = search needs
 
 enum-told : tie.Need-enum-told
-enum-told c = search needs
+enum-told c = c .match .keys1
 
 enum-told-2 : tie.Need-enum-told-2
-enum-told-2 c = search needs
+enum-told-2 c = c .match .keys2
 
 same-length : tie.Need-same-length
-same-length c = search needs
+same-length c = c .before .before .before .before .«open» .kept .1 .1 .0
 
 judge-call-requires : tie.Need-judge-call-requires
 judge-call-requires c κs = accepted (passes c .images) .voice
 
 enum-told-3 : tie.Need-enum-told-3
-enum-told-3 c = search needs
+enum-told-3 c = c .match2 .keys1
 
 enum-told-4 : tie.Need-enum-told-4
-enum-told-4 c = search needs
+enum-told-4 c = c .match2 .keys2
 
 same-length-2 : tie.Need-same-length-2
-same-length-2 c = search needs
+same-length-2 c = c .before .before .before .before .before .before .before .«open» .kept .1 .1 .0
 
 sub-best-words : tie.Need-sub-best-words
 sub-best-words c = search needs

@@ -17,4 +17,9 @@ returns c =
     (toZ-ofZ (record { sfits = s .ok }) ∙ s .ensures ∙ ap signedAnswer (k .0), k .1)
 
 pub wundaleth-check-spec : {M : Type 1} → statement M
-wundaleth-check-spec = tie.close (tie.spec (λ c κs. search needs) signed-of-requires (λ c. search needs) returns)
+wundaleth-check-spec = tie.close
+    (tie.spec
+    (λ c κs. search needs)
+    signed-of-requires
+    (λ c. c .before .before .before .check .kept .1 .1 .0)
+    returns)

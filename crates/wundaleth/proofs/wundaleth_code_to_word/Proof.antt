@@ -17,4 +17,10 @@ returns c =
     (toZ-ofZ (record { sfits = s .ok }) ∙ s .ensures ∙ ap signedAnswer (k .0), k .1)
 
 pub wundaleth-code-to-word-spec : {M : Type 1} → statement M
-wundaleth-code-to-word-spec = tie.close (tie.spec (λ c κs. search needs) signed-of-requires (λ c. search needs) (λ c. search needs) returns)
+wundaleth-code-to-word-spec = tie.close
+    (tie.spec
+    (λ c κs. search needs)
+    signed-of-requires
+    (λ c. c .before .before .before .before .before .code-to-word .kept .1 .1 .1 .0)
+    (λ c. c .before .before .before .before .before .code-to-word .kept .1 .1 .1 .1 .0)
+    returns)

@@ -19,4 +19,10 @@ returns c =
     (r ∙ ap signedAnswer (d .0), (d .1 .0, (d .1 .1 .0, λ k e. d .1 .1 .1 k (value-signed _ k (sym r ∙ e)))))
 
 pub wundaleth-decode-spec : {M : Type 1} → statement M
-wundaleth-decode-spec = tie.close (tie.spec (λ c κs. search needs) signed-of-requires (λ c. search needs) (λ c. search needs) returns)
+wundaleth-decode-spec = tie.close
+    (tie.spec
+    (λ c κs. search needs)
+    signed-of-requires
+    (λ c. c .before .before .before .before .before .decode .kept .1 .1 .1 .1 .0)
+    (λ c. c .before .before .before .before .before .decode .kept .1 .1 .1 .1 .1 .0)
+    returns)

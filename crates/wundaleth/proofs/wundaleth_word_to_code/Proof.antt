@@ -17,4 +17,9 @@ returns c =
     (toZ-ofZ (record { sfits = s .ok }) ∙ s .ensures ∙ ap signedAnswer (k .0), k .1)
 
 pub wundaleth-word-to-code-spec : {M : Type 1} → statement M
-wundaleth-word-to-code-spec = tie.close (tie.spec (λ c κs. search needs) signed-of-requires (λ c. search needs) returns)
+wundaleth-word-to-code-spec = tie.close
+    (tie.spec
+    (λ c κs. search needs)
+    signed-of-requires
+    (λ c. c .before .before .before .word-to-code .kept .1 .1 .1 .0)
+    returns)

@@ -124,6 +124,6 @@ last-increment-spec =
     (λ c. leads (c .before))
     add-increment
     (λ c. let h = size (c .before .before .before .before .before) in search needs)
-    (λ c. search needs)
+    (λ c. let h = c .before .before .before .loop-test .taken in omega arith)
     loop-again
     returns-2)

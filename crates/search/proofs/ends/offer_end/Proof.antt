@@ -61,5 +61,5 @@ offer-end-spec =
     (λ c. search needs)
     (λ c. search needs)
     offer-requires
-    (λ c. search needs)
+    (λ c. c .before .before .offer .kept .0)
     returns-2)

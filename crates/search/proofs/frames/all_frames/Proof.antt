@@ -37,5 +37,5 @@ all-frames-spec =
     letter-begins-requires
     raised-scores-requires
     run-frames-requires
-    (λ c. search needs)
+    (λ c. c .before .before .run-frames .kept .1 .1 .1 .1 .1 .1 .1 .1 .1 .1 .1 .1 .0)
     (λ c. search needs))

@@ -68,5 +68,5 @@ first-frame-spec =
     (λ c κs. search needs)
     (λ c. search needs)
     pass-on-requires
-    (λ c. search needs)
+    (λ c. c .before .before .pass-on .kept .1 .1 .1 .1 .1 .1 .1 .1 .1 .1 .0)
     returns)

@@ -1,5 +1,5 @@
 -- `frames::later_frames` meets its contract: before each turn the frames up to t are done. The measure is the frames left. Assumes nothing.
-use Prim.Native.Nat.{ℕ, _-_, _<_}
+use Prim.Native.Nat.{ℕ, suc, _+_, _-_, _<_}
 use mathlib.Core.Path.{_≡_, refl, ap, _∙_}
 use mathlib.Core.List.{List}
 use native.Mathlib.Numerals.{add-one}
@@ -11,6 +11,7 @@ use Rattle.voice.specs.Voice.{linkScore}
 use Rattle.graph.proofs.Accepted.{accepted}
 use Rattle.decoder.specs.Score.{possible}
 use Rattle.search.specs.Gains.{raisedOf, Long, Gained}
+use Rattle.search.specs.Running.{StoredAt}
 use Rattle.search.proofs.Gaining.{back}
 use Rattle.search.proofs.Filling.{gained-long}
 use Rattle.search.proofs.Running.{frame-count, run-same, FramesDone, frames-end}
@@ -22,6 +23,17 @@ record Going (v x frames : List ℕ) (n t : ℕ) (b₀ b : List ℕ) (link heard
   done : FramesDone v x frames n t b₀ b
   long : Long loops steps entries
   held : (k : ℕ) → k ≡ heard → k < 256 → Gained v k link letters used loops steps entries
+
+-- after the next frame
+going-next : {v x frames : List ℕ} {n t : ℕ} {b₀ b b′ : List ℕ} {link heard : ℕ} {letters : List ℕ} {used : ℕ} {loops steps entries : List ℕ}
+    → t + 1 < length frames → FramesDone v x frames n t b₀ b → length b′ ≡ length b → StoredAt v x frames n (suc t) b′
+    → Gained v heard link letters used loops steps entries
+    → Going v x frames n (t + 1) b₀ b′ link heard letters used loops steps entries
+going-next h d k s g = record {
+  done = record { stored = rw add-one s; low = h; long = k ∙ d .long };
+  long = gained-long g;
+  held = λ k q l. rw q g;
+}
 
 abbrev Inv-loop : tie.InvT-loop
 Inv-loop voice lexicon n lists counts firsts letters used begins looping stepping frames loops₀ steps₀ entries₀ store₀ link at heard₀ t₀ loops steps entries store heard t =
@@ -64,13 +76,8 @@ loop-again : tie.Need-loop-again Inv-loop μ-loop
 loop-again c =
     let n = c .before .before in
     let i = n .before .before .before .before .before in
-    let h = i .loop-test .taken in
     let e = n .next-frame .ensures in
-    rw add-one (record {
-      done = record { stored = e .0; low = omega arith; long = n .next-frame .kept .1 .1 .1 .1 .1 .1 .1 .1 .1 .1 .1 .1 .1 .1 .1 .1 .1 .1 .1 .0 ∙ i .before .loop .inv .done .long };
-      long = gained-long (e .1);
-      held = λ k q l. rw q (e .1);
-    })
+    going-next (i .loop-test .taken) (i .before .loop .inv .done) (n .next-frame .kept .1 .1 .1 .1 .1 .1 .1 .1 .1 .1 .1 .1 .1 .1 .1 .1 .1 .1 .1 .0) (e .0) (e .1)
 
 small : (c : tie.At-loop Inv-loop μ-loop) → c .loop .t < 1000
 small c =

@@ -9,7 +9,7 @@ use Rattle.voice.specs.Voice.{linkScore}
 use Rattle.voice.proofs.Scores.{symbols-few}
 use Rattle.lexicon.specs.Lexicon.{nodeCount}
 use Rattle.decoder.specs.Score.{possible}
-use Rattle.search.specs.Gains.{MoveGains, EntryGains, Hearing}
+use Rattle.search.specs.Gains.{Gained, MoveGains, EntryGains, Hearing}
 use Rattle.search.proofs.Filling.{move-gains, link-gains, link-below}
 use Rattle.search.proofs.Running.{frame-count, hearing, TurnsLeft, turns-start, turn-next, turns-next, turns-done}
 use Rattle.search.proofs.frames.next_frame.Statement.{statement}
@@ -42,22 +42,27 @@ hear-requires c κs =
 abbrev start : tie.After-hear Inv-loop μ-loop → tie.Start Inv-loop μ-loop
 start c = c .before .before .before .before .before .before .before .before .before
 
+-- what is heard
+gained : (c : tie.After-hear Inv-loop μ-loop) →
+    let a = start c .args in
+    Gained (a .voice .now) (getD (a .frames .now) (suc (a .t)) 0) (a .link) (a .letters .now) (a .used)
+    (c .hear .last .1 .1 .1 .1 .1 .1 .1 .1 .1 .1 .0)
+    (c .hear .last .1 .1 .1 .1 .1 .1 .1 .1 .1 .1 .1 .0)
+    (c .hear .last .1 .1 .1 .1 .1 .1 .1 .1 .1 .1 .1 .1 .0)
+gained c = rw add-one at (c .hear .ensures)
+
 moves : (c : tie.After-hear Inv-loop μ-loop) →
     let a = start c .args in
     MoveGains (a .voice .now) (a .lexicon .now) (getD (a .frames .now) (suc (a .t)) 0)
     (c .hear .last .1 .1 .1 .1 .1 .1 .1 .1 .1 .1 .0)
     (c .hear .last .1 .1 .1 .1 .1 .1 .1 .1 .1 .1 .1 .0)
-moves c =
-    let s = start c in
-    rw add-one at (move-gains (s .pre .1 .1 .1 .0 .0) (c .hear .ensures))
+moves c = move-gains (start c .pre .1 .1 .1 .0 .0) (gained c)
 
 links : (c : tie.After-hear Inv-loop μ-loop) →
     let a = start c .args in
     EntryGains (a .voice .now) (a .lexicon .now) (getD (a .frames .now) (suc (a .t)) 0) (possible (linkScore (a .voice .now) 0))
     (c .hear .last .1 .1 .1 .1 .1 .1 .1 .1 .1 .1 .1 .1 .0)
-links c =
-    let s = start c in
-    rw add-one at (link-gains (s .pre .1 .1 .1 .0 .0) (c .hear .ensures) (s .pre .1 .0 .0))
+links c = link-gains (start c .pre .1 .1 .1 .0 .0) (gained c) (start c .pre .1 .0 .0)
 
 -- the number that is read
 counted : (c : tie.After-u16-at Inv-loop μ-loop) → c .u16-at .result ≡ nodeCount (start (c .before) .args .lexicon .now)
@@ -80,8 +85,7 @@ loop-again c =
     let l = m .before .before .before .before .before in
     let g = l .before .before .before in
     let s = start g in
-    turns-next (s .pre .0) (s .args .t) (s .pre .1 .0 .1) (moves g) (links g) (l .loop-test .taken) (l .before .loop .inv)
-    (m .pass-node .ensures (turn-next (s .pre .0) (s .args .t) (s .pre .1 .0 .1) (moves g) (links g) (l .loop-test .taken) (l .before .loop .inv)))
+    turns-next (s .pre .0) (s .args .t) (s .pre .1 .0 .1) (moves g) (links g) (l .loop-test .taken) (l .before .loop .inv) (m .pass-node .ensures)
 
 loop-less : tie.Need-loop-less Inv-loop μ-loop
 loop-less c = let h = c .before .before .before .before .before .before .before .loop-test .taken in omega arith

@@ -170,6 +170,6 @@ letter-gains-spec =
     (λ c. let h = letter-small (start (c .before) .pre .1 .0) in let g = small (c .before) in search needs)
     state-gains-requires
     (λ c. let h = small (c .before .before .before .before) in search needs)
-    (λ c. search needs)
+    (λ c. let h = c .before .before .before .before .loop-test .taken in omega arith)
     loop-again
     returns)

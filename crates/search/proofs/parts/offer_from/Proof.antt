@@ -93,21 +93,21 @@ offer-from-spec =
     loop-holds
     (λ c. search needs)
     (λ c κs. search needs)
-    (λ c. search needs)
+    (λ c. c .before .before .before .before .loop .inv .long)
     returns
     (λ c. omega (arith, bears c))
     (λ c. omega (arith, bears c))
     (λ c. search needs)
     (λ c. search needs)
     (λ c κs. search needs)
-    (λ c. search needs)
+    (λ c. c .before .before .before .before .before .before .before .loop .inv .long)
     returns-2
     (λ c. search needs)
     (λ c. search needs)
     (λ c. search needs)
     insert-requires
-    (λ c. search needs)
-    (λ c. search needs)
+    (λ c. let e = c .before .before .before .before .before .before .before .before .before .before in omega (arith, e .loop-test .taken, e .before .before .before .fits .n))
+    (λ c. let h = c .before .before .before .before .before .before .before .before .before .before .loop-test .taken in omega arith)
     loop-again
-    (λ c. search needs)
+    (λ c. c .before .loop .inv .long)
     returns-3)

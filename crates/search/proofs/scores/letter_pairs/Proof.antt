@@ -1,15 +1,12 @@
 -- `scores::letter_pairs` meets its contract: the pairs follow each other, four bytes each. Assumes nothing.
 use Prim.Native.Nat.{ℕ, _+_, _*_, _<_, _≤_}
-use mathlib.Core.Path.{_∙_}
 use native.Mathlib.Omega.{arith}
 use borrow.Author.Needs.{needs}
 use borrow.Author.Tests.{ltb-true}
-use lib.Dec.{ltb}
 use lib.ListN.{length, getD}
 use Rattle.voice.specs.Voice.{statesAt, linksAt}
 use Rattle.voice.proofs.Scores.{letters-few, symbols-at, symbols-there, pair-there}
-use Rattle.search.specs.Gains.{letterPairs}
-use Rattle.search.proofs.Gaining.{pair-read}
+use Rattle.search.proofs.Gaining.{pairs-read}
 use Rattle.search.proofs.scores.letter_pairs.Statement.{statement}
 use Rattle.search.proofs.scores.letter_pairs.Tie as tie
 
@@ -37,16 +34,11 @@ pair-at-requires-4 : tie.Need-pair-at-requires-4
 pair-at-requires-4 c κs e = omega (arith, inside (c .before .before .before .before .before) 3 (ltb-true _ _ e))
 
 returns : tie.Need-returns
-unfolding letterPairs
 returns c =
     let a = c .before .before .before .before .before .before .args in
-    let v = a .voice .now in
-    let at = 3 + 2 * getD v 0 0 + 4 * a .first in
-    let first = c .before .before .before .pair-at .ensures ∙ pair-read v at (a .first) (ltb 0 (a .states)) (omega arith) in
-    let second = c .before .before .pair-at2 .ensures ∙ pair-read v (at + 4) (a .first + 1) (ltb 1 (a .states)) (omega arith) in
-    let third = c .before .pair-at3 .ensures ∙ pair-read v (at + 8) (a .first + 2) (ltb 2 (a .states)) (omega arith) in
-    let fourth = c .pair-at4 .ensures ∙ pair-read v (at + 12) (a .first + 3) (ltb 3 (a .states)) (omega arith) in
-    rw (first, second, third, fourth)
+    pairs-read (a .voice .now) (a .first) (a .states) (c .before .before .before .pair-at .ensures) (c .before .before .pair-at2 .ensures)
+    (c .before .pair-at3 .ensures)
+    (c .pair-at4 .ensures)
 
 pub letter-pairs-spec : {M : Type 1} → statement M
 letter-pairs-spec =

@@ -55,6 +55,6 @@ letters-in-use-spec =
     (λ c. let h = few (c .before) in let f = c .before .before .loop .inv .few in search needs)
     (λ c. let h = few (c .before) in let f = c .before .before .loop .inv .few in search needs)
     (λ c. let h = few (c .before) in search needs)
-    (λ c. search needs)
+    (λ c. let h = c .before .loop-test .taken in omega arith)
     loop-again
     returns)

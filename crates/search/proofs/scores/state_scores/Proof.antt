@@ -34,7 +34,7 @@ state-scores-spec =
     (λ c. search needs)
     (λ c. search needs)
     (λ c. search needs)
-    (λ c κs. search needs)
+    (λ c κs. let p = c .before .before .pre in ((omega arith, omega arith), p .1))
     (λ c. search needs)
     (λ c. search needs)
     returns

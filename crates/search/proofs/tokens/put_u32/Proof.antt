@@ -17,7 +17,7 @@ put-u32-spec =
     (tie.spec
     (search needs)
     (search needs)
-    (search needs)
+    (λ c. let h = c .before .before .pre in omega arith)
     (search needs)
     (search needs)
     (λ c. simp length-set (omega arith))

@@ -1,4 +1,5 @@
 -- `turns::pass_node` meets its contract: the node's last tokens are passed on, and then its states are renewed. Assumes nothing.
+use mathlib.Core.Path.{_∙_}
 use borrow.Author.Needs.{needs}
 use Rattle.search.proofs.Turning.{node-there, node-few, letter-small, letter-there, count-range, slot-few, renewing, passing-on, turn-done}
 use Rattle.search.proofs.turns.pass_node.Statement.{statement}
@@ -23,7 +24,7 @@ returns : tie.Need-returns
 returns c =
     let r = c .before .before in
     let o = r .before .before .before .before in
-    λ t. let H = o .pass-on .ensures (passing-on t) in turn-done t H (r .renew-node .ensures (renewing t H)) (r .renew-node .kept .0)
+    λ t. turn-done t (o .pass-on .ensures (passing-on t)) (r .renew-node .ensures) (r .renew-node .kept .0)
 
 pub pass-node-spec : {M : Type 1} → statement M
 pass-node-spec =
@@ -45,5 +46,5 @@ pass-node-spec =
     pass-on-requires
     (λ c. let o = c .before .before .before in let h = letter-small (at-last (o .before .before) .pre .0) in search needs)
     renew-node-requires
-    (search needs)
+    (λ c. c .before .before .renew-node .kept .0 ∙ c .before .before .before .before .before .before .pass-on .kept .1 .1 .1 .1 .1 .1 .1 .1 .1 .1 .0)
     returns)

@@ -9,7 +9,7 @@ use lib.Dec.{eqb}
 use lib.ListN.{getD}
 use Rattle.checking.proofs.Arcs.{arc-next}
 use Rattle.search.specs.Stored.{source, PassingOn}
-use Rattle.search.proofs.PassingOn.{PassingLeft, source-room, vertex-few, list-of, passing-start, left-arc, successor-few, down-few, passing-next, passing-done, passing-nothing}
+use Rattle.search.proofs.PassingOn.{PassingLeft, source-room, vertex-few, list-of, passing-start, next-there, left-arc, successor-few, down-few, passing-next, passing-done, passing-nothing}
 use Rattle.search.proofs.turns.pass_on.Statement.{statement}
 use Rattle.search.proofs.turns.pass_on.Tie as tie
 
@@ -46,10 +46,7 @@ abbrev start : tie.At-loop Inv-loop μ-loop → tie.Start Inv-loop μ-loop
 start l = at-list (l .before)
 
 number-at-requires-2 : tie.Need-number-at-requires-2 Inv-loop μ-loop
-number-at-requires-2 c κs =
-    let t = start (c .before) .pre .0 in
-    let i = c .before .loop .inv t in
-    omega (arith, arc-next (i .sums .arcs) (c .loop-test .taken) .room, i .sums .arcs .there)
+number-at-requires-2 c κs = let t = start (c .before) .pre .0 in next-there t (c .before .loop .inv t) (c .loop-test .taken)
 
 pass-over-requires : tie.Need-pass-over-requires Inv-loop μ-loop
 pass-over-requires c κs =
@@ -79,19 +76,16 @@ add-at-2 : tie.Need-add-at-2 Inv-loop μ-loop
 add-at-2 c =
     let i = c .before .before .before .before .before .before in
     let l = i .before in
-    let h = arc-next (l .loop .inv (start l .pre .0) .sums .arcs) (i .loop-test .taken) .room in
-    let g = small (l .before) in
-    search needs
+    omega (arith, arc-next (l .loop .inv (start l .pre .0) .sums .arcs) (i .loop-test .taken) .room, small (l .before))
 
 loop-again : tie.Need-loop-again Inv-loop μ-loop
 loop-again c =
     let o = c .before .before .before in
     let m = o .before .before in
     let l = m .before .before in
-    let h = m .before .loop-test .taken in
-    let e = m .number-at2 .ensures in
-    let q = start l .pre .1 in
-    λ t. let i = l .loop .inv t in passing-next t i h e q (o .pass-over .ensures .0 (left-arc t i h e q)) (o .pass-over .ensures .1) (o .pass-over .kept .1 .1 .1 .1 .1 .1 .1 .1 .1 .0)
+    λ t. passing-next t (l .loop .inv t) (m .before .loop-test .taken) (m .number-at2 .ensures) (start l .pre .1) (o .pass-over .ensures .0)
+    (o .pass-over .ensures .1)
+    (o .pass-over .kept .1 .1 .1 .1 .1 .1 .1 .1 .1 .0)
 
 same-length-2 : tie.Need-same-length-2 Inv-loop μ-loop
 same-length-2 c = c .before .loop .inv (start (c .before) .pre .0) .long
@@ -124,7 +118,7 @@ pass-on-spec =
     (λ c. let h = sum (c .before .before .before .before .before) in search needs)
     (λ c. let h = sum (c .before .before .before .before .before) in search needs)
     add-at-2
-    (search needs)
+    (λ c. let h = c .before .before .before .before .before .before .loop-test .taken in omega arith)
     loop-again
     same-length-2
     returns-2)

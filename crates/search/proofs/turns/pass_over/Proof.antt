@@ -45,5 +45,5 @@ pass-over-spec =
     (λ c. let h = read (c .before .before .before) .few in search needs)
     (λ c. let h = read (c .before .before .before .before) .slot in search needs)
     pass-to-requires
-    (search needs)
+    (λ c. c .before .before .pass-to .kept .0)
     returns-2)

@@ -39,4 +39,13 @@ returns-3 c =
 
 pub pass-to-spec : {M : Type 1} → statement M
 pass-to-spec =
-    tie.close (tie.spec returns (search needs) offer-at-requires (search needs) returns-2 offer-from-requires (search needs) returns-3)
+    tie.close
+    (tie.spec
+    returns
+    (search needs)
+    offer-at-requires
+    (λ c. c .before .before .offer-at .kept .0)
+    returns-2
+    offer-from-requires
+    (λ c. c .before .before .offer-from .kept .0)
+    returns-3)

@@ -58,7 +58,7 @@ renew-spec =
     loop-holds
     (search needs)
     renew-state-requires
-    (search needs)
+    (λ c. let h = c .before .before .before .before .loop-test .taken in omega arith)
     loop-again
     same-length
     returns)

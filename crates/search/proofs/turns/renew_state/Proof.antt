@@ -1,6 +1,6 @@
 -- `turns::renew_state` meets its contract: by the loop, and by the step where there is one. Assumes nothing.
 use Prim.Native.Nat.{suc, _-_}
-use mathlib.Core.Path.{_≡_}
+use mathlib.Core.Path.{_≡_, _∙_}
 use native.Mathlib.Omega.{arith}
 use borrow.Author.Needs.{needs}
 use Rattle.search.proofs.Renewing.{entry-few, slot-few, staying, first-done, loop-done, step-few, slot-covers, step-ready, step-done}
@@ -51,16 +51,16 @@ renew-state-spec =
     (λ c. let h = entry-few (c .before .before .pre) in search needs)
     (λ c. let h = entry-few (c .before .before .pre) in search needs)
     stay-requires
-    (search needs)
+    (λ c. c .before .before .before .stay .kept .0)
     returns
     (λ c. let h = entry-few (start c .pre) in search needs)
     (λ c. let h = entry-few (start c .pre) in search needs)
     (λ c. let h = entry-few (start c .pre) in search needs)
-    (search needs)
+    (λ c. c .before .before .before .before .before .stay .kept .0)
     returns-2
     (λ c. let e = c .before .before .before in slot-covers (start e .pre) _ (later e))
     (λ c. let e = c .before .before .before in let h = step-few (start e .pre) _ (later e) in search needs)
     (λ c. let e = c .before .before .before in let h = step-few (start e .pre) _ (later e) in search needs)
     offer-from-requires
-    (search needs)
+    (λ c. c .before .before .offer-from .kept .0 ∙ c .before .before .before .before .before .before .before .before .before .stay .kept .0)
     returns-3)
