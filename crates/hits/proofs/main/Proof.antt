@@ -1,4 +1,4 @@
--- `hits::main` is safe: what is printed lies in the page. Assumes nothing.
+-- `hits::main` is safe: what is printed lies in the page. Rests on what the C library's `read` and `write` are assumed to do.
 use mathlib.Core.Path.{sym}
 use borrow.Author.Needs.{needs}
 use lib.Seq.{length-take-le}
