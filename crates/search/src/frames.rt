@@ -205,7 +205,7 @@ fn later_frames(
     }
 }
 
-// All frames, with the tables of the letters in use made.
+// All frames, once the tables of the letters in use are made.
 fn run_frames(
     voice: &[u8],
     lexicon: &[u8],
