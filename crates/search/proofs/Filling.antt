@@ -1,9 +1,9 @@
 -- The tables of a call and of a frame while they are filled: state by state, letter by letter; and what they say of the letters of nodes.
 -- Assumes nothing.
-use Prim.Native.Nat.{ℕ, zero, suc, _+_, _*_, _≤_, _<_}
+use Prim.Native.Nat.{ℕ, suc, _+_, _-_, _*_, _≤_, _<_}
 use mathlib.Core.Path.{_≡_, refl, sym, ap, _∙_}
 use mathlib.Core.Bool.{Bool, true, false, false≢true}
-use mathlib.Core.List.{List}
+use mathlib.Core.List.{List, []}
 use mathlib.Core.Option.{some}
 use native.Mathlib.Omega.{arith}
 use native.Mathlib.Decide.{ℕ-discrete}
@@ -23,8 +23,8 @@ use Rattle.voice.proofs.Scores.{letters-few, emission-there}
 use Rattle.lexicon.specs.Lexicon.{nodeCount, nodeLetter}
 use Rattle.decoder.specs.Score.{possible}
 use Rattle.search.specs.Held.{raised}
-use Rattle.search.specs.Gains.{raisedOf, raisedGain, letterPairs, pairScore, loopRaised, stepRaised, loopGain, stepGain, entryGain, linkGain, LettersMarked, Letters, Among, InUse, Begins, LetterEntries, Entries, Filled, Gained, MoveGains, EntryGains, Hearing, AtLetter, Long}
-use Rattle.search.proofs.Gaining.{raised-below, gain-both, letter-small, letter-few, state-there, loop-score, step-score}
+use Rattle.search.specs.Gains.{raisedOf, raisedGain, letterPairs, pairScore, loopRaised, stepRaised, loopGain, stepGain, LettersMarked, Letters, Among, InUse, Begins, LetterEntries, ScoreRow, ScoreRows, letterAt, Scored, GainRow, Gained, MoveGains, EntryGains, Hearing, AtLetter, StatePut, FirstPut}
+use Rattle.search.proofs.Gaining.{raised-below, gain-both, letter-few, state-there, loop-score, step-score}
 use Rattle.search.proofs.Carrying.{emission-range}
 
 -- ---- the letters in use
@@ -123,120 +123,132 @@ begins-next {v} {begins} {letter} {first} h e b =
 pub begins-done : {v begins : List ℕ} {letter : ℕ} → letterCount v ≤ letter → Beginning v letter begins → Begins v begins
 begins-done h b = record { long = b .long; begin = λ l k. b .begin l (omega arith) }
 
--- ---- the entries of one letter
+-- ---- the row of one letter
 
--- those of its states below s are filled, and those of other letters are as they were
-pub record Filling (v : List ℕ) (loop step : ℕ → ℕ → ℕ) (l s : ℕ) (loops₀ steps₀ loops steps : List ℕ) : Type 0 where
-  pub long-loops : length loops ≡ 256
-  pub long-steps : length steps ≡ 256
-  pub loop-at : (r : ℕ) → r < s → getD loops (4 * l + r) 0 ≡ loop l r
-  pub step-at : (r : ℕ) → suc r < s → getD steps (4 * l + suc r) 0 ≡ step l r
-  pub other-loop : (m r : ℕ) → ¬ (m ≡ l) → r < 4 → getD loops (4 * m + r) 0 ≡ getD loops₀ (4 * m + r) 0
-  pub other-step : (m r : ℕ) → ¬ (m ≡ l) → r < 4 → getD steps (4 * m + r) 0 ≡ getD steps₀ (4 * m + r) 0
+-- the entries of its states below s are filled
+pub record Filling (v : List ℕ) (loop step : ℕ → ℕ → ℕ) (l s : ℕ) (row : List ℕ) : Type 0 where
+  pub long : 8 ≤ length row
+  pub loop-at : (r : ℕ) → r < s → getD row r 0 ≡ loop l r
+  pub step-at : (r : ℕ) → suc r < s → getD row (4 + suc r) 0 ≡ step l r
 
-pub fill-start : {v : List ℕ} {loop step : ℕ → ℕ → ℕ} {l : ℕ} {loops steps : List ℕ} → length loops ≡ 256 → length steps ≡ 256
-    → Filling v loop step l 0 loops steps loops steps
-fill-start e f = record {
-  long-loops = e;
-  long-steps = f;
-  loop-at = λ r h. absurd (omega arith);
-  step-at = λ r h. absurd (omega arith);
-  other-loop = λ m r d h. refl;
-  other-step = λ m r d h. refl;
-}
-
--- a table with one entry set, read at another letter's entry
-apart : (l s m r x : ℕ) (t : List ℕ) → s < 4 → r < 4 → ¬ (m ≡ l) → getD (set t (4 * l + s) x) (4 * m + r) 0 ≡ getD t (4 * m + r) 0
-apart l s m r x t h k d = getD-set-other t (4 * l + s) (4 * m + r) x 0 (λ e. d (omega arith))
+pub fill-start : {v : List ℕ} {loop step : ℕ → ℕ → ℕ} {l : ℕ} {row : List ℕ} → 8 ≤ length row → Filling v loop step l 0 row
+fill-start e = record { long = e; loop-at = λ r h. absurd (omega arith); step-at = λ r h. absurd (omega arith) }
 
 -- the next state's loop, and the step into it where it isn't the first
-pub fill-next : {v : List ℕ} {loop step : ℕ → ℕ → ℕ} {l s : ℕ} {loops₀ steps₀ loops steps loops′ steps′ : List ℕ} → l < 64 → s < 4
-    → Filling v loop step l s loops₀ steps₀ loops steps → loops′ ≡ set loops (4 * l + s) (loop l s) → (s ≡ 0 → steps′ ≡ steps)
-    → ((p : ℕ) → s ≡ suc p → steps′ ≡ set steps (4 * l + s) (step l p)) → Filling v loop step l (s + 1) loops₀ steps₀ loops′ steps′
-fill-next {v} {loop} {step} {l} {s} {loops₀} {steps₀} {loops} {steps} {loops′} {steps′} b h f e no-step next = record {
-  long-loops = ap length e ∙ length-set loops (4 * l + s) _ ∙ f .long-loops;
-  long-steps = long s refl;
-  loop-at = λ r k. loop-is r k (ℕ-discrete r s);
-  step-at = λ r k. step-is s refl r k;
-  other-loop = λ m r d k. rw e (apart l s m r (loop l s) loops h k d ∙ f .other-loop m r d k);
-  other-step = λ m r d k. others s refl m r d k;
+pub fill-next : {v : List ℕ} {loop step : ℕ → ℕ → ℕ} {l s a b : ℕ} {row row′ : List ℕ} → s < 4 → Filling v loop step l s row
+    → StatePut row s a b row′ → a ≡ loop l s → ((p : ℕ) → s ≡ suc p → b ≡ step l p) → Filling v loop step l (s + 1) row′
+fill-next {v} {loop} {step} {l} {s} {a} {b} {row} {row′} h f e loop-is step-is = record {
+  long = omega (arith, e .long, f .long);
+  loop-at = λ r k. loop-at r k (ℕ-discrete r s);
+  step-at = λ r k. step-at r k (ℕ-discrete (suc r) s);
 }
   where
-    long : (t : ℕ) → s ≡ t → length steps′ ≡ 256
-    long zero q = ap length (no-step q) ∙ f .long-steps
-    long (suc p) q = ap length (next p q) ∙ length-set steps (4 * l + s) _ ∙ f .long-steps
+    loop-at : (r : ℕ) → r < s + 1 → Dec (r ≡ s) → getD row′ r 0 ≡ loop l r
+    loop-at r k (yes d) = rw d (e .loop ∙ loop-is)
+    loop-at r k (no d) = e .others r d (λ q. omega arith) ∙ f .loop-at r (omega (arith, d))
 
-    loop-is : (r : ℕ) → r < s + 1 → Dec (r ≡ s) → getD loops′ (4 * l + r) 0 ≡ loop l r
-    loop-is r k (yes d) = rw (e, d) (getD-set-same loops (4 * l + s) _ 0 (omega (arith, f .long-loops)))
-    loop-is r k (no d) = rw e (getD-set-other loops (4 * l + s) (4 * l + r) _ 0 (λ q. d (omega arith)) ∙ f .loop-at r (omega (arith, d)))
-
-    step-is : (t : ℕ) → s ≡ t → (r : ℕ) → suc r < s + 1 → getD steps′ (4 * l + suc r) 0 ≡ step l r
-    step-is zero q r k = absurd (omega arith)
-    step-is (suc p) q r k = at (ℕ-discrete r p)
-      where
-        at : Dec (r ≡ p) → getD steps′ (4 * l + suc r) 0 ≡ step l r
-        at (yes d) =
-            let same : suc r ≡ s = omega arith in
-            rw (next p q, same, d) (getD-set-same steps (4 * l + s) _ 0 (omega (arith, f .long-steps)))
-        at (no d) = rw (next p q) (getD-set-other steps (4 * l + s) (4 * l + suc r) _ 0 (λ e. d (omega arith)) ∙ f .step-at r (omega (arith, d)))
-
-    others : (t : ℕ) → s ≡ t → (m r : ℕ) → ¬ (m ≡ l) → r < 4 → getD steps′ (4 * m + r) 0 ≡ getD steps₀ (4 * m + r) 0
-    others zero q m r d k = rw (no-step q) (f .other-step m r d k)
-    others (suc p) q m r d k = rw (next p q) (apart l s m r (step l p) steps h k d ∙ f .other-step m r d k)
+    step-at : (r : ℕ) → suc r < s + 1 → Dec (suc r ≡ s) → getD row′ (4 + suc r) 0 ≡ step l r
+    step-at r k (yes d) = rw d (e .step (omega arith) ∙ step-is r (sym d))
+    step-at r k (no d) = e .others (4 + suc r) (λ q. omega arith) (λ q. d (omega arith)) ∙ f .step-at r (omega (arith, d))
 
 -- after its states the letter is done
-pub fill-done : {v : List ℕ} {loop step : ℕ → ℕ → ℕ} {l s : ℕ} {loops₀ steps₀ loops steps : List ℕ} → voiceVerdict v ≡ wellFormed → states v l ≤ s
-    → Filling v loop step l s loops₀ steps₀ loops steps → Filled v loop step l loops₀ steps₀ loops steps
-fill-done {v} w h f = record {
-  long-loops = f .long-loops;
-  long-steps = f .long-steps;
-  here = record { loop-at = λ r k. f .loop-at r (omega arith); step-at = λ r k. f .step-at r (omega arith) };
-  others = λ m k d o. record {
-    loop-at = λ r i. f .other-loop m r d (omega (arith, states-range v w k .1)) ∙ o .loop-at r i;
-    step-at = λ r i. f .other-step m (suc r) d (omega (arith, states-range v w k .1)) ∙ o .step-at r i;
-  };
-}
+pub fill-done : {v : List ℕ} {loop step : ℕ → ℕ → ℕ} {l s : ℕ} {row : List ℕ} → states v l ≤ s → Filling v loop step l s row
+    → LetterEntries v loop step l row
+fill-done h f = record { loop-at = λ r k. f .loop-at r (omega arith); step-at = λ r k. f .step-at r (omega arith) }
+
+-- what a state's stores leave
+module _ {row : List ℕ} {s : ℕ} (h : s < 4) (e : 8 ≤ length row) where
+  pub put-loop : {a a′ b : ℕ} → s ≡ 0 → a′ ≡ a → StatePut row s a b (set row s a′)
+  put-loop {a} {a′} z p = record {
+    long = length-set row s a′;
+    loop = getD-set-same row s a′ 0 (omega arith) ∙ p;
+    step = λ k. absurd (omega arith);
+    others = λ i d f. getD-set-other row s i a′ 0 d;
+  }
+
+  pub put-both : {a a′ b b′ : ℕ} → a′ ≡ a → b′ ≡ b → StatePut row s a b (set (set row s a′) (4 + s) b′)
+  put-both {a} {a′} {b} {b′} p q = record {
+    long = length-set (set row s a′) (4 + s) b′ ∙ length-set row s a′;
+    loop = getD-set-other (set row s a′) (4 + s) s b′ 0 (λ q. omega arith) ∙ getD-set-same row s a′ 0 (omega arith) ∙ p;
+    step = λ k. getD-set-same (set row s a′) (4 + s) b′ 0 (omega (arith, length-set row s a′)) ∙ q;
+    others = λ i d f. getD-set-other (set row s a′) (4 + s) i b′ 0 f ∙ getD-set-other row s i a′ 0 d;
+  }
 
 -- the raised scores of the next state
-pub scores-next : {v : List ℕ} {l first s : ℕ} {pairs : List (List ℤ)} {loops₀ steps₀ loops steps loops′ steps′ : List ℕ} → AtLetter v l first
-    → s < states v l
-    → pairs ≡ letterPairs v first (states v l) → Filling v (loopRaised v) (stepRaised v) l s loops₀ steps₀ loops steps
-    → loops′ ≡ set loops (4 * l + s) (pairScore pairs s 0) → (s ≡ 0 → steps′ ≡ steps)
-    → ((p : ℕ) → s ≡ suc p → steps′ ≡ set steps (4 * l + s) (pairScore pairs p 1))
-    → Filling v (loopRaised v) (stepRaised v) l (s + 1) loops₀ steps₀ loops′ steps′
-scores-next {v} {l} {first} {s} {pairs} {loops = loops} {steps = steps} a h e f loop no-step next =
-    fill-next (letter-small a) (omega (arith, letter-few a)) f
-    (loop ∙ ap (set loops (4 * l + s)) (rw e (loop-score a s h)))
-    no-step
-    (λ p q. next p q ∙ ap (set steps (4 * l + s)) (rw e (step-score a p (omega arith))))
+pub scores-next : {v : List ℕ} {l first s : ℕ} {pairs : List (List ℤ)} {row row′ : List ℕ} → AtLetter v l first → s < states v l
+    → pairs ≡ letterPairs v first (states v l) → Filling v (loopRaised v) (stepRaised v) l s row
+    → StatePut row s (pairScore pairs s 0) (pairScore pairs (s - 1) 1) row′
+    → Filling v (loopRaised v) (stepRaised v) l (s + 1) row′
+scores-next {v} {l} {first} {s} {pairs} a h e f p =
+    fill-next (omega (arith, letter-few a)) f p (rw e (loop-score a s h))
+    (λ r q. let z : s - 1 ≡ r = omega arith in rw (z, e) (step-score a r (omega arith)))
 
--- ---- letter by letter
+-- ---- row by row
 
-pub fills-start : {v : List ℕ} {loop step : ℕ → ℕ → ℕ} {letters loops steps : List ℕ} → length loops ≡ 256 → length steps ≡ 256
-    → Entries v loop step letters 0 loops steps
-fills-start e f = record { long-loops = e; long-steps = f; entries = λ i h. absurd (omega arith) }
+pub scores-start : {v letters : List ℕ} {scores : List (List ℕ)} → length scores ≡ 64 → ScoreRows v letters 0 scores
+scores-start e = record { long = e; row = λ i h. absurd (omega arith); same = λ i h. absurd (omega arith) }
 
-pub fills-next : {v : List ℕ} {loop step : ℕ → ℕ → ℕ} {letters : List ℕ} {n i : ℕ} {loops steps loops′ steps′ : List ℕ} → Letters v letters n → i < n
-    → Entries v loop step letters i loops steps → Filled v loop step (getD letters i 0) loops steps loops′ steps′
-    → Entries v loop step letters (i + 1) loops′ steps′
-fills-next {v} {loop} {step} {letters} {n} {i} {loops} {steps} {loops′} {steps′} t h d f = record {
-  long-loops = f .long-loops;
-  long-steps = f .long-steps;
-  entries = λ j k. at j k (ℕ-discrete (getD letters j 0) (getD letters i 0));
+pub scores-row : {v letters : List ℕ} {i : ℕ} {scores : List (List ℕ)} {row : List ℕ} → i < 64 → ScoreRows v letters i scores → ScoreRow v row
+    → getD row 8 0 ≡ getD letters i 0 → ScoreRows v letters (i + 1) (set scores i row)
+scores-row {v} {letters} {i} {scores} {row} h d p e = record {
+  long = length-set scores i row ∙ d .long;
+  row = λ j k. at j k (ℕ-discrete j i);
+  same = λ j k. same j k (ℕ-discrete j i);
 }
   where
-    at : (j : ℕ) → j < i + 1 → Dec (getD letters j 0 ≡ getD letters i 0) → LetterEntries v loop step (getD letters j 0) loops′ steps′
-    at j k (yes e) = rw e (f .here)
-    at j k (no e) = before (ℕ-discrete j i)
-      where
-        before : Dec (j ≡ i) → LetterEntries v loop step (getD letters j 0) loops′ steps′
-        before (yes q) = absurd (e (ap (λ m. getD letters m 0) q))
-        before (no q) = f .others (getD letters j 0) (t .known j (omega (arith, q))) e (d .entries j (omega (arith, q)))
+    here : getD (set scores i row) i [] ≡ row
+    here = getD-set-same scores i row [] (omega (arith, d .long))
 
-pub fills-done : {v : List ℕ} {loop step : ℕ → ℕ → ℕ} {letters : List ℕ} {n i : ℕ} {loops steps : List ℕ} → n ≤ i
-    → Entries v loop step letters i loops steps
-    → Entries v loop step letters n loops steps
-fills-done h d = record { long-loops = d .long-loops; long-steps = d .long-steps; entries = λ j k. d .entries j (omega arith) }
+    at : (j : ℕ) → j < i + 1 → Dec (j ≡ i) → ScoreRow v (getD (set scores i row) j [])
+    at j k (yes q) = rw (q, here) p
+    at j k (no q) = rw (getD-set-other scores i j row [] q) (d .row j (omega (arith, q)))
+
+    same : (j : ℕ) → j < i + 1 → Dec (j ≡ i) → letterAt (set scores i row) j ≡ getD letters j 0
+    same j k (yes q) = rw (q, here) e
+    same j k (no q) = rw (getD-set-other scores i j row [] q) (d .same j (omega (arith, q)))
+
+pub scores-done : {v letters : List ℕ} {n i : ℕ} {scores : List (List ℕ)} → n ≤ i → ScoreRows v letters i scores → ScoreRows v letters n scores
+scores-done h d = record { long = d .long; row = λ j k. d .row j (omega arith); same = λ j k. d .same j (omega arith) }
+
+-- each letter in use has its row
+pub scored : {v x letters : List ℕ} {n : ℕ} {scores : List (List ℕ)} → InUse v x letters n → ScoreRows v letters n scores → Scored v x n scores
+scored t s = record {
+  table = record { few = t .letters-of .few; row = λ i h. s .row i h };
+  all = λ u l h. let a = t .all u l h in record { at = a .at; inside = a .inside; same = s .same (a .at) (a .inside) ∙ a .same };
+}
+
+pub gained-start : {v : List ℕ} {k : ℕ} {scores gains : List (List ℕ)} → length gains ≡ 64 → Gained v k scores 0 gains
+gained-start e = record { long = e; row = λ i h. absurd (omega arith) }
+
+pub gained-next : {v : List ℕ} {k i : ℕ} {scores gains : List (List ℕ)} {row : List ℕ} → letterAt scores i < 64 → Gained v k scores i gains
+    → GainRow v k (letterAt scores i) row → Gained v k scores (i + 1) (set gains (letterAt scores i) row)
+gained-next {v} {k} {i} {scores} {gains} {row} h d p = record {
+  long = length-set gains (letterAt scores i) row ∙ d .long;
+  row = λ j m. at j m (ℕ-discrete (letterAt scores j) (letterAt scores i));
+}
+  where
+    at : (j : ℕ) → j < i + 1 → Dec (letterAt scores j ≡ letterAt scores i)
+        → GainRow v k (letterAt scores j) (getD (set gains (letterAt scores i) row) (letterAt scores j) [])
+    at j m (yes e) = rw (e, getD-set-same gains (letterAt scores i) row [] (omega (arith, d .long))) p
+    at j m (no e) = rw (getD-set-other gains (letterAt scores i) (letterAt scores j) row [] e) (d .row j (before (ℕ-discrete j i)))
+      where
+        before : Dec (j ≡ i) → j < i
+        before (yes q) = absurd (e (ap (λ m. letterAt scores m) q))
+        before (no q) = omega (arith, q)
+
+pub gained-done : {v : List ℕ} {k n i : ℕ} {scores gains : List (List ℕ)} → n ≤ i → Gained v k scores i gains → Gained v k scores n gains
+gained-done h d = record { long = d .long; row = λ j k. d .row j (omega arith) }
+
+pub row-scored : {v row : List ℕ} {l first : ℕ} → AtLetter v l first → getD row 8 0 ≡ l → getD row 9 0 ≡ first
+    → LetterEntries v (loopRaised v) (stepRaised v) l row → ScoreRow v row
+row-scored {v} {row} {l} a e f d = record {
+  letter = rw e (a .letter);
+  first = rw e (f ∙ a .begins);
+  scores = rw e d;
+}
+
+pub row-letter : {v row : List ℕ} → voiceVerdict v ≡ wellFormed → ScoreRow v row → AtLetter v (getD row 8 0) (getD row 9 0)
+row-letter w r = record { well-formed = w; letter = r .letter; begins = r .first }
 
 pub begins-at : {v letters begins : List ℕ} {n i : ℕ} → voiceVerdict v ≡ wellFormed → Letters v letters n → Begins v begins → i < n
     → AtLetter v (getD letters i 0) (getD begins (getD letters i 0) 0)
@@ -245,52 +257,52 @@ begins-at {v} {letters} {begins} {i = i} w t b h =
 
 -- ---- one letter at a frame
 
-module _ {v : List ℕ} {l : ℕ} {looping stepping : List ℕ} (e : LetterEntries v (loopRaised v) (stepRaised v) l looping stepping) where
-  pub loop-below : {s : ℕ} → s < states v l → getD looping (4 * l + s) 0 < 65536
+module _ {v : List ℕ} {l : ℕ} {scores : List ℕ} (e : LetterEntries v (loopRaised v) (stepRaised v) l scores) where
+  pub loop-below : {s : ℕ} → s < states v l → getD scores s 0 < 65536
   unfolding loopRaised loopScore
   loop-below {s} h = rw (e .loop-at s h) (raised-below (loopScore v (firstState v l + s)) (i16-range v _))
 
-  pub step-below : {s p : ℕ} → s ≡ suc p → s < states v l → getD stepping (4 * l + s) 0 < 65536
+  pub step-below : {s p : ℕ} → s ≡ suc p → s < states v l → getD scores (4 + s) 0 < 65536
   unfolding stepRaised stepScore
   step-below {s} {p} q h = rw (q, e .step-at p (omega arith)) (raised-below (stepScore v (firstState v l + p)) (i16-range v _))
 
   pub loop-gain : (k : ℕ) {s heard : ℕ} → s < states v l → heard ≡ raisedOf (possible (emission v (firstState v l + s) k))
-      → raisedGain (getD looping (4 * l + s) 0) heard ≡ loopGain v k l s
+      → raisedGain (getD scores s 0) heard ≡ loopGain v k l s
   unfolding loopRaised loopScore loopGain
   loop-gain k {s} h q = rw (e .loop-at s h, q)
       (gain-both (loopScore v (firstState v l + s)) (emission v (firstState v l + s) k) (i16-range v _) (emission-range v _ k))
 
   pub step-gain : (k : ℕ) {s heard : ℕ} → suc s < states v l → heard ≡ raisedOf (possible (emission v (firstState v l + suc s) k))
-      → raisedGain (getD stepping (4 * l + suc s) 0) heard ≡ stepGain v k l s
+      → raisedGain (getD scores (4 + suc s) 0) heard ≡ stepGain v k l s
   unfolding stepRaised stepScore stepGain
   step-gain k {s} h q = rw (e .step-at s h, q)
       (gain-both (stepScore v (firstState v l + s)) (emission v (firstState v l + suc s) k) (i16-range v _) (emission-range v _ k))
 
   -- the gain of the first state's loop
-  pub first-gained : (k : ℕ) {first heard : ℕ} {loops steps loops′ : List ℕ} → AtLetter v l first → length loops ≡ 256 → length steps ≡ 256
-      → heard ≡ raisedOf (possible (emission v (first + 0) k)) → loops′ ≡ set loops (4 * l) (raisedGain (getD looping (4 * l) 0) heard)
-      → Filling v (loopGain v k) (stepGain v k) l 1 loops steps loops′ steps
-  first-gained k {first} {heard} {loops} {steps} {loops′} a m n q d =
-      let r = states-range v (a .well-formed) (a .letter) .0 in
-      let z : 4 * l ≡ 4 * l + 0 = omega arith in
-      let i : loops′ ≡ set loops (4 * l + 0) (raisedGain (getD looping (4 * l + 0) 0) heard) = rw z at d in
-      fill-next (letter-small a) (omega arith) (fill-start m n)
-      (i ∙ ap (set loops (4 * l + 0)) (loop-gain k (omega arith) (rw (a .begins) at q)))
-      (λ e. refl)
-      (λ p e. absurd (omega arith))
+  pub first-gained : (k : ℕ) {first heard b : ℕ} {row : List ℕ} → AtLetter v l first → heard ≡ raisedOf (possible (emission v (first + 0) k))
+      → FirstPut (raisedGain (getD scores 0 0) heard) b row → Filling v (loopGain v k) (stepGain v k) l 1 row
+  first-gained k {first} {heard} {b} {row} a q d = record {
+    long = omega (arith, d .long);
+    loop-at = λ r h. at r h (ℕ-discrete r 0);
+    step-at = λ r h. absurd (omega arith);
+  }
+    where
+      some : 1 ≤ states v l
+      some = states-range v (a .well-formed) (a .letter) .0
+
+      at : (r : ℕ) → r < 1 → Dec (r ≡ 0) → getD row r 0 ≡ loopGain v k l r
+      at r h (yes z) = rw z (d .loop ∙ loop-gain k {s = 0} some (rw (a .begins) at q))
+      at r h (no z) = absurd (z (omega arith))
 
   -- the gains of the next state
-  pub next-gained : (k : ℕ) {first s p heard : ℕ} {loops₀ steps₀ loops steps loops′ steps′ : List ℕ} → AtLetter v l first → s ≡ suc p → s < states v l
-      → heard ≡ raisedOf (possible (emission v (first + s) k)) → Filling v (loopGain v k) (stepGain v k) l s loops₀ steps₀ loops steps
-      → loops′ ≡ set loops (4 * l + s) (raisedGain (getD looping (4 * l + s) 0) heard)
-      → steps′ ≡ set steps (4 * l + s) (raisedGain (getD stepping (4 * l + s) 0) heard)
-      → Filling v (loopGain v k) (stepGain v k) l (s + 1) loops₀ steps₀ loops′ steps′
-  next-gained k {first} {s} {p} {heard} {loops = loops} {steps = steps} a e h q f c d =
+  pub next-gained : (k : ℕ) {first s p heard : ℕ} {row row′ : List ℕ} → AtLetter v l first → s ≡ suc p → s < states v l
+      → heard ≡ raisedOf (possible (emission v (first + s) k)) → Filling v (loopGain v k) (stepGain v k) l s row
+      → StatePut row s (raisedGain (getD scores s 0) heard) (raisedGain (getD scores (4 + s) 0) heard) row′
+      → Filling v (loopGain v k) (stepGain v k) l (s + 1) row′
+  next-gained k {first} {s} {p} {heard} a e h q f d =
       let i : heard ≡ raisedOf (possible (emission v (firstState v l + s) k)) = rw (a .begins) at q in
-      fill-next (letter-small a) (omega (arith, letter-few a)) f
-      (c ∙ ap (set loops (4 * l + s)) (loop-gain k h i))
-      (λ z. absurd (omega arith))
-      (λ r w. d ∙ ap (set steps (4 * l + s)) (rw w (step-gain k {s = r} (omega arith) (rw w at i))))
+      fill-next (omega (arith, letter-few a)) f d (loop-gain k h i)
+      (λ r w. rw w (step-gain k {s = r} (omega arith) (rw w at i)))
 
 -- ---- where an emission stands
 
@@ -314,77 +326,14 @@ emission-next v k first p e =
 pub heard-below : (v : List ℕ) (place : ℕ) {heard : ℕ} → heard ≡ raisedOf (possible (i16 v place)) → heard < 65536
 heard-below v place e = rw e (raised-below (i16 v place) (i16-range v place))
 
--- ---- all letters at a frame
-
-pub gained-start : {v : List ℕ} {k link : ℕ} {letters loops steps entries : List ℕ} → Long loops steps entries
-    → Gained v k link letters 0 loops steps entries
-gained-start t = record { moves = fills-start (t .long-loops) (t .long-steps); long = t .long-entries; entry = λ i h. absurd (omega arith) }
-
-pub gained-next : {v : List ℕ} {k link : ℕ} {letters : List ℕ} {n i : ℕ} {loops steps entries loops′ steps′ entries′ : List ℕ}
-    → voiceVerdict v ≡ wellFormed
-    → Letters v letters n → i < n → Gained v k link letters i loops steps entries
-    → Filled v (loopGain v k) (stepGain v k) (getD letters i 0) loops steps loops′ steps′
-    → entries′ ≡ set entries (getD letters i 0) (linkGain v k link (getD letters i 0))
-    → Gained v k link letters (i + 1) loops′ steps′ entries′
-gained-next {v} {k} {link} {letters} {n} {i} {entries = entries} {entries′ = entries′} w t h g f e = record {
-  moves = fills-next t h (g .moves) f;
-  long = ap length e ∙ length-set entries _ _ ∙ g .long;
-  entry = λ j m. at j m (ℕ-discrete (getD letters j 0) (getD letters i 0));
-}
-  where
-    at : (j : ℕ) → j < i + 1 → Dec (getD letters j 0 ≡ getD letters i 0) → getD entries′ (getD letters j 0) 0 ≡ linkGain v k link (getD letters j 0)
-    at j m (yes q) = rw (e, q) (getD-set-same entries (getD letters i 0) _ 0 (omega (arith, g .long, t .known i h, letters-few v w)))
-    at j m (no q) = before (ℕ-discrete j i)
-      where
-        before : Dec (j ≡ i) → getD entries′ (getD letters j 0) 0 ≡ linkGain v k link (getD letters j 0)
-        before (yes p) = absurd (q (ap (λ a. getD letters a 0) p))
-        before (no p) = rw e (getD-set-other entries (getD letters i 0) (getD letters j 0) _ 0 q ∙ g .entry j (omega (arith, p)))
-
-pub gained-done : {v : List ℕ} {k link : ℕ} {letters : List ℕ} {n i : ℕ} {loops steps entries : List ℕ} → n ≤ i
-    → Gained v k link letters i loops steps entries
-    → Gained v k link letters n loops steps entries
-gained-done h g = record { moves = fills-done h (g .moves); long = g .long; entry = λ j k. g .entry j (omega arith) }
-
-pub gained-long : {v : List ℕ} {k link : ℕ} {letters : List ℕ} {n : ℕ} {loops steps entries : List ℕ} → Gained v k link letters n loops steps entries
-    → Long loops steps entries
-gained-long g = record { long-loops = g .moves .long-loops; long-steps = g .moves .long-steps; long-entries = g .long }
-
 -- ---- the letters of nodes
 
-module _ {v x letters : List ℕ} {n : ℕ} (t : InUse v x letters n) {k link : ℕ} {loops steps entries : List ℕ}
-    (g : Gained v k link letters n loops steps entries) where
-  node-entries : (u : ℕ) → 1 ≤ u → u ≤ nodeCount x → LetterEntries v (loopGain v k) (stepGain v k) (nodeLetter x u) loops steps
-  node-entries u l h = let a = t .all u l h in rw (a .same) at (g .moves .entries (a .at) (a .inside))
+module _ {v x : List ℕ} {n : ℕ} {scores : List (List ℕ)} (t : Scored v x n scores) {k : ℕ} {gains : List (List ℕ)} (g : Gained v k scores n gains) where
+  node-row : (u : ℕ) → 1 ≤ u → u ≤ nodeCount x → GainRow v k (nodeLetter x u) (getD gains (nodeLetter x u) [])
+  node-row u l h = let a = t .all u l h in rw (a .same) at (g .row (a .at) (a .inside))
 
-  pub move-gains : MoveGains v x k loops steps
-  move-gains = record {
-    long-loops = g .moves .long-loops;
-    long-steps = g .moves .long-steps;
-    loop = λ u s l h i. node-entries u l h .loop-at s i;
-    step = λ u s l h i. node-entries u l h .step-at s i;
-  }
+  pub move-gains : MoveGains v x k gains
+  move-gains = λ u l h. node-row u l h .moves
 
-  -- nodes are entered by a stored score
-  pub entry-gains : (moved : ℤ) → mag moved < 32768 → link ≡ raisedOf (possible moved) → EntryGains v x k (possible moved) entries
-  unfolding linkGain entryGain
-  entry-gains moved m e = record { long = g .long; entry = λ u l h. at u (t .all u l h) }
-    where
-      at : (u : ℕ) → Among letters n (nodeLetter x u) → getD entries (nodeLetter x u) 0 ≡ entryGain v k (possible moved) (nodeLetter x u)
-      at u a =
-          let is : getD entries (nodeLetter x u) 0 ≡ linkGain v k link (nodeLetter x u) = rw (a .same) at (g .entry (a .at) (a .inside)) in
-          is ∙ rw e (gain-both moved (emission v (firstState v (nodeLetter x u) + 0) k) m (emission-range v _ k))
-
-  pub link-gains : link ≡ raisedOf (possible (linkScore v 0)) → EntryGains v x k (possible (linkScore v 0)) entries
-  unfolding linkScore
-  link-gains e = entry-gains (linkScore v 0) (i16-range v _) e
-
--- the root's token enters by a move of score 0
-pub root-gains : {v x letters : List ℕ} {n : ℕ} → InUse v x letters n → {k : ℕ} {loops steps entries : List ℕ}
-    → Gained v k 32768 letters n loops steps entries
-    → EntryGains v x k (some (pos 0)) entries
-unfolding possible eqZ impossible raisedOf raised
-root-gains t g = entry-gains t g (pos 0) (omega arith) refl
-
-pub link-below : (v : List ℕ) {link : ℕ} → link ≡ raisedOf (possible (linkScore v 0)) → link < 65536
-unfolding linkScore
-link-below v e = rw e (raised-below (linkScore v 0) (i16-range v _))
+  pub entry-gains : EntryGains v x k gains
+  entry-gains = record { long = g .long; entry = λ u l h. node-row u l h .entry }

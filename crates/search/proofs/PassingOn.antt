@@ -1,7 +1,7 @@
 -- Tokens passed on along the arcs of a vertex: one arc, and the loop over all. What is left to pass on from the store so far is what was to be
 -- passed on from the store at the beginning; the increment of the next arc is the sum of the counts before it. Assumes nothing.
 use Prim.Native.Nat.{ℕ, zero, suc, _+_, _*_, _^_, _≤_, _<_}
-use mathlib.Core.Path.{_≡_, refl, sym, ap, _∙_}
+use mathlib.Core.Path.{_≡_, refl, sym, ap, ap₂, _∙_}
 use mathlib.Core.Bool.{Bool, true, false}
 use mathlib.Core.Logic.{inl, ⊎-elim}
 use mathlib.Core.List.{List, [], _∷_, _++_, Memᴰ·append-right, List·Memᴰ, List·Memᴰ·head as here, List·Memᴰ·tail as there, List·Memᴰ·append-cases as append-cases}
@@ -22,7 +22,7 @@ use Rattle.checking.proofs.Tables.{entry}
 use Rattle.checking.proofs.Arcs.{shape-of, sound-of, nodes-there, has-entry, ListThere, list-entry, list-at, ArcNext, arc-next, arcs-done}
 use Rattle.checking.proofs.Increments.{CountsPassed, counts-start, split-here, increment-here, counts-below, counts-next}
 use Rattle.ranking.specs.Hits.{Hit}
-use Rattle.decoder.specs.Score.{plus}
+use Rattle.decoder.specs.Score.{possible, plus}
 use Rattle.passing.specs.Tokens.{Store, bestTokens, stateOf, heard, overArc}
 use Rattle.passing.specs.InPlace.{passOn}
 use Rattle.passing.proofs.Order.{hits-strict}
@@ -30,13 +30,14 @@ use Rattle.passing.proofs.Best.{best-from, best-best}
 use Rattle.passing.proofs.InPlace.{put-node}
 use Rattle.search.specs.Slots.{Changed}
 use Rattle.search.specs.Held.{held, pad, downOf}
-use Rattle.search.specs.Gains.{entryGain}
+use Rattle.search.specs.Gains.{raisedOf, raisedGain, gainOf, entryRaised}
 use Rattle.search.specs.Places.{firstPlace, firstSlot}
 use Rattle.search.specs.Stored.{Ready, Bound, Place, Stored, source, PassingOn, PassedOn, passedOn}
 use Rattle.search.specs.Carrying.{Worth, Offering, joined, Arc, overOne}
 use Rattle.search.proofs.Numbers.{token-some}
 use Rattle.search.proofs.Lending.{changed-apart}
 use Rattle.search.proofs.Storing.{PutAt, same, other, put-at, stored-put, stored-ext, pass-nothing, words-few, place-there, place-room, slot-small, carried-bound, bound-storable, movers}
+use Rattle.search.proofs.Gaining.{raised-below, gain-both}
 use Rattle.search.proofs.Carrying.{emission-range, worth-by, passed-long, passed-take}
 
 -- ---- what is accepted
@@ -68,10 +69,12 @@ module _ {v x : List ℕ} {n : ℕ} {lists counts firsts : List ℕ} (r : Ready 
 -- ---- one arc
 
 -- the bytes and entries that are read for it
-pub record ArcRead (x firsts entries : List ℕ) (u : ℕ) : Type 0 where
+pub record ArcRead (x firsts : List ℕ) (gains : List (List ℕ)) (link u : ℕ) : Type 0 where
   pub there : 1 + u < length x
   pub letter : getD x (1 + u) 0 < 64
-  pub long-entries : length entries ≡ 64
+  pub long-gains : length gains ≡ 64
+  pub link-small : link < 65536
+  pub entry-small : getD (getD gains (getD x (1 + u) 0) []) 4 0 < 65536
   pub long-firsts : length firsts ≡ 402
   pub few : u ≤ 400
   pub slot : getD firsts u 0 ≤ 8000
@@ -83,12 +86,12 @@ unfolding source
 source-apart true n k a c = refl
 source-apart false n k a c = changed-apart c n k (inl (a refl))
 
-module _ {x : List ℕ} {n nodes : ℕ} {firsts entries : List ℕ} {root : Bool} {from u down : ℕ} {b : List ℕ}
-    (t : Arc x n nodes firsts entries root from u down b) where
+module _ {x : List ℕ} {n nodes : ℕ} {firsts : List ℕ} {gains : List (List ℕ)} {link : ℕ} {root : Bool} {from u down : ℕ} {b : List ℕ}
+    (t : Arc x n nodes firsts gains link root from u down b) where
   abbrev w : ℕ
   w = t .w
 
-  abbrev h : PassingOn x n (t .lists) (t .counts) firsts entries w root from b
+  abbrev h : PassingOn x n (t .lists) (t .counts) firsts gains link w root from b
   h = t .passing-on
 
   abbrev g : Graph
@@ -107,11 +110,21 @@ module _ {x : List ℕ} {n nodes : ℕ} {firsts entries : List ℕ} {root : Bool
   words : wordCount g < 2 ^ 32
   words = words-few (h .v) x (h .ready .accepted)
 
-  worth : u ≤ nodeCount x → Worth (getD entries (getD x (1 + u) 0) 0) (plus (h .score) (heard (h .v) g (h .k) u 0))
-  unfolding nodeLetter entryGain heard stateOf
+  -- what is read of the letter that is entered
+  abbrev entered : ℕ
+  entered = getD (getD gains (getD x (1 + u) 0) []) 4 0
+
+  entered-is : u ≤ nodeCount x → entered ≡ raisedOf (possible (emission (h .v) (firstState (h .v) (nodeLetter x u) + 0) (h .k)))
+  unfolding nodeLetter entryRaised
+  entered-is k = h .entry-gains .entry u (omega (arith, rises .0)) k
+
+  worth : u ≤ nodeCount x → Worth (raisedGain link entered) (plus (h .score) (heard (h .v) g (h .k) u 0))
+  unfolding nodeLetter heard stateOf
   worth k =
-      worth-by (h .moved) (emission (h .v) (firstState (h .v) (nodeLetter x u) + 0) (h .k)) (h .score-is) (h .small) (emission-range (h .v) _ (h .k))
-      (h .gains .entry u (omega (arith, rises .0)) k)
+      let z = emission (h .v) (firstState (h .v) (nodeLetter x u) + 0) (h .k) in
+      worth-by (h .moved) z (h .score-is) (h .small) (emission-range (h .v) _ (h .k))
+      (ap₂ raisedGain (h .link-is) (entered-is k) ∙ gain-both (h .moved) z (h .small) (emission-range (h .v) _ (h .k))
+      ∙ ap (λ o. gainOf (plus o (possible z))) (sym (h .score-is)))
 
   module _ (k : u ≤ nodeCount x) where
     one : 1 ≤ u
@@ -123,24 +136,26 @@ module _ {x : List ℕ} {n nodes : ℕ} {firsts entries : List ℕ} {root : Bool
     slot-is : getD firsts u 0 ≡ n * (firstPlace (h .v) g u + 0)
     slot-is = rw add-zero (first-at (h .ready) k)
 
-    pub arc-read : ArcRead x firsts entries u
+    pub arc-read : ArcRead x firsts gains link u
     unfolding nodeLetter
     arc-read = record {
       there = omega (arith, nodes-there (lexicon-formed (h .ready)));
       letter = letter-few (h .ready) one k;
-      long-entries = h .gains .long;
+      long-gains = h .entry-gains .long;
+      link-small = rw (h .link-is) (raised-below (h .moved) (h .small));
+      entry-small = rw (entered-is k) (raised-below _ (emission-range (h .v) _ (h .k)));
       long-firsts = h .ready .firsts-of .long;
       few = omega (arith, shape-of (lexicon-formed (h .ready)) .few);
       slot = rw slot-is (slot-small (h .v) x (h .ready .accepted) (h .roomy) (omega (arith, place-there (h .v) x place)));
     }
 
-    pub arc-offering : Offering n (getD firsts u 0) (getD entries (getD x (1 + u) 0) 0) down (source root n from b) b
-    arc-offering = record {
+    pub arc-offering : {gain : ℕ} → gain ≡ raisedGain link entered → Offering n (getD firsts u 0) gain down (source root n from b) b
+    arc-offering q = record {
       score = plus (h .score) (heard (h .v) g (h .k) u 0);
       d = increment g (w) u;
       l = h .l;
       s = h .Q u 0;
-      worth = worth k;
+      worth = rw q (worth k);
       down-is = t .down-is;
       room = rw slot-is (place-room (h .v) x (h .roomy) place);
       long = passed-long (h .l) (h .given) (omega arith);
@@ -157,9 +172,9 @@ module _ {x : List ℕ} {n nodes : ℕ} {firsts entries : List ℕ} {root : Bool
     pub arc-source : {l b′ : List ℕ} → Changed (getD firsts u 0) n l b b′ → source root n from b′ ≡ source root n from b
     arc-source c = source-apart root n from arc-apart c
 
-    pub arc-done : {b′ : List ℕ} → Changed (getD firsts u 0) n (held n (joined arc-offering)) b b′ → Stored (h .v) g n (overOne t) b′
+    pub arc-done : {gain : ℕ} (q : gain ≡ raisedGain link entered) {b′ : List ℕ} → Changed (getD firsts u 0) n (held n (joined (arc-offering q))) b b′ → Stored (h .v) g n (overOne t) b′
     unfolding joined overOne arc-offering
-    arc-done c = stored-put place (h .stored) (rw slot-is at c) (best-best hits-strict n _)
+    arc-done q c = stored-put place (h .stored) (rw slot-is at c) (best-best hits-strict n _)
 
   -- the sink has no place
   pub arc-sink : nodes < u → Stored (h .v) g n (overOne t) b
@@ -184,8 +199,8 @@ module _ {x : List ℕ} {n nodes : ℕ} {firsts entries : List ℕ} {root : Bool
 
 -- ---- all arcs
 
-module _ {x : List ℕ} {n : ℕ} {lists counts firsts entries : List ℕ} {w : ℕ} {root : Bool} {from : ℕ} {b₀ : List ℕ}
-    (t : PassingOn x n lists counts firsts entries w root from b₀) where
+module _ {x : List ℕ} {n : ℕ} {lists counts firsts : List ℕ} {gains : List (List ℕ)} {link w : ℕ} {root : Bool} {from : ℕ} {b₀ : List ℕ}
+    (t : PassingOn x n lists counts firsts gains link w root from b₀) where
   -- Q is the store when the arcs to the earlier successors are done
   pub record PassingLeft (at stop down : ℕ) (b : List ℕ) : Type 0 where
     pub Q : Store
@@ -240,7 +255,7 @@ module _ {x : List ℕ} {n : ℕ} {lists counts firsts entries : List ℕ} {w : 
   }
 
   module _ {at stop down : ℕ} {b : List ℕ} (L : PassingLeft at stop down b) where
-    so-far : PassingOn x n lists counts firsts entries w root from b
+    so-far : PassingOn x n lists counts firsts gains link w root from b
     so-far = record {
       v = t .v;
       k = t .k;
@@ -251,10 +266,11 @@ module _ {x : List ℕ} {n : ℕ} {lists counts firsts entries : List ℕ} {w : 
       ready = t .ready;
       roomy = record { some = t .roomy .some; few = t .roomy .few; room = rw (L .long) (t .roomy .room) };
       vertex = t .vertex;
-      gains = t .gains;
+      entry-gains = t .entry-gains;
       moved = t .moved;
       score-is = t .score-is;
       small = t .small;
+      link-is = t .link-is;
       given = L .source-kept ∙ t .given;
       inside = λ z. let r = t .inside z in record { some = r .some; few = r .few; room = rw (L .long) (r .room) };
       apart = t .apart;
@@ -275,7 +291,7 @@ module _ {x : List ℕ} {n : ℕ} {lists counts firsts entries : List ℕ} {w : 
       in-list : List·Memᴰ u (successors x w)
       in-list = rw (e, split-here formed (t .vertex) (L .sums) next) (Memᴰ·append-right (L .sums .earlier) (here refl))
 
-      pub left-arc : {nodes : ℕ} → nodes ≡ nodeCount x → Arc x n nodes firsts entries root from u down b
+      pub left-arc : {nodes : ℕ} → nodes ≡ nodeCount x → Arc x n nodes firsts gains link root from u down b
       left-arc q = record {
         w = w;
         lists = lists;
@@ -300,7 +316,7 @@ module _ {x : List ℕ} {n : ℕ} {lists counts firsts entries : List ℕ} {w : 
           omega (arith, L .down-is, count-is, counts-below formed (t .vertex) (L .sums) next, some-words z, words-few (t .v) x (t .ready .accepted))
 
       pub passing-next : {nodes : ℕ} → nodes ≡ nodeCount x → {b′ : List ℕ}
-          → ((a : Arc x n nodes firsts entries root from u down b) → Stored (a .passing-on .v) (graphOf x) n (overOne a) b′)
+          → ((a : Arc x n nodes firsts gains link root from u down b) → Stored (a .passing-on .v) (graphOf x) n (overOne a) b′)
           → source root n from b′ ≡ source root n from b → length b′ ≡ length b
           → PassingLeft (at + 2) stop (down + getD counts u 0) b′
       unfolding passOn overOne downOf left-arc so-far counts-next

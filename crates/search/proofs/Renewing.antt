@@ -77,7 +77,7 @@ own-put {n} {S} P u {s} {b} {b′} {l} h O c k = record { holds = λ {r} q. at q
     best q (same e f z) = rw z k
     best q (other d z) = rw z (O .kept q)
 
-module _ {n entry s : ℕ} {loops steps b : List ℕ} (t : Renewing n entry (suc s) loops steps b) where
+module _ {n s : ℕ} {row b : List ℕ} (t : Renewing n (suc s) row b) where
   abbrev g : Graph
   g = graphOf (t .x)
 
@@ -103,8 +103,8 @@ module _ {n entry s : ℕ} {loops steps b : List ℕ} (t : Renewing n entry (suc
   state-few = omega (arith, t .all, states-range (t .v) (images .voice) known)
 
   -- the entry and the slot that are read
-  pub entry-few : entry + s < 256
-  entry-few = omega (arith, t .entry-is, known, letters-few (t .v) (images .voice), t .few, state-few)
+  pub entry-few : s < 4
+  entry-few = omega (arith, t .few, state-few)
 
   pub slot-few : n * s ≤ 32
   slot-few = mul-le-mul {n₂ = 8} {m₂ = 4} (t .eight) (omega (arith, t .few, state-few))
@@ -112,15 +112,14 @@ module _ {n entry s : ℕ} {loops steps b : List ℕ} (t : Renewing n entry (suc
   room-at : {r : ℕ} {b′ : List ℕ} → r < suc s → length b′ ≡ length b → Room n (n * r) b′
   room-at h e = record { some = t .some; few = t .eight; room = omega (arith, block n (inside h), t .room) }
 
-  loop-worth : Worth (getD loops (entry + s) 0) (loopMove (t .v) g (t .P) (t .k) (t .node) s)
+  loop-worth : Worth (getD row s 0) (loopMove (t .v) g (t .P) (t .k) (t .node) s)
   unfolding loopMove loopGain heard stateOf loopScore
   loop-worth =
-      let at : entry + s ≡ 4 * letter + s = omega (arith, t .entry-is) in
       worth-of (loopScore (t .v) (firstState (t .v) letter + s)) (emission (t .v) (firstState (t .v) letter + s) (t .k))
       (i16-range (t .v) _) (emission-range (t .v) _ (t .k))
-      (ap (λ i. getD loops i 0) at ∙ t .moves .loop (t .node) s (t .low) (t .high) (omega (arith, t .few)))
+      (t .moves .loop-at s (omega (arith, t .few, t .all)))
 
-  pub staying : Staying n (n * s) (getD loops (entry + s) 0) b
+  pub staying : Staying n (n * s) (getD row s 0) b
   staying = record {
     score = loopMove (t .v) g (t .P) (t .k) (t .node) s;
     l = t .P (t .node) s;
@@ -144,25 +143,25 @@ module _ {n entry s : ℕ} {loops steps b : List ℕ} (t : Renewing n entry (suc
     before : r < suc s
     before = omega arith
 
-    step-worth : Worth (getD steps (entry + s) 0) (stepMove (t .v) g (t .P) (t .k) (t .node) r)
+    step-worth : Worth (getD row (4 + s) 0) (stepMove (t .v) g (t .P) (t .k) (t .node) r)
     unfolding stepMove stepGain heard stateOf stepScore
     step-worth =
-        let at : entry + s ≡ 4 * letter + suc r = omega (arith, t .entry-is) in
+        let at : 4 + s ≡ 4 + suc r = omega arith in
         worth-of (stepScore (t .v) (firstState (t .v) letter + r)) (emission (t .v) (firstState (t .v) letter + suc r) (t .k))
         (i16-range (t .v) _) (emission-range (t .v) _ (t .k))
-        (ap (λ i. getD steps i 0) at ∙ t .moves .step (t .node) r (t .low) (t .high) (omega (arith, t .few)))
+        (ap (λ i. getD row i 0) at ∙ t .moves .step-at r (omega (arith, t .few, t .all)))
 
     renewed-is : renewed (t .v) g (t .P) (t .k) (t .node) s
         ≡ carried (loopMove (t .v) g (t .P) (t .k) (t .node) s) 0 (t .P (t .node) s) ++ carried (stepMove (t .v) g (t .P) (t .k) (t .node) r) 0 (t .P (t .node) r)
     renewed-is = renewed-later (t .v) g (t .P) (t .k) (t .node) s r e
 
     -- no step
-    pub loop-done : getD steps (entry + s) 0 ≡ 0 → {b′ : List ℕ} → Changed (n * s) n (held n (stayed staying)) b b′
+    pub loop-done : getD row (4 + s) 0 ≡ 0 → {b′ : List ℕ} → Changed (n * s) n (held n (stayed staying)) b b′
         → Own n (t .S) (renewedOne t (t .node)) b′
     unfolding stayed staying carried
     loop-done z c = done c (renewed-is ∙ rw (step-worth .none-is z) (append-nil _))
 
-    pub step-few : getD steps (entry + s) 0 ≤ 131072
+    pub step-few : getD row (4 + s) 0 ≤ 131072
     step-few = worth-few step-worth
 
     slot-next : n * s ≡ n * r + n
@@ -181,7 +180,7 @@ module _ {n entry s : ℕ} {loops steps b : List ℕ} (t : Renewing n entry (suc
           changed-apart c n (n * s - n) (inl (omega (arith, slot-covers)))
           ∙ rw slot-before (t .stored .holds (inside before))
 
-      step-offering : Offering n (n * s) (getD steps (entry + s) 0) 281474976710656 (slots n (n * s - n) b′) b′
+      step-offering : Offering n (n * s) (getD row (4 + s) 0) 281474976710656 (slots n (n * s - n) b′) b′
       unfolding downOf stayed staying
       step-offering = record {
         score = stepMove (t .v) g (t .P) (t .k) (t .node) r;
@@ -201,9 +200,9 @@ module _ {n entry s : ℕ} {loops steps b : List ℕ} (t : Renewing n entry (suc
             (best-from hits-strict n _ h i));
       }
 
-      module _ (z : ¬ (getD steps (entry + s) 0 ≡ 0)) where
+      module _ (z : ¬ (getD row (4 + s) 0 ≡ 0)) where
         abbrev up : ℕ
-        up = getD steps (entry + s) 0 * 4294967296
+        up = getD row (4 + s) 0 * 4294967296
 
         pub step-ready : Offer n (n * s) up 281474976710656 (slots n (n * s - n) b′) b′
         step-ready = pass-to-ready step-offering z
@@ -219,7 +218,7 @@ module _ {n entry s : ℕ} {loops steps b : List ℕ} (t : Renewing n entry (suc
 
 -- ---- all states
 
-module _ {n entry states₀ : ℕ} {loops steps b₀ : List ℕ} (t : Renewing n entry states₀ loops steps b₀) where
+module _ {n states₀ : ℕ} {row b₀ : List ℕ} (t : Renewing n states₀ row b₀) where
   -- Q is the store when the states from s on are renewed
   pub record RenewLeft (s : ℕ) (b : List ℕ) : Type 0 where
     pub Q : Store
@@ -234,7 +233,7 @@ module _ {n entry states₀ : ℕ} {loops steps b₀ : List ℕ} (t : Renewing n
   renew-start = record { Q = t .P; few = omega arith; stored = t .stored; old = λ r h. refl; long = refl; passed = refl }
 
   module _ {s : ℕ} {b : List ℕ} (L : RenewLeft (suc s) b) where
-    pub left-renewing : Renewing n entry (suc s) loops steps b
+    pub left-renewing : Renewing n (suc s) row b
     left-renewing = record {
       v = t .v;
       x = t .x;
@@ -251,7 +250,6 @@ module _ {n entry states₀ : ℕ} {loops steps b₀ : List ℕ} (t : Renewing n
       room = rw (L .long) (t .room);
       all = t .all;
       few = omega (arith, L .few, t .few);
-      entry-is = t .entry-is;
       moves = t .moves;
       stored = L .stored;
       bound = λ {r} h i. t .bound (omega (arith, L .few)) (rw (L .old r h) at i);

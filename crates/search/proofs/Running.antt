@@ -32,7 +32,8 @@ use Rattle.passing.specs.InPlace.{passNode, passDown, passRoot}
 use Rattle.passing.proofs.InPlace.{first-frame, next-frame}
 use Rattle.passing.proofs.Bounds.{token-bounded}
 use Rattle.search.specs.Slots.{slots}
-use Rattle.search.specs.Gains.{MoveGains, EntryGains, Hearing}
+use Rattle.search.specs.Held.{raised}
+use Rattle.search.specs.Gains.{raisedOf, MoveGains, EntryGains, Hearing}
 use Rattle.search.specs.Stored.{Roomy, Bound, Stored, Within, source, PassingOn, passedOn, PassedOn, Turn, turned, TurnDone}
 use Rattle.search.specs.Running.{Empty, Run, StoredAt}
 use Rattle.search.proofs.Held.{held-none}
@@ -81,7 +82,7 @@ module _ {v x frames : List ℕ} {n : ℕ} {lists counts firsts b : List ℕ} (r
 
   -- ---- the first frame
 
-  module _ (e : Empty b) {entries : List ℕ} (gains : EntryGains v x (getD frames 0 0) (some (pos 0)) entries) where
+  module _ (e : Empty b) {gains : List (List ℕ)} (entering : EntryGains v x (getD frames 0 0) gains) where
     pub one-best : (n : ℕ) → 1 ≤ n → bestTokens n (hit (pos 0) 0 ∷ []) ≡ hit (pos 0) 0 ∷ []
     unfolding rowOf insert
     one-best zero h = absurd (omega arith)
@@ -91,8 +92,8 @@ module _ {v x frames : List ℕ} {n : ℕ} {lists counts firsts b : List ℕ} (r
     unfolding wordCount
     root-bound i = rw (only i) (record { score = omega arith; code = omega arith })
 
-    unfoldable pub root-passing : PassingOn x n lists counts firsts entries 0 true 0 b
-    unfolding possible impossible eqZ source
+    unfoldable pub root-passing : PassingOn x n lists counts firsts gains 32768 0 true 0 b
+    unfolding possible impossible eqZ source raisedOf raised
     root-passing = record {
       v = v;
       k = getD frames 0 0;
@@ -106,7 +107,8 @@ module _ {v x frames : List ℕ} {n : ℕ} {lists counts firsts b : List ℕ} (r
       moved = pos 0;
       score-is = refl;
       small = omega arith;
-      gains = gains;
+      link-is = refl;
+      entry-gains = entering;
       given = refl;
       inside = λ z. absurd (true≢false z);
       apart = λ z. absurd (true≢false z);
@@ -149,9 +151,9 @@ module _ {v x frames : List ℕ} {n : ℕ} {lists counts firsts b₀ : List ℕ}
     long = refl;
   })
 
-  module _ (h : suc t < length frames) {loops steps entries : List ℕ} (moves : MoveGains v x (getD frames (suc t) 0) loops steps)
-      (links : EntryGains v x (getD frames (suc t) 0) (possible (linkScore v 0)) entries) {m : ℕ} {b : List ℕ} (k : 1 ≤ m) (d : TurnsLeft v x frames n t m b₀ b) where
-    unfoldable pub turn-next : Turn v x n lists counts firsts loops steps entries m b
+  module _ (h : suc t < length frames) {gains : List (List ℕ)} (moves : MoveGains v x (getD frames (suc t) 0) gains)
+      (links : EntryGains v x (getD frames (suc t) 0) gains) {link : ℕ} (is : link ≡ raisedOf (possible (linkScore v 0))) {m : ℕ} {b : List ℕ} (k : 1 ≤ m) (d : TurnsLeft v x frames n t m b₀ b) where
+    unfoldable pub turn-next : Turn v x n lists counts firsts gains link m b
     turn-next = record {
       k = getD frames (suc t) 0;
       M = 65536 * suc t;
@@ -162,6 +164,7 @@ module _ {v x frames : List ℕ} {n : ℕ} {lists counts firsts b₀ : List ℕ}
       high = d .low;
       moves = moves;
       links = links;
+      link-is = is;
       stored = d .stored;
       within = d .within;
       fits = omega (arith, frame-count v frames (r .heard));
@@ -174,7 +177,7 @@ module _ {v x frames : List ℕ} {n : ℕ} {lists counts firsts b₀ : List ℕ}
     one-turn zero Q h = absurd (omega arith)
     one-turn (suc m) Q h = let e : suc m - 1 ≡ m = omega arith in rw e
 
-    pub turns-next : {b′ : List ℕ} → ((T : Turn v x n lists counts firsts loops steps entries m b) → TurnDone T b′)
+    pub turns-next : {b′ : List ℕ} → ((T : Turn v x n lists counts firsts gains link m b) → TurnDone T b′)
         → TurnsLeft v x frames n t (m - 1) b₀ b′
     unfolding turn-next turned
     turns-next f = let e = f turn-next in record {

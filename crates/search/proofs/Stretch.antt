@@ -42,7 +42,7 @@ sub-slots N k m a b e n j h = slots-ext n (k + j) (m + j) a b one
         ∙ slots-get N m (j + i) b 0 (omega arith)
         ∙ ap (tokenAt b) q
 
-module _ {n entry first s : ℕ} {loops steps b : List ℕ} (t : Renewal n entry first s loops steps b) where
+module _ {n first s : ℕ} {row b : List ℕ} (t : Renewal n first s row b) where
   abbrev g : Graph
   g = graphOf (t .x)
 
@@ -91,7 +91,7 @@ module _ {n entry first s : ℕ} {loops steps b : List ℕ} (t : Renewal n entry
         ∙ ap (λ (k : ℕ). slots n k b) (slot-is r)
         ∙ t .stored .holds (place h)
 
-    pub part-renewing : Renewing n entry s loops steps (take size (drop (8 * first) b))
+    pub part-renewing : Renewing n s row (take size (drop (8 * first) b))
     part-renewing = record {
       v = t .v;
       x = t .x;
@@ -108,7 +108,6 @@ module _ {n entry first s : ℕ} {loops steps b : List ℕ} (t : Renewal n entry
       room = simp (length-take, length-drop) (omega (arith, stretch-there));
       all = omega (arith, t .all);
       few = omega arith;
-      entry-is = t .entry-is;
       moves = t .moves;
       stored = record { holds = λ h. own-slots h; kept = λ h. t .stored .kept (place h) };
       bound = λ h i. t .bound h i;

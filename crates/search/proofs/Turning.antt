@@ -4,7 +4,7 @@ use Prim.Native.Nat.{ℕ, zero, suc, _+_, _-_, _*_, _≤_, _<_}
 use mathlib.Core.Path.{_≡_, refl, sym, ap, _∙_}
 use mathlib.Core.Bool.{false}
 use mathlib.Core.Logic.{⊎-elim}
-use mathlib.Core.List.{List, List·Memᴰ, List·Memᴰ·append-cases as append-cases}
+use mathlib.Core.List.{List, [], List·Memᴰ, List·Memᴰ·append-cases as append-cases}
 use mathlib.Core.Option.{some}
 use native.Mathlib.Omega.{arith}
 use native.Mathlib.Nat.{mul-add}
@@ -55,8 +55,8 @@ module _ (v : List ℕ) (g : Graph) (P : Store) (k u M : ℕ) where
       (λ j. carried-bound M u u 0 _ (P u s) (step-small s) (λ h j. f s h (omega arith) j) (omega arith) j)
       (append-cases _ i)
 
-module _ {v x : List ℕ} {n : ℕ} {lists counts firsts loops steps entries : List ℕ} {w : ℕ} {b : List ℕ}
-    (t : Turn v x n lists counts firsts loops steps entries w b) where
+module _ {v x : List ℕ} {n : ℕ} {lists counts firsts : List ℕ} {gains : List (List ℕ)} {link w : ℕ} {b : List ℕ}
+    (t : Turn v x n lists counts firsts gains link w b) where
   abbrev g : Graph
   g = graphOf x
 
@@ -127,7 +127,7 @@ module _ {v x : List ℕ} {n : ℕ} {lists counts firsts loops steps entries : L
   last-apart : {u : ℕ} → w < u → u ≤ nodeCount x → getD firsts w 0 + n * (count - 1) + n ≤ firstSlot v g n u
   last-apart {u} l h = rw slot-is (block n (omega (arith, count-is, count-range, place-end v g {u = w} {w = u} (t .low) l)))
 
-  pub passing-on : PassingOn x n lists counts firsts entries w false (getD firsts w 0 + n * (count - 1)) b
+  pub passing-on : PassingOn x n lists counts firsts gains link w false (getD firsts w 0 + n * (count - 1)) b
   unfolding linkScore source
   passing-on = record {
     v = v;
@@ -139,10 +139,11 @@ module _ {v x : List ℕ} {n : ℕ} {lists counts firsts loops steps entries : L
     ready = t .ready;
     roomy = t .roomy;
     vertex = t .high;
-    gains = t .links;
+    entry-gains = t .links;
     moved = linkScore v 0;
     score-is = refl;
     small = i16-range v _;
+    link-is = t .link-is;
     given = old-slots;
     inside = λ z. rw slot-is (place-room v x (t .roomy) last);
     apart = λ z l h. last-apart l h;
@@ -162,7 +163,7 @@ module _ {v x : List ℕ} {n : ℕ} {lists counts firsts loops steps entries : L
     own-kept {s} =
         pass-other v g n (t .k) _ w old (g .successors w) (t .P) w s (λ i. omega (arith, sound-of (lexicon-formed (t .ready)) .rises below i))
 
-    pub renewing : Renewal n (4 * letter) (getD firsts w 0) count loops steps b′
+    pub renewing : Renewal n (getD firsts w 0) count (getD gains letter []) b′
     unfolding nodeLetter states passing-on
     renewing = record {
       v = v;
@@ -176,9 +177,8 @@ module _ {v x : List ℕ} {n : ℕ} {lists counts firsts loops steps entries : L
       low = t .low;
       high = t .high;
       all = refl;
-      entry-is = refl;
       first-is = first-is;
-      moves = t .moves;
+      moves = t .moves w (t .low) (t .high);
       stored = H .stored;
       bound = λ {r} h i. t .within .old (place h) (omega arith) (rw (own-kept {s = r}) at i);
       fits = t .fits;
@@ -208,7 +208,7 @@ module _ {v x : List ℕ} {n : ℕ} {lists counts firsts loops steps entries : L
     unfolding turned passNode passedOn passing-on entryScore linkScore
     turned-above {u} s l = renew-apart v g n (t .k) w _ _ {w = u} {r = s} (λ q. omega arith)
 
-    pub turn-done : {b″ : List ℕ} → ((r : Renewal n (4 * letter) (getD firsts w 0) count loops steps b′) → Stored (r .v) (graphOf (r .x)) n (renewal r) b″)
+    pub turn-done : {b″ : List ℕ} → ((r : Renewal n (getD firsts w 0) count (getD gains letter []) b′) → Stored (r .v) (graphOf (r .x)) n (renewal r) b″)
         → length b″ ≡ length b′
         → TurnDone t b″
     unfolding passing-on renewing

@@ -18,7 +18,7 @@ use Rattle.passing.specs.InPlace.{put, renewDown}
 use Rattle.search.specs.Slots.{slots, Room}
 use Rattle.search.specs.Held.{held, downOf, Storable}
 use Rattle.search.specs.Places.{firstSlot}
-use Rattle.search.specs.Gains.{gainOf, MoveGains}
+use Rattle.search.specs.Gains.{gainOf, MoveRow}
 use Rattle.search.specs.Stored.{Roomy, Bound, Stored, PassingOn}
 
 -- ---- one place
@@ -68,17 +68,17 @@ joined {n} t = bestTokens n (t .s ++ carried (t .score) (t .d) (t .l))
 
 -- ---- one arc: from vertex w to u, where the store is as far as the arcs before it left it
 
-pub record Arc (x : List ℕ) (n nodes : ℕ) (firsts entries : List ℕ) (root : Bool) (from u down : ℕ) (b : List ℕ) : Type 0 where
+pub record Arc (x : List ℕ) (n nodes : ℕ) (firsts : List ℕ) (gains : List (List ℕ)) (link : ℕ) (root : Bool) (from u down : ℕ) (b : List ℕ) : Type 0 where
   pub w : ℕ
   pub lists : List ℕ
   pub counts : List ℕ
-  pub passing-on : PassingOn x n lists counts firsts entries w root from b
+  pub passing-on : PassingOn x n lists counts firsts gains link w root from b
   pub nodes-is : nodes ≡ nodeCount x
   pub arc : List·Memᴰ u (successors x w)
   pub down-is : down ≡ downOf (increment (graphOf x) w u)
 
-unfoldable pub overOne : {x : List ℕ} {n nodes : ℕ} {firsts entries : List ℕ} {root : Bool} {from u down : ℕ} {b : List ℕ}
-    → Arc x n nodes firsts entries root from u down b → Store
+unfoldable pub overOne : {x : List ℕ} {n nodes : ℕ} {firsts : List ℕ} {gains : List (List ℕ)} {link : ℕ} {root : Bool} {from u down : ℕ} {b : List ℕ}
+    → Arc x n nodes firsts gains link root from u down b → Store
 overOne {x} {n} {u = u} t =
     let h = t .passing-on in
     put (h .Q) u 0 (bestTokens n (h .Q u 0 ++ overArc (h .v) (graphOf x) (h .k) (h .score) (t .w) u (h .l)))
@@ -91,7 +91,7 @@ pub record Own (n S : ℕ) (l : ℕ → List Hit) (part : List ℕ) : Type 0 whe
   pub kept : {r : ℕ} → r < S → bestTokens n (l r) ≡ l r
 
 -- those below s are still old
-pub record Renewing (n entry s : ℕ) (loops steps part : List ℕ) : Type 0 where
+pub record Renewing (n s : ℕ) (row part : List ℕ) : Type 0 where
   pub v : List ℕ
   pub x : List ℕ
   pub k : ℕ
@@ -107,21 +107,20 @@ pub record Renewing (n entry s : ℕ) (loops steps part : List ℕ) : Type 0 whe
   pub room : 8 * (n * S) ≤ length part
   pub all : S ≤ states v (nodeLetter x node)
   pub few : s ≤ S
-  pub entry-is : entry ≡ 4 * nodeLetter x node
-  pub moves : MoveGains v x k loops steps
+  pub moves : MoveRow v k (nodeLetter x node) row
   pub stored : Own n S (P node) part
   pub bound : {r : ℕ} {h : Hit} → r < s → List·Memᴰ h (P node r) → Bound (graphOf x) M node h
   pub fits : M + 65536 ≤ 67108864
 
 -- the store after state s - 1, and after all below s
-unfoldable pub renewedOne : {n entry s : ℕ} {loops steps part : List ℕ} → Renewing n entry (suc s) loops steps part → Store
+unfoldable pub renewedOne : {n s : ℕ} {row part : List ℕ} → Renewing n (suc s) row part → Store
 renewedOne {n} {s = s} t = put (t .P) (t .node) s (bestTokens n (renewed (t .v) (graphOf (t .x)) (t .P) (t .k) (t .node) s))
 
-unfoldable pub renewedAll : {n entry s : ℕ} {loops steps part : List ℕ} → Renewing n entry s loops steps part → Store
+unfoldable pub renewedAll : {n s : ℕ} {row part : List ℕ} → Renewing n s row part → Store
 renewedAll {n} {s = s} t = renewDown (t .v) (graphOf (t .x)) n (t .k) (t .node) s (t .P)
 
 -- a node's part of the whole store, which is lent on
-pub record Renewal (n entry first s : ℕ) (loops steps b : List ℕ) : Type 0 where
+pub record Renewal (n first s : ℕ) (row b : List ℕ) : Type 0 where
   pub v : List ℕ
   pub x : List ℕ
   pub k : ℕ
@@ -133,12 +132,11 @@ pub record Renewal (n entry first s : ℕ) (loops steps b : List ℕ) : Type 0 w
   pub low : 1 ≤ node
   pub high : node ≤ nodeCount x
   pub all : s ≡ states v (nodeLetter x node)
-  pub entry-is : entry ≡ 4 * nodeLetter x node
   pub first-is : first ≡ firstSlot v (graphOf x) n node
-  pub moves : MoveGains v x k loops steps
+  pub moves : MoveRow v k (nodeLetter x node) row
   pub stored : Stored v (graphOf x) n P b
   pub bound : {r : ℕ} {h : Hit} → r < s → List·Memᴰ h (P node r) → Bound (graphOf x) M node h
   pub fits : M + 65536 ≤ 67108864
 
-unfoldable pub renewal : {n entry first s : ℕ} {loops steps b : List ℕ} → Renewal n entry first s loops steps b → Store
+unfoldable pub renewal : {n first s : ℕ} {row b : List ℕ} → Renewal n first s row b → Store
 renewal {n} {s = s} t = renewDown (t .v) (graphOf (t .x)) n (t .k) (t .node) s (t .P)

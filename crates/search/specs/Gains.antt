@@ -67,13 +67,9 @@ loopGain v k l s = gainOf (plus (possible (loopScore v (firstState v l + s))) (p
 unfoldable pub stepGain : List ℕ → ℕ → ℕ → ℕ → ℕ
 stepGain v k l s = gainOf (plus (possible (stepScore v (firstState v l + s))) (possible (emission v (firstState v l + suc s) k)))
 
--- the entry into a letter's first state over an arc of that score
-unfoldable pub entryGain : List ℕ → ℕ → Option ℤ → ℕ → ℕ
-entryGain v k score l = gainOf (plus score (possible (emission v (firstState v l + 0) k)))
-
--- the same by the raised score of the arc
-unfoldable pub linkGain : List ℕ → ℕ → ℕ → ℕ → ℕ
-linkGain v k link l = raisedGain link (raisedOf (possible (emission v (firstState v l + 0) k)))
+-- the emission of a letter's first state, raised: what is added to the score of the arc that enters it
+unfoldable pub entryRaised : List ℕ → ℕ → ℕ → ℕ
+entryRaised v k l = raisedOf (possible (emission v (firstState v l + 0) k))
 
 -- ---- the letters in use
 
@@ -99,7 +95,7 @@ pub record InUse (v x letters : List ℕ) (n : ℕ) : Type 0 where
   pub letters-of : Letters v letters n
   pub all : (u : ℕ) → 1 ≤ u → u ≤ nodeCount x → Among letters n (nodeLetter x u)
 
--- ---- tables: entry 4 × l + s for state s of letter l, entry l for letter l
+-- ---- tables: a row a letter; entry s for the loop of state s, entry 4 + s for the step into it, and in a frame's row entry 4 for the raised emission of the first
 
 -- the number of each letter's first state
 pub record Begins (v begins : List ℕ) : Type 0 where
@@ -107,49 +103,78 @@ pub record Begins (v begins : List ℕ) : Type 0 where
   pub begin : (l : ℕ) → l < letterCount v → getD begins l 0 ≡ firstState v l
 
 -- the entries of one letter: of each state's loop, and of the step into each state after the first
-pub record LetterEntries (v : List ℕ) (loop step : ℕ → ℕ → ℕ) (l : ℕ) (loops steps : List ℕ) : Type 0 where
-  pub loop-at : (s : ℕ) → s < states v l → getD loops (4 * l + s) 0 ≡ loop l s
-  pub step-at : (s : ℕ) → suc s < states v l → getD steps (4 * l + suc s) 0 ≡ step l s
+pub record LetterEntries (v : List ℕ) (loop step : ℕ → ℕ → ℕ) (l : ℕ) (row : List ℕ) : Type 0 where
+  pub loop-at : (s : ℕ) → s < states v l → getD row s 0 ≡ loop l s
+  pub step-at : (s : ℕ) → suc s < states v l → getD row (4 + suc s) 0 ≡ step l s
 
--- of the first n letters of a list
-pub record Entries (v : List ℕ) (loop step : ℕ → ℕ → ℕ) (letters : List ℕ) (n : ℕ) (loops steps : List ℕ) : Type 0 where
-  pub long-loops : length loops ≡ 256
-  pub long-steps : length steps ≡ 256
-  pub entries : (i : ℕ) → i < n → LetterEntries v loop step (getD letters i 0) loops steps
+-- what is read once a call of one letter in use: its raised scores, in entry 8 its index, and in entry 9 the number of its first state
+pub record ScoreRow (v row : List ℕ) : Type 0 where
+  pub letter : getD row 8 0 < letterCount v
+  pub first : getD row 9 0 ≡ firstState v (getD row 8 0)
+  pub scores : LetterEntries v (loopRaised v) (stepRaised v) (getD row 8 0) row
 
--- one letter's entries are filled, and those of other letters are as they were
-pub record Filled (v : List ℕ) (loop step : ℕ → ℕ → ℕ) (l : ℕ) (loops steps loops′ steps′ : List ℕ) : Type 0 where
-  pub long-loops : length loops′ ≡ 256
-  pub long-steps : length steps′ ≡ 256
-  pub here : LetterEntries v loop step l loops′ steps′
-  pub others : (m : ℕ) → m < letterCount v → ¬ (m ≡ l) → LetterEntries v loop step m loops steps → LetterEntries v loop step m loops′ steps′
+-- the letter of row i
+abbrev pub letterAt : List (List ℕ) → ℕ → ℕ
+letterAt scores i = getD (getD scores i []) 8 0
 
--- the tables of a call: letters of the model, their first states, and their raised scores
-pub record Scored (v letters : List ℕ) (n : ℕ) (begins loops steps : List ℕ) : Type 0 where
-  pub letters-of : Letters v letters n
-  pub begins-of : Begins v begins
-  pub scores : Entries v (loopRaised v) (stepRaised v) letters n loops steps
+-- rows of the first n of some letters
+pub record ScoreRows (v letters : List ℕ) (n : ℕ) (scores : List (List ℕ)) : Type 0 where
+  pub long : length scores ≡ 64
+  pub row : (i : ℕ) → i < n → ScoreRow v (getD scores i [])
+  pub same : (i : ℕ) → i < n → letterAt scores i ≡ getD letters i 0
 
--- the tables of a frame, for the first n letters of a list
-pub record Gained (v : List ℕ) (k link : ℕ) (letters : List ℕ) (n : ℕ) (loops steps entries : List ℕ) : Type 0 where
-  pub moves : Entries v (loopGain v k) (stepGain v k) letters n loops steps
-  pub long : length entries ≡ 64
-  pub entry : (i : ℕ) → i < n → getD entries (getD letters i 0) 0 ≡ linkGain v k link (getD letters i 0)
+-- letter l has one of the first n rows
+pub record HasRow (scores : List (List ℕ)) (n l : ℕ) : Type 0 where
+  pub at : ℕ
+  pub inside : at < n
+  pub same : letterAt scores at ≡ l
+
+-- the table of a call has n rows
+pub record ScoreTable (v : List ℕ) (n : ℕ) (scores : List (List ℕ)) : Type 0 where
+  pub few : n ≤ 64
+  pub row : (i : ℕ) → i < n → ScoreRow v (getD scores i [])
+
+-- among them one for each letter that some node has
+pub record Scored (v x : List ℕ) (n : ℕ) (scores : List (List ℕ)) : Type 0 where
+  pub table : ScoreTable v n scores
+  pub all : (u : ℕ) → 1 ≤ u → u ≤ nodeCount x → HasRow scores n (nodeLetter x u)
+
+-- the gains of one letter at a frame of symbol k, and the raised emission of its first state
+pub record GainRow (v : List ℕ) (k l : ℕ) (row : List ℕ) : Type 0 where
+  pub moves : LetterEntries v (loopGain v k) (stepGain v k) l row
+  pub entry : getD row 4 0 ≡ entryRaised v k l
+
+-- the table of a frame: row l is that of letter l, for the letters of the first n rows of scores
+pub record Gained (v : List ℕ) (k : ℕ) (scores : List (List ℕ)) (n : ℕ) (gains : List (List ℕ)) : Type 0 where
+  pub long : length gains ≡ 64
+  pub row : (i : ℕ) → i < n → GainRow v k (letterAt scores i) (getD gains (letterAt scores i) [])
+
+-- of the moves inside one letter
+abbrev pub MoveRow : List ℕ → ℕ → ℕ → List ℕ → Type 0
+MoveRow v k l row = LetterEntries v (loopGain v k) (stepGain v k) l row
 
 -- for the letters of nodes
-pub record MoveGains (v x : List ℕ) (k : ℕ) (loops steps : List ℕ) : Type 0 where
-  pub long-loops : length loops ≡ 256
-  pub long-steps : length steps ≡ 256
-  pub loop : (u s : ℕ) → 1 ≤ u → u ≤ nodeCount x → s < states v (nodeLetter x u)
-      → getD loops (4 * nodeLetter x u + s) 0 ≡ loopGain v k (nodeLetter x u) s
-  pub step : (u s : ℕ) → 1 ≤ u → u ≤ nodeCount x → suc s < states v (nodeLetter x u)
-      → getD steps (4 * nodeLetter x u + suc s) 0 ≡ stepGain v k (nodeLetter x u) s
+abbrev pub MoveGains : List ℕ → List ℕ → ℕ → List (List ℕ) → Type 0
+MoveGains v x k gains = (u : ℕ) → 1 ≤ u → u ≤ nodeCount x → MoveRow v k (nodeLetter x u) (getD gains (nodeLetter x u) [])
 
-pub record EntryGains (v x : List ℕ) (k : ℕ) (score : Option ℤ) (entries : List ℕ) : Type 0 where
-  pub long : length entries ≡ 64
-  pub entry : (u : ℕ) → 1 ≤ u → u ≤ nodeCount x → getD entries (nodeLetter x u) 0 ≡ entryGain v k score (nodeLetter x u)
+pub record EntryGains (v x : List ℕ) (k : ℕ) (gains : List (List ℕ)) : Type 0 where
+  pub long : length gains ≡ 64
+  pub entry : (u : ℕ) → 1 ≤ u → u ≤ nodeCount x → getD (getD gains (nodeLetter x u) []) 4 0 ≡ entryRaised v k (nodeLetter x u)
 
 -- ---- what calls ask
+
+-- the loop of state s and the move into it are put into a row; the move is left out for the first state, or put there too
+pub record StatePut (row : List ℕ) (s a b : ℕ) (row′ : List ℕ) : Type 0 where
+  pub long : length row′ ≡ length row
+  pub loop : getD row′ s 0 ≡ a
+  pub step : 1 ≤ s → getD row′ (4 + s) 0 ≡ b
+  pub others : (i : ℕ) → ¬ (i ≡ s) → ¬ (i ≡ 4 + s) → getD row′ i 0 ≡ getD row i 0
+
+-- a row of the first state's gains, of its loop and of its entry
+pub record FirstPut (a b : ℕ) (row : List ℕ) : Type 0 where
+  pub long : length row ≡ 8
+  pub loop : getD row 0 0 ≡ a
+  pub entry : getD row 4 0 ≡ b
 
 -- a symbol of a well-formed voice model
 pub record Hearing (v : List ℕ) (k : ℕ) : Type 0 where
@@ -161,9 +186,3 @@ pub record AtLetter (v : List ℕ) (l first : ℕ) : Type 0 where
   pub well-formed : voiceVerdict v ≡ wellFormed
   pub letter : l < letterCount v
   pub begins : first ≡ firstState v l
-
--- the tables of a frame, whatever they hold
-pub record Long (loops steps entries : List ℕ) : Type 0 where
-  pub long-loops : length loops ≡ 256
-  pub long-steps : length steps ≡ 256
-  pub long-entries : length entries ≡ 64

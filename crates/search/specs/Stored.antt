@@ -21,7 +21,7 @@ use Rattle.passing.specs.InPlace.{passOn, passNode}
 use Rattle.search.specs.Slots.{slots, Room}
 use Rattle.search.specs.Held.{held}
 use Rattle.search.specs.Places.{firstPlace, firstSlot}
-use Rattle.search.specs.Gains.{MoveGains, EntryGains}
+use Rattle.search.specs.Gains.{raisedOf, MoveGains, EntryGains}
 
 -- accepted images, and the tables of their vertices; the first slots are those of n tokens a place
 pub record Ready (v x : List ℕ) (n : ℕ) (lists counts firsts : List ℕ) : Type 0 where
@@ -65,7 +65,7 @@ source true n k b = held n (hit (pos 0) 0 ∷ [])
 source false n k b = slots n k b
 
 -- vertex w, root or node, passes on the tokens l over arcs of one score, at a frame of symbol k
-pub record PassingOn (x : List ℕ) (n : ℕ) (lists counts firsts entries : List ℕ) (w : ℕ) (root : Bool) (from : ℕ) (b : List ℕ) : Type 0 where
+pub record PassingOn (x : List ℕ) (n : ℕ) (lists counts firsts : List ℕ) (gains : List (List ℕ)) (link w : ℕ) (root : Bool) (from : ℕ) (b : List ℕ) : Type 0 where
   pub v : List ℕ
   pub k : ℕ
   pub M : ℕ
@@ -75,11 +75,12 @@ pub record PassingOn (x : List ℕ) (n : ℕ) (lists counts firsts entries : Lis
   pub ready : Ready v x n lists counts firsts
   pub roomy : Roomy v x n b
   pub vertex : w ≤ nodeCount x
-  pub gains : EntryGains v x k score entries
+  pub entry-gains : EntryGains v x k gains
   -- the score is a stored one
   pub moved : ℤ
   pub score-is : score ≡ possible moved
   pub small : mag moved < 32768
+  pub link-is : link ≡ raisedOf (possible moved)
   pub given : source root n from b ≡ held n l
   -- a node's slots are in the store, and the places of later nodes are apart from them
   pub inside : root ≡ false → Room n from b
@@ -91,19 +92,19 @@ pub record PassingOn (x : List ℕ) (n : ℕ) (lists counts firsts entries : Lis
   pub above : {u s : ℕ} {h : Hit} → Place v (graphOf x) u s → w < u → List·Memᴰ h (Q u s) → Bound (graphOf x) (M + 65536) u h
 
 -- the store after it
-unfoldable pub passedOn : {x : List ℕ} {n : ℕ} {lists counts firsts entries : List ℕ} {w : ℕ} {root : Bool} {from : ℕ} {b : List ℕ}
-    → PassingOn x n lists counts firsts entries w root from b → Store
+unfoldable pub passedOn : {x : List ℕ} {n : ℕ} {lists counts firsts : List ℕ} {gains : List (List ℕ)} {link w : ℕ} {root : Bool} {from : ℕ} {b : List ℕ}
+    → PassingOn x n lists counts firsts gains link w root from b → Store
 passedOn {x} {n} {w = w} t = passOn (t .v) (graphOf x) n (t .k) (λ u. t .score) w (t .l) (successors x w) (t .Q)
 
-pub record PassedOn {x : List ℕ} {n : ℕ} {lists counts firsts entries : List ℕ} {w : ℕ} {root : Bool} {from : ℕ} {b : List ℕ}
-    (t : PassingOn x n lists counts firsts entries w root from b) (b′ : List ℕ) : Type 0 where
+pub record PassedOn {x : List ℕ} {n : ℕ} {lists counts firsts : List ℕ} {gains : List (List ℕ)} {link w : ℕ} {root : Bool} {from : ℕ} {b : List ℕ}
+    (t : PassingOn x n lists counts firsts gains link w root from b) (b′ : List ℕ) : Type 0 where
   pub stored : Stored (t .v) (graphOf x) n (passedOn t) b′
   pub above : {u s : ℕ} {h : Hit} → Place (t .v) (graphOf x) u s → w < u → List·Memᴰ h (passedOn t u s) → Bound (graphOf x) (t .M + 65536) u h
   pub long : length b′ ≡ length b
 
 -- ---- a node's turn
 
-pub record Turn (v x : List ℕ) (n : ℕ) (lists counts firsts loops steps entries : List ℕ) (w : ℕ) (b : List ℕ) : Type 0 where
+pub record Turn (v x : List ℕ) (n : ℕ) (lists counts firsts : List ℕ) (gains : List (List ℕ)) (link w : ℕ) (b : List ℕ) : Type 0 where
   pub k : ℕ
   pub M : ℕ
   pub P : Store
@@ -111,19 +112,20 @@ pub record Turn (v x : List ℕ) (n : ℕ) (lists counts firsts loops steps entr
   pub roomy : Roomy v x n b
   pub low : 1 ≤ w
   pub high : w ≤ nodeCount x
-  pub moves : MoveGains v x k loops steps
-  pub links : EntryGains v x k (possible (linkScore v 0)) entries
+  pub moves : MoveGains v x k gains
+  pub links : EntryGains v x k gains
+  pub link-is : link ≡ raisedOf (possible (linkScore v 0))
   pub stored : Stored v (graphOf x) n P b
   pub within : Within v (graphOf x) w M P
   pub fits : M + 65536 ≤ 67108864
 
 -- the store after it
-unfoldable pub turned : {v x : List ℕ} {n : ℕ} {lists counts firsts loops steps entries : List ℕ} {w : ℕ} {b : List ℕ}
-    → Turn v x n lists counts firsts loops steps entries w b → Store
+unfoldable pub turned : {v x : List ℕ} {n : ℕ} {lists counts firsts : List ℕ} {gains : List (List ℕ)} {link w : ℕ} {b : List ℕ}
+    → Turn v x n lists counts firsts gains link w b → Store
 turned {v} {x} {n} {w = w} t = passNode v (graphOf x) n (t .k) w (t .P)
 
-pub record TurnDone {v x : List ℕ} {n : ℕ} {lists counts firsts loops steps entries : List ℕ} {w : ℕ} {b : List ℕ}
-    (t : Turn v x n lists counts firsts loops steps entries w b) (b′ : List ℕ) : Type 0 where
+pub record TurnDone {v x : List ℕ} {n : ℕ} {lists counts firsts : List ℕ} {gains : List (List ℕ)} {link w : ℕ} {b : List ℕ}
+    (t : Turn v x n lists counts firsts gains link w b) (b′ : List ℕ) : Type 0 where
   pub stored : Stored v (graphOf x) n (turned t) b′
   pub within : Within v (graphOf x) (w - 1) (t .M) (turned t)
   pub long : length b′ ≡ length b

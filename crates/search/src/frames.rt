@@ -4,7 +4,7 @@ ghost use Prim.Native.Nat.{ℕ, suc, _-_, _<_};
 ghost use lib.ListN.{length};
 ghost use Rattle.voice.specs.Voice.{linkScore, symbolsAt};
 ghost use Rattle.decoder.specs.Score.{possible};
-ghost use Rattle.search.specs.Gains.{raisedOf, InUse, Scored, Long, Gained};
+ghost use Rattle.search.specs.Gains.{raisedOf, Scored, Gained};
 ghost use Rattle.search.specs.Running.{Empty, Run, StoredAt};
 use crate::gains::frame_gains;
 use crate::gains::hear;
@@ -29,40 +29,22 @@ fn first_frame(
     lists: &[u16; 402],
     counts: &[u32; 402],
     firsts: &[u16; 402],
-    letters: &[u8; 64],
+    scores: &[[u32; 10]; 64],
     used: usize,
-    begins: &[u16; 64],
-    looping: &[u32; 256],
-    stepping: &[u32; 256],
     frames: &[u8],
-    loops: &mut [u32; 256],
-    steps: &mut [u32; 256],
-    entries: &mut [u32; 64],
+    gains: &mut [[u32; 8]; 64],
     store: &mut [u8],
 )
     requires { ⌜ Run (now voice) (now lexicon) (now frames) n (now lists) (now counts) (now firsts) (now store) ⌝ }
     requires { ⌜ Empty (now store) ⌝ }
-    requires { ⌜ InUse (now voice) (now lexicon) (now letters) used × Scored (now voice) (now letters) used (now begins) (now looping) (now stepping) ⌝ }
-    requires { ⌜ Long (now loops) (now steps) (now entries) ⌝ }
+    requires { ⌜ Scored (now voice) (now lexicon) used (now scores) ⌝ }
+    requires { ⌜ length (now gains) ≡ 64 ⌝ }
     ensures { λ _. ⌜ StoredAt (now (voice .entry)) (now (lexicon .entry)) (now (frames .entry)) n 0 (now (store .exit)) ⌝ }
-    ensures { λ _. ⌜ Long (now (loops .exit)) (now (steps .exit)) (now (entries .exit)) ⌝ }
+    ensures { λ _. ⌜ length (now (gains .exit)) ≡ 64 ⌝ }
 {
     let symbol = frames[0] as usize;
     let at = symbols_at(voice);
-    frame_gains(
-        voice,
-        at,
-        symbol,
-        RAISED_ZERO,
-        letters,
-        used,
-        begins,
-        looping,
-        stepping,
-        loops,
-        steps,
-        entries,
-    );
+    frame_gains(voice, at, symbol, scores, used, gains);
     let nodes = u16_at(lexicon, 0) as usize;
     pass_on(
         lexicon,
@@ -71,7 +53,8 @@ fn first_frame(
         lists,
         counts,
         firsts,
-        entries,
+        gains,
+        RAISED_ZERO,
         0,
         true,
         0,
@@ -79,7 +62,7 @@ fn first_frame(
     );
 }
 
-// The frame after frame t, where the tables hold the gains of symbol `heard`, or of none if that is 256. Answers its symbol.
+// The frame after frame t, where the table holds the gains of symbol `heard`, or of none if that is 256. Answers its symbol.
 fn next_frame(
     voice: &[u8],
     lexicon: &[u8],
@@ -87,46 +70,27 @@ fn next_frame(
     lists: &[u16; 402],
     counts: &[u32; 402],
     firsts: &[u16; 402],
-    letters: &[u8; 64],
+    scores: &[[u32; 10]; 64],
     used: usize,
-    begins: &[u16; 64],
-    looping: &[u32; 256],
-    stepping: &[u32; 256],
     link: u32,
     at: usize,
     heard: usize,
     frames: &[u8],
     t: usize,
-    loops: &mut [u32; 256],
-    steps: &mut [u32; 256],
-    entries: &mut [u32; 64],
+    gains: &mut [[u32; 8]; 64],
     store: &mut [u8],
 ) -> usize
     requires { ⌜ Run (now voice) (now lexicon) (now frames) n (now lists) (now counts) (now firsts) (now store) ⌝ }
     requires { ⌜ (link ≡ raisedOf (possible (linkScore (now voice) 0))) × (suc t < length (now frames)) ⌝ }
     requires { ⌜ StoredAt (now voice) (now lexicon) (now frames) n t (now store) ⌝ }
-    requires { ⌜ InUse (now voice) (now lexicon) (now letters) used × Scored (now voice) (now letters) used (now begins) (now looping) (now stepping) ⌝ }
-    requires { ⌜ Long (now loops) (now steps) (now entries) × (at ≡ symbolsAt (now voice)) ⌝ }
-    requires { ⌜ ((k : ℕ) → k ≡ heard → k < 256 → Gained (now voice) k link (now letters) used (now loops) (now steps) (now entries)) ⌝ }
+    requires { ⌜ Scored (now voice) (now lexicon) used (now scores) ⌝ }
+    requires { ⌜ (length (now gains) ≡ 64) × (at ≡ symbolsAt (now voice)) ⌝ }
+    requires { ⌜ ((k : ℕ) → k ≡ heard → k < 256 → Gained (now voice) k (now scores) used (now gains)) ⌝ }
     ensures { λ _. ⌜ StoredAt (now (voice .entry)) (now (lexicon .entry)) (now (frames .entry)) n (suc t) (now (store .exit)) ⌝ }
-    ensures { λ r. ⌜ Gained (now (voice .entry)) r link (now (letters .entry)) used (now (loops .exit)) (now (steps .exit)) (now (entries .exit)) ⌝ }
+    ensures { λ r. ⌜ Gained (now (voice .entry)) r (now (scores .entry)) used (now (gains .exit)) ⌝ }
 {
     let symbol = frames[t + 1] as usize;
-    hear(
-        voice,
-        at,
-        symbol,
-        heard,
-        link,
-        letters,
-        used,
-        begins,
-        looping,
-        stepping,
-        loops,
-        steps,
-        entries,
-    );
+    hear(voice, at, symbol, heard, scores, used, gains);
     let nodes = u16_at(lexicon, 0) as usize;
     let mut node = nodes;
     while 0 < node {
@@ -138,9 +102,8 @@ fn next_frame(
             lists,
             counts,
             firsts,
-            loops,
-            steps,
-            entries,
+            gains,
+            link,
             node,
             store,
         );
@@ -157,21 +120,16 @@ fn later_frames(
     lists: &[u16; 402],
     counts: &[u32; 402],
     firsts: &[u16; 402],
-    letters: &[u8; 64],
+    scores: &[[u32; 10]; 64],
     used: usize,
-    begins: &[u16; 64],
-    looping: &[u32; 256],
-    stepping: &[u32; 256],
     frames: &[u8],
-    loops: &mut [u32; 256],
-    steps: &mut [u32; 256],
-    entries: &mut [u32; 64],
+    gains: &mut [[u32; 8]; 64],
     store: &mut [u8],
 )
     requires { ⌜ Run (now voice) (now lexicon) (now frames) n (now lists) (now counts) (now firsts) (now store) ⌝ }
     requires { ⌜ StoredAt (now voice) (now lexicon) (now frames) n 0 (now store) ⌝ }
-    requires { ⌜ InUse (now voice) (now lexicon) (now letters) used × Scored (now voice) (now letters) used (now begins) (now looping) (now stepping) ⌝ }
-    requires { ⌜ Long (now loops) (now steps) (now entries) ⌝ }
+    requires { ⌜ Scored (now voice) (now lexicon) used (now scores) ⌝ }
+    requires { ⌜ length (now gains) ≡ 64 ⌝ }
     ensures { λ _. ⌜ StoredAt (now (voice .entry)) (now (lexicon .entry)) (now (frames .entry)) n (length (now (frames .entry)) - 1) (now (store .exit)) ⌝ }
 {
     let link = raise(link_score(voice));
@@ -186,19 +144,14 @@ fn later_frames(
             lists,
             counts,
             firsts,
-            letters,
+            scores,
             used,
-            begins,
-            looping,
-            stepping,
             link,
             at,
             heard,
             frames,
             t,
-            loops,
-            steps,
-            entries,
+            gains,
             store,
         );
         t += 1;
@@ -213,22 +166,17 @@ fn run_frames(
     lists: &[u16; 402],
     counts: &[u32; 402],
     firsts: &[u16; 402],
-    letters: &[u8; 64],
+    scores: &[[u32; 10]; 64],
     used: usize,
-    begins: &[u16; 64],
-    looping: &[u32; 256],
-    stepping: &[u32; 256],
     frames: &[u8],
     store: &mut [u8],
 )
     requires { ⌜ Run (now voice) (now lexicon) (now frames) n (now lists) (now counts) (now firsts) (now store) ⌝ }
     requires { ⌜ Empty (now store) ⌝ }
-    requires { ⌜ InUse (now voice) (now lexicon) (now letters) used × Scored (now voice) (now letters) used (now begins) (now looping) (now stepping) ⌝ }
+    requires { ⌜ Scored (now voice) (now lexicon) used (now scores) ⌝ }
     ensures { λ _. ⌜ StoredAt (now (voice .entry)) (now (lexicon .entry)) (now (frames .entry)) n (length (now (frames .entry)) - 1) (now (store .exit)) ⌝ }
 {
-    let mut loops = [0u32; 256];
-    let mut steps = [0u32; 256];
-    let mut entries = [0u32; 64];
+    let mut gains = [[0u32; 8]; 64];
     first_frame(
         voice,
         lexicon,
@@ -236,15 +184,10 @@ fn run_frames(
         lists,
         counts,
         firsts,
-        letters,
+        scores,
         used,
-        begins,
-        looping,
-        stepping,
         frames,
-        &mut loops,
-        &mut steps,
-        &mut entries,
+        &mut gains,
         store,
     );
     later_frames(
@@ -254,15 +197,10 @@ fn run_frames(
         lists,
         counts,
         firsts,
-        letters,
+        scores,
         used,
-        begins,
-        looping,
-        stepping,
         frames,
-        &mut loops,
-        &mut steps,
-        &mut entries,
+        &mut gains,
         store,
     );
 }
@@ -286,9 +224,8 @@ pub(crate) fn all_frames(
     let used = letters_in_use(voice, lexicon, &mut letters);
     let mut begins = [0u16; 64];
     letter_begins(voice, &mut begins);
-    let mut looping = [0u32; 256];
-    let mut stepping = [0u32; 256];
-    raised_scores(voice, &letters, used, &begins, &mut looping, &mut stepping);
+    let mut scores = [[0u32; 10]; 64];
+    raised_scores(voice, &letters, used, &begins, &mut scores);
     run_frames(
         voice,
         lexicon,
@@ -296,11 +233,8 @@ pub(crate) fn all_frames(
         lists,
         counts,
         firsts,
-        &letters,
+        &scores,
         used,
-        &begins,
-        &looping,
-        &stepping,
         frames,
         store,
     );

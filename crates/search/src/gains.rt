@@ -1,18 +1,18 @@
 // The gains of one frame's moves. A gain is what a move and the emission after it add to a token: the two raised scores together, and 0 where
-// one of them is impossible. Gains are found for letters that some node has. `loops` and `steps` hold those of loops and steps,
-// `entries` those of entering a letter's first state.
+// one of them is impossible. Gains are found for letters that some node has. The table of gains has a row a letter: entry s for the loop of state s,
+// entry 4 + s for the step into it. Entry 4 has the raised emission of the first state, to which an arc's score is added when it is entered.
 ghost use mathlib.Core.Path.{_≡_};
-ghost use Prim.Native.Nat.{_+_, _*_, _≤_, _<_};
-ghost use lib.ListN.{length, getD, set};
+ghost use Prim.Native.Nat.{_+_, _≤_, _<_};
+ghost use lib.ListN.{length, getD};
 ghost use Rattle.endian.specs.Bytes.{i16};
 ghost use Rattle.voice.specs.Voice.{symbolsAt};
 ghost use Rattle.decoder.specs.Score.{possible};
-ghost use Rattle.search.specs.Gains.{raisedOf, raisedGain, loopRaised, stepRaised, loopGain, stepGain, linkGain, LetterEntries, Filled, Scored, Gained, Hearing, AtLetter, Long};
+ghost use Rattle.search.specs.Gains.{raisedOf, raisedGain, ScoreRow, GainRow, ScoreTable, Gained, Hearing, AtLetter, StatePut, FirstPut};
 use crate::scores::raise;
 use crate::scores::score_at;
 
 // The gain of a move and an emission, both raised.
-fn gain(moved: u32, heard: u32) -> u32
+pub(crate) fn gain(moved: u32, heard: u32) -> u32
     requires { ⌜ (moved < 65536) × (heard < 65536) ⌝ }
     ensures { λ r. ⌜ r ≡ raisedGain moved heard ⌝ }
 {
@@ -33,160 +33,84 @@ fn raised_at(voice: &[u8], at: usize) -> u32
     raise(score_at(voice, at))
 }
 
-// The gains of a letter's first state: of entering it, and of its loop.
-fn first_gains(
-    heard: u32,
-    letter: usize,
-    link: u32,
-    looping: &[u32; 256],
-    loops: &mut [u32; 256],
-    entries: &mut [u32; 64],
-)
-    requires { ⌜ (letter < 64) × (heard < 65536) × (link < 65536) × (getD (now looping) (4 * letter) 0 < 65536) ⌝ }
-    ensures { λ _. ⌜ now (loops .exit) ≡ set (now (loops .entry)) (4 * letter) (raisedGain (getD (now (looping .entry)) (4 * letter) 0) heard) ⌝ }
-    ensures { λ _. ⌜ now (entries .exit) ≡ set (now (entries .entry)) letter (raisedGain link heard) ⌝ }
+// A row with the gain of the loop of a letter's first state, and its raised emission.
+fn first_gains(heard: u32, scores: &[u32; 10]) -> [u32; 8]
+    requires { ⌜ (heard < 65536) × (getD (now scores) 0 0 < 65536) ⌝ }
+    ensures { λ r. ⌜ FirstPut (raisedGain (getD (now (scores .entry)) 0 0) heard) heard r ⌝ }
 {
-    entries[letter] = gain(link, heard);
-    loops[4 * letter] = gain(looping[4 * letter], heard);
+    [gain(scores[0], heard), 0, 0, 0, heard, 0, 0, 0]
 }
 
 // The gains of a later state: of its loop, and of the step into it.
-fn state_gains(
-    heard: u32,
-    entry: usize,
-    looping: &[u32; 256],
-    stepping: &[u32; 256],
-    loops: &mut [u32; 256],
-    steps: &mut [u32; 256],
-)
-    requires { ⌜ (entry < 256) × (heard < 65536) ⌝ }
-    requires { ⌜ (getD (now looping) entry 0 < 65536) × (getD (now stepping) entry 0 < 65536) ⌝ }
-    ensures { λ _. ⌜ now (loops .exit) ≡ set (now (loops .entry)) entry (raisedGain (getD (now (looping .entry)) entry 0) heard) ⌝ }
-    ensures { λ _. ⌜ now (steps .exit) ≡ set (now (steps .entry)) entry (raisedGain (getD (now (stepping .entry)) entry 0) heard) ⌝ }
+fn state_gains(heard: u32, s: usize, scores: &[u32; 10], row: &mut [u32; 8])
+    requires { ⌜ (s < 4) × (heard < 65536) × (8 ≤ length (now row)) ⌝ }
+    requires { ⌜ (getD (now scores) s 0 < 65536) × (getD (now scores) (4 + s) 0 < 65536) ⌝ }
+    ensures { λ _. ⌜ StatePut (now (row .entry)) s (raisedGain (getD (now (scores .entry)) s 0) heard) (raisedGain (getD (now (scores .entry)) (4 + s) 0) heard) (now (row .exit)) ⌝ }
 {
-    loops[entry] = gain(looping[entry], heard);
-    steps[entry] = gain(stepping[entry], heard);
+    row[s] = gain(scores[s], heard);
+    row[4 + s] = gain(scores[4 + s], heard);
 }
 
 // The gains of one letter at a frame of symbol k, whose emission in the next state stands one state's emissions further on.
-fn letter_gains(
-    voice: &[u8],
-    at: usize,
-    k: usize,
-    link: u32,
-    letter: usize,
-    first: usize,
-    looping: &[u32; 256],
-    stepping: &[u32; 256],
-    loops: &mut [u32; 256],
-    steps: &mut [u32; 256],
-    entries: &mut [u32; 64],
-)
-    requires { ⌜ Hearing (now voice) k × (at ≡ symbolsAt (now voice)) × (link < 65536) ⌝ }
-    requires { ⌜ AtLetter (now voice) letter first ⌝ }
-    requires { ⌜ LetterEntries (now voice) (loopRaised (now voice)) (stepRaised (now voice)) letter (now looping) (now stepping) ⌝ }
-    requires { ⌜ Long (now loops) (now steps) (now entries) ⌝ }
-    ensures { λ _. ⌜ Filled (now (voice .entry)) (loopGain (now (voice .entry)) k) (stepGain (now (voice .entry)) k) letter (now (loops .entry)) (now (steps .entry)) (now (loops .exit)) (now (steps .exit)) ⌝ }
-    ensures { λ _. ⌜ now (entries .exit) ≡ set (now (entries .entry)) letter (linkGain (now (voice .entry)) k link letter) ⌝ }
+fn letter_gains(voice: &[u8], at: usize, k: usize, scores: &[u32; 10]) -> [u32; 8]
+    requires { ⌜ Hearing (now voice) k × (at ≡ symbolsAt (now voice)) ⌝ }
+    requires { ⌜ ScoreRow (now voice) (now scores) ⌝ }
+    ensures { λ r. ⌜ GainRow (now (voice .entry)) k (getD (now (scores .entry)) 8 0) r ⌝ }
 {
+    let letter = scores[8] as usize;
+    let first = scores[9] as usize;
     let symbols = voice[at] as usize;
     let states = voice[2 + 2 * letter] as usize;
     let mut offset = at + 1 + 2 * (first * symbols + k);
-    first_gains(
-        raised_at(voice, offset),
-        letter,
-        link,
-        looping,
-        loops,
-        entries,
-    );
+    let mut row = first_gains(raised_at(voice, offset), scores);
     let mut s = 1;
     while s < states {
         offset += 2 * symbols;
         let heard = raised_at(voice, offset);
-        state_gains(heard, 4 * letter + s, looping, stepping, loops, steps);
+        state_gains(heard, s, scores, &mut row);
         s += 1;
     }
+    row
 }
 
-// The gains of the letters in use at a frame of symbol k, where a node is entered by a move of that raised score.
+// The gains of the letters in use at a frame of symbol k.
 pub(crate) fn frame_gains(
     voice: &[u8],
     at: usize,
     k: usize,
-    link: u32,
-    letters: &[u8; 64],
+    scores: &[[u32; 10]; 64],
     used: usize,
-    begins: &[u16; 64],
-    looping: &[u32; 256],
-    stepping: &[u32; 256],
-    loops: &mut [u32; 256],
-    steps: &mut [u32; 256],
-    entries: &mut [u32; 64],
+    gains: &mut [[u32; 8]; 64],
 )
-    requires { ⌜ Hearing (now voice) k × (at ≡ symbolsAt (now voice)) × (link < 65536) ⌝ }
-    requires { ⌜ Scored (now voice) (now letters) used (now begins) (now looping) (now stepping) ⌝ }
-    requires { ⌜ Long (now loops) (now steps) (now entries) ⌝ }
-    ensures { λ _. ⌜ Gained (now (voice .entry)) k link (now (letters .entry)) used (now (loops .exit)) (now (steps .exit)) (now (entries .exit)) ⌝ }
+    requires { ⌜ Hearing (now voice) k × (at ≡ symbolsAt (now voice)) ⌝ }
+    requires { ⌜ ScoreTable (now voice) used (now scores) × (length (now gains) ≡ 64) ⌝ }
+    ensures { λ _. ⌜ Gained (now (voice .entry)) k (now (scores .entry)) used (now (gains .exit)) ⌝ }
 {
     let mut i = 0;
     while i < used {
-        let letter = letters[i] as usize;
-        let first = begins[letter] as usize;
-        letter_gains(
-            voice,
-            at,
-            k,
-            link,
-            letter,
-            first,
-            looping,
-            stepping,
-            loops,
-            steps,
-            entries,
-        );
+        let letter = scores[i][8] as usize;
+        gains[letter] = letter_gains(voice, at, k, &scores[i]);
         i += 1;
     }
 }
 
-// The same for a frame after others: where the symbol is the one whose gains the tables hold, as in most frames of a long sound, they stay.
+// The same for a frame after others: where the symbol is the one whose gains the table holds, as in most frames of a long sound, they stay.
 pub(crate) fn hear(
     voice: &[u8],
     at: usize,
     k: usize,
     heard: usize,
-    link: u32,
-    letters: &[u8; 64],
+    scores: &[[u32; 10]; 64],
     used: usize,
-    begins: &[u16; 64],
-    looping: &[u32; 256],
-    stepping: &[u32; 256],
-    loops: &mut [u32; 256],
-    steps: &mut [u32; 256],
-    entries: &mut [u32; 64],
+    gains: &mut [[u32; 8]; 64],
 )
-    requires { ⌜ Hearing (now voice) k × (at ≡ symbolsAt (now voice)) × (link < 65536) ⌝ }
-    requires { ⌜ Scored (now voice) (now letters) used (now begins) (now looping) (now stepping) ⌝ }
-    requires { ⌜ Long (now loops) (now steps) (now entries) ⌝ }
-    requires { ⌜ (k ≡ heard → Gained (now voice) k link (now letters) used (now loops) (now steps) (now entries)) ⌝ }
-    ensures { λ _. ⌜ Gained (now (voice .entry)) k link (now (letters .entry)) used (now (loops .exit)) (now (steps .exit)) (now (entries .exit)) ⌝ }
+    requires { ⌜ Hearing (now voice) k × (at ≡ symbolsAt (now voice)) ⌝ }
+    requires { ⌜ ScoreTable (now voice) used (now scores) × (length (now gains) ≡ 64) ⌝ }
+    requires { ⌜ (k ≡ heard → Gained (now voice) k (now scores) used (now gains)) ⌝ }
+    ensures { λ _. ⌜ Gained (now (voice .entry)) k (now (scores .entry)) used (now (gains .exit)) ⌝ }
 {
     if k == heard {
         return;
     }
-    frame_gains(
-        voice,
-        at,
-        k,
-        link,
-        letters,
-        used,
-        begins,
-        looping,
-        stepping,
-        loops,
-        steps,
-        entries,
-    );
+    frame_gains(voice, at, k, scores, used, gains);
 }

@@ -1,17 +1,18 @@
 // What is read once a call: the letters that some node has, and the scores of their moves, raised by 32,768 so that a sum of two has no sign.
-// `looping` and `stepping` hold the raised scores of loops and steps; 0 is an impossible one.
+// The table of scores has a row for each letter in use: entry s for the loop of state s, entry 4 + s for the step into it, where 0 is an impossible
+// one; then the letter's index and the number of its first state.
 ghost use mathlib.Core.Path.{_≡_};
 ghost use mathlib.Core.Bool.{true, cond};
 ghost use mathlib.Core.List.{[], _∷_};
-ghost use Prim.Native.Nat.{ℕ, suc, _+_, _≤_, _<_};
-ghost use lib.ListN.{length, set};
+ghost use Prim.Native.Nat.{ℕ, _+_, _-_, _≤_, _<_};
+ghost use lib.ListN.{length, getD};
 ghost use Rattle.endian.specs.Bytes.{i16};
 ghost use Rattle.voice.specs.Fields.{wellFormed};
 ghost use Rattle.voice.specs.Voice.{letterCount, linkScore, stateCount, symbolsAt, impossible, voiceVerdict};
 ghost use Rattle.lexicon.specs.Lexicon.{nodeCount, nodeLetter, lexiconVerdict};
 ghost use Rattle.checking.specs.Tables.{WellFormed};
 ghost use Rattle.decoder.specs.Score.{possible};
-ghost use Rattle.search.specs.Gains.{raisedOf, letterPairs, pairScore, StoredPairs, loopRaised, stepRaised, LettersMarked, Letters, InUse, Begins, Entries, Filled, AtLetter};
+ghost use Rattle.search.specs.Gains.{raisedOf, letterPairs, pairScore, StoredPairs, LettersMarked, Letters, InUse, Begins, ScoreRow, ScoreRows, AtLetter, StatePut};
 use decoder::score::STORED_IMPOSSIBLE;
 use decoder::score::Score;
 use endian::i16_of;
@@ -145,44 +146,31 @@ pub(crate) fn letter_begins(voice: &[u8], begins: &mut [u16; 64])
 }
 
 // One state's raised scores: of its loop, and of the step from the state before it.
-fn state_scores(
-    pairs: [[i16; 2]; 4],
-    state: usize,
-    entry: usize,
-    looping: &mut [u32; 256],
-    stepping: &mut [u32; 256],
-)
-    requires { ⌜ (state < 4) × (entry < 256) ⌝ }
+fn state_scores(pairs: [[i16; 2]; 4], s: usize, row: &mut [u32; 10])
+    requires { ⌜ (s < 4) × (8 ≤ length (now row)) ⌝ }
     requires { ⌜ StoredPairs pairs ⌝ }
-    ensures { λ _. ⌜ now (looping .exit) ≡ set (now (looping .entry)) entry (pairScore pairs state 0) ⌝ }
-    ensures { λ _. ⌜ (state ≡ 0 → now (stepping .exit) ≡ now (stepping .entry)) ⌝ }
-    ensures { λ _. ⌜ ((s : ℕ) → state ≡ suc s → now (stepping .exit) ≡ set (now (stepping .entry)) entry (pairScore pairs s 1)) ⌝ }
+    ensures { λ _. ⌜ StatePut (now (row .entry)) s (pairScore pairs s 0) (pairScore pairs (s - 1) 1) (now (row .exit)) ⌝ }
 {
-    looping[entry] = move_score(pairs, state, 0);
-    if 0 < state {
-        stepping[entry] = move_score(pairs, state - 1, 1);
+    row[s] = move_score(pairs, s, 0);
+    if 0 < s {
+        row[4 + s] = move_score(pairs, s - 1, 1);
     }
 }
 
 // The raised scores of one letter, whose states begin with number `first`.
-fn letter_scores(
-    voice: &[u8],
-    letter: usize,
-    first: usize,
-    looping: &mut [u32; 256],
-    stepping: &mut [u32; 256],
-)
+fn letter_scores(voice: &[u8], letter: usize, first: u16) -> [u32; 10]
     requires { ⌜ AtLetter (now voice) letter first ⌝ }
-    requires { ⌜ (length (now looping) ≡ 256) × (length (now stepping) ≡ 256) ⌝ }
-    ensures { λ _. ⌜ Filled (now (voice .entry)) (loopRaised (now (voice .entry))) (stepRaised (now (voice .entry))) letter (now (looping .entry)) (now (stepping .entry)) (now (looping .exit)) (now (stepping .exit)) ⌝ }
+    ensures { λ r. ⌜ ScoreRow (now (voice .entry)) r × (getD r 8 0 ≡ letter) ⌝ }
 {
     let states = voice[2 + 2 * letter] as usize;
-    let pairs = letter_pairs(voice, first, states);
+    let pairs = letter_pairs(voice, first as usize, states);
+    let mut row = [0, 0, 0, 0, 0, 0, 0, 0, letter as u32, first as u32];
     let mut s = 0;
     while s < states {
-        state_scores(pairs, s, 4 * letter + s, looping, stepping);
+        state_scores(pairs, s, &mut row);
         s += 1;
     }
+    row
 }
 
 // The raised scores of the letters in use.
@@ -191,18 +179,17 @@ pub(crate) fn raised_scores(
     letters: &[u8; 64],
     used: usize,
     begins: &[u16; 64],
-    looping: &mut [u32; 256],
-    stepping: &mut [u32; 256],
+    scores: &mut [[u32; 10]; 64],
 )
     requires { ⌜ voiceVerdict (now voice) ≡ wellFormed ⌝ }
     requires { ⌜ Letters (now voice) (now letters) used × Begins (now voice) (now begins) ⌝ }
-    requires { ⌜ (length (now looping) ≡ 256) × (length (now stepping) ≡ 256) ⌝ }
-    ensures { λ _. ⌜ Entries (now (voice .entry)) (loopRaised (now (voice .entry))) (stepRaised (now (voice .entry))) (now (letters .entry)) used (now (looping .exit)) (now (stepping .exit)) ⌝ }
+    requires { ⌜ length (now scores) ≡ 64 ⌝ }
+    ensures { λ _. ⌜ ScoreRows (now (voice .entry)) (now (letters .entry)) used (now (scores .exit)) ⌝ }
 {
     let mut i = 0;
     while i < used {
         let letter = letters[i] as usize;
-        letter_scores(voice, letter, begins[letter] as usize, looping, stepping);
+        scores[i] = letter_scores(voice, letter, begins[letter]);
         i += 1;
     }
 }

@@ -12,6 +12,7 @@ ghost use Rattle.search.specs.Slots.{Changed};
 ghost use Rattle.search.specs.Held.{held};
 ghost use Rattle.search.specs.Stored.{Stored, source, PassingOn, PassedOn, Turn, TurnDone};
 ghost use Rattle.search.specs.Carrying.{Staying, Offering, Arc, Own, Renewing, Renewal, stayed, joined, overOne, renewedOne, renewedAll, renewal};
+use crate::gains::gain;
 use crate::parts::clear_at;
 use crate::parts::offer_at;
 use crate::parts::offer_from;
@@ -54,22 +55,24 @@ fn pass_over(
     n: usize,
     nodes: usize,
     firsts: &[u16; 402],
-    entries: &[u32; 64],
+    gains: &[[u32; 8]; 64],
+    link: u32,
     root: bool,
     from: usize,
     t: usize,
     down: u64,
     store: &mut [u8],
 )
-    requires { ⌜ Arc (now lexicon) n nodes (now firsts) (now entries) root from t down (now store) ⌝ }
-    ensures { λ _. ⌜ ((a : Arc (now (lexicon .entry)) n nodes (now (firsts .entry)) (now (entries .entry)) root from t down (now (store .entry))) → Stored (a .passing-on .v) (graphOf (now (lexicon .entry))) n (overOne a) (now (store .exit))) ⌝ }
+    requires { ⌜ Arc (now lexicon) n nodes (now firsts) (now gains) link root from t down (now store) ⌝ }
+    ensures { λ _. ⌜ ((a : Arc (now (lexicon .entry)) n nodes (now (firsts .entry)) (now (gains .entry)) link root from t down (now (store .entry))) → Stored (a .passing-on .v) (graphOf (now (lexicon .entry))) n (overOne a) (now (store .exit))) ⌝ }
     ensures { λ _. ⌜ source root n from (now (store .exit)) ≡ source root n from (now (store .entry)) ⌝ }
 {
     if nodes < t {
         return;
     }
-    let gain = entries[lexicon[1 + t] as usize];
-    pass_to(store, n, root, from, firsts[t] as usize, gain, down);
+    let letter = lexicon[1 + t] as usize;
+    let up = gain(link, gains[letter][4]);
+    pass_to(store, n, root, from, firsts[t] as usize, up, down);
 }
 
 // A vertex without tokens; the root has one.
@@ -91,15 +94,16 @@ pub(crate) fn pass_on(
     lists: &[u16; 402],
     counts: &[u32; 402],
     firsts: &[u16; 402],
-    entries: &[u32; 64],
+    gains: &[[u32; 8]; 64],
+    link: u32,
     vertex: usize,
     root: bool,
     from: usize,
     store: &mut [u8],
 )
-    requires { ⌜ PassingOn (now lexicon) n (now lists) (now counts) (now firsts) (now entries) vertex root from (now store) ⌝ }
+    requires { ⌜ PassingOn (now lexicon) n (now lists) (now counts) (now firsts) (now gains) link vertex root from (now store) ⌝ }
     requires { ⌜ nodes ≡ nodeCount (now lexicon) ⌝ }
-    ensures { λ _. ⌜ ((t : PassingOn (now (lexicon .entry)) n (now (lists .entry)) (now (counts .entry)) (now (firsts .entry)) (now (entries .entry)) vertex root from (now (store .entry))) → PassedOn t (now (store .exit))) ⌝ }
+    ensures { λ _. ⌜ ((t : PassingOn (now (lexicon .entry)) n (now (lists .entry)) (now (counts .entry)) (now (firsts .entry)) (now (gains .entry)) link vertex root from (now (store .entry))) → PassedOn t (now (store .exit))) ⌝ }
 {
     if is_empty(&store[..], root, from) {
         return;
@@ -115,7 +119,8 @@ pub(crate) fn pass_on(
             n,
             nodes,
             firsts,
-            entries,
+            gains,
+            link,
             root,
             from,
             t,
@@ -140,23 +145,16 @@ fn stay(store: &mut [u8], n: usize, slot: usize, gain: u32)
 }
 
 // Renews state s in a node's part of the store: by its loop, and by the step from the state before, whose tokens are still old.
-fn renew_state(
-    part: &mut [u8],
-    n: usize,
-    entry: usize,
-    s: usize,
-    loops: &[u32; 256],
-    steps: &[u32; 256],
-)
-    requires { ⌜ Renewing n entry (suc s) (now loops) (now steps) (now part) ⌝ }
-    ensures { λ _. ⌜ ((t : Renewing n entry (suc s) (now (loops .entry)) (now (steps .entry)) (now (part .entry))) → Own n (t .S) (renewedOne t (t .node)) (now (part .exit))) ⌝ }
+fn renew_state(part: &mut [u8], n: usize, s: usize, row: &[u32; 8])
+    requires { ⌜ Renewing n (suc s) (now row) (now part) ⌝ }
+    ensures { λ _. ⌜ ((t : Renewing n (suc s) (now (row .entry)) (now (part .entry))) → Own n (t .S) (renewedOne t (t .node)) (now (part .exit))) ⌝ }
 {
     let slot = n * s;
-    stay(part, n, slot, loops[entry + s]);
+    stay(part, n, slot, row[s]);
     if s == 0 {
         return;
     }
-    let gain = steps[entry + s];
+    let gain = row[4 + s];
     if gain == 0 {
         return;
     }
@@ -164,40 +162,25 @@ fn renew_state(
 }
 
 // Renews the states in a node's part of the store, from the last to the first.
-fn renew(
-    part: &mut [u8],
-    n: usize,
-    entry: usize,
-    states: usize,
-    loops: &[u32; 256],
-    steps: &[u32; 256],
-)
-    requires { ⌜ Renewing n entry states (now loops) (now steps) (now part) ⌝ }
-    ensures { λ _. ⌜ ((t : Renewing n entry states (now (loops .entry)) (now (steps .entry)) (now (part .entry))) → Own n (t .S) (renewedAll t (t .node)) (now (part .exit))) ⌝ }
+fn renew(part: &mut [u8], n: usize, states: usize, row: &[u32; 8])
+    requires { ⌜ Renewing n states (now row) (now part) ⌝ }
+    ensures { λ _. ⌜ ((t : Renewing n states (now (row .entry)) (now (part .entry))) → Own n (t .S) (renewedAll t (t .node)) (now (part .exit))) ⌝ }
 {
     let mut s = states;
     while s > 0 {
         s -= 1;
-        renew_state(part, n, entry, s, loops, steps);
+        renew_state(part, n, s, row);
     }
 }
 
 // The node's part of the store, which begins with slot `first`, is lent on to the token update.
-fn renew_node(
-    store: &mut [u8],
-    n: usize,
-    entry: usize,
-    first: usize,
-    states: usize,
-    loops: &[u32; 256],
-    steps: &[u32; 256],
-)
-    requires { ⌜ Renewal n entry first states (now loops) (now steps) (now store) ⌝ }
-    ensures { λ _. ⌜ ((t : Renewal n entry first states (now (loops .entry)) (now (steps .entry)) (now (store .entry))) → Stored (t .v) (graphOf (t .x)) n (renewal t) (now (store .exit))) ⌝ }
+fn renew_node(store: &mut [u8], n: usize, first: usize, states: usize, row: &[u32; 8])
+    requires { ⌜ Renewal n first states (now row) (now store) ⌝ }
+    ensures { λ _. ⌜ ((t : Renewal n first states (now (row .entry)) (now (store .entry))) → Stored (t .v) (graphOf (t .x)) n (renewal t) (now (store .exit))) ⌝ }
 {
     let start = 8 * first;
     let end = start + 8 * (n * states);
-    renew(&mut store[start..end], n, entry, states, loops, steps);
+    renew(&mut store[start..end], n, states, row);
 }
 
 // The turn of a node.
@@ -209,15 +192,14 @@ pub(crate) fn pass_node(
     lists: &[u16; 402],
     counts: &[u32; 402],
     firsts: &[u16; 402],
-    loops: &[u32; 256],
-    steps: &[u32; 256],
-    entries: &[u32; 64],
+    gains: &[[u32; 8]; 64],
+    link: u32,
     node: usize,
     store: &mut [u8],
 )
-    requires { ⌜ Turn (now voice) (now lexicon) n (now lists) (now counts) (now firsts) (now loops) (now steps) (now entries) node (now store) ⌝ }
+    requires { ⌜ Turn (now voice) (now lexicon) n (now lists) (now counts) (now firsts) (now gains) link node (now store) ⌝ }
     requires { ⌜ nodes ≡ nodeCount (now lexicon) ⌝ }
-    ensures { λ _. ⌜ ((t : Turn (now (voice .entry)) (now (lexicon .entry)) n (now (lists .entry)) (now (counts .entry)) (now (firsts .entry)) (now (loops .entry)) (now (steps .entry)) (now (entries .entry)) node (now (store .entry))) → TurnDone t (now (store .exit))) ⌝ }
+    ensures { λ _. ⌜ ((t : Turn (now (voice .entry)) (now (lexicon .entry)) n (now (lists .entry)) (now (counts .entry)) (now (firsts .entry)) (now (gains .entry)) link node (now (store .entry))) → TurnDone t (now (store .exit))) ⌝ }
 {
     let letter = lexicon[1 + node] as usize;
     let states = voice[2 + 2 * letter] as usize;
@@ -231,11 +213,12 @@ pub(crate) fn pass_node(
         lists,
         counts,
         firsts,
-        entries,
+        gains,
+        link,
         node,
         false,
         last,
         store,
     );
-    renew_node(store, n, 4 * letter, first, states, loops, steps);
+    renew_node(store, n, first, states, &gains[letter]);
 }

@@ -1,13 +1,11 @@
 -- `frames::first_frame` meets its contract: the root's token is passed on into an empty store. Assumes nothing.
-use mathlib.Core.Option.{some}
 use native.Mathlib.Omega.{arith}
 use borrow.Author.Needs.{needs}
-use lib.IntN.{pos}
 use lib.ListN.{getD}
 use Rattle.voice.proofs.Scores.{symbols-few}
 use Rattle.lexicon.specs.Lexicon.{nodeCount}
 use Rattle.search.specs.Gains.{EntryGains, Hearing}
-use Rattle.search.proofs.Filling.{gained-long, root-gains}
+use Rattle.search.proofs.Filling.{entry-gains}
 use Rattle.search.proofs.Running.{frame-count, hearing, root-passing, root-stored}
 use Rattle.search.proofs.frames.first_frame.Statement.{statement}
 use Rattle.search.proofs.frames.first_frame.Tie as tie
@@ -17,17 +15,17 @@ symbol c = let r = c .pre .0 in hearing r 0 (omega (arith, frame-count _ _ (r .h
 
 frame-gains-requires : tie.Need-frame-gains-requires
 frame-gains-requires c κs =
-    let s = c .before .before .before .before .before .before .before .before .before in
+    let s = c .before .before .before .before .before .before .before in
     let p = s .pre .1 .1 in
-    ((symbol s, c .before .before .before .symbols-at .ensures, omega arith), (p .0 .1, p .1))
+    ((symbol s, c .before .symbols-at .ensures), (p .0 .table, p .1))
 
 abbrev start : tie.After-frame-gains → tie.Start
-start c = c .before .before .before .before .before .before .before .before .before .before
+start c = c .before .before .before .before .before .before .before .before
 
 gains : (c : tie.After-frame-gains) →
     let a = start c .args in
-    EntryGains (a .voice .now) (a .lexicon .now) (getD (a .frames .now) 0 0) (some (pos 0)) (c .frame-gains .last .1 .1 .1 .1 .1 .1 .1 .1 .1 .1 .1 .0)
-gains c = root-gains (start c .pre .1 .1 .0 .0) (c .frame-gains .ensures)
+    EntryGains (a .voice .now) (a .lexicon .now) (getD (a .frames .now) 0 0) (c .frame-gains .last .1 .1 .1 .1 .1 .0)
+gains c = entry-gains (start c .pre .1 .1 .0) (c .frame-gains .ensures)
 
 pass-on-requires : tie.Need-pass-on-requires
 unfolding nodeCount
@@ -42,7 +40,7 @@ returns c =
     let m = c .before .before in
     let g = m .before .before .before .before in
     let p = start g .pre in
-    (root-stored (p .0) (p .1 .0) (gains g) (m .pass-on .ensures (root-passing (p .0) (p .1 .0) (gains g))), gained-long (g .frame-gains .ensures))
+    (root-stored (p .0) (p .1 .0) (gains g) (m .pass-on .ensures (root-passing (p .0) (p .1 .0) (gains g))), g .frame-gains .ensures .long)
 
 shared-slice-read-symbol : tie.Need-shared-slice-read-symbol
 shared-slice-read-symbol c = let h = frame-count _ _ (c .before .before .before .before .before .pre .0 .heard) in search needs
@@ -68,5 +66,5 @@ first-frame-spec =
     (λ c κs. search needs)
     (λ c. search needs)
     pass-on-requires
-    (λ c. c .before .before .pass-on .kept .1 .1 .1 .1 .1 .1 .1 .1 .1 .1 .0)
+    (λ c. c .before .before .pass-on .kept .1 .1 .1 .1 .1 .1 .1 .1 .1 .1 .1 .0)
     returns)

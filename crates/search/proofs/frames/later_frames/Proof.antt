@@ -10,37 +10,36 @@ use lib.ListN.{length}
 use Rattle.voice.specs.Voice.{linkScore}
 use Rattle.graph.proofs.Accepted.{accepted}
 use Rattle.decoder.specs.Score.{possible}
-use Rattle.search.specs.Gains.{raisedOf, Long, Gained}
+use Rattle.search.specs.Gains.{raisedOf, Gained}
 use Rattle.search.specs.Running.{StoredAt}
 use Rattle.search.proofs.Gaining.{back}
-use Rattle.search.proofs.Filling.{gained-long}
 use Rattle.search.proofs.Running.{frame-count, run-same, FramesDone, frames-end}
 use Rattle.search.proofs.frames.later_frames.Statement.{statement}
 use Rattle.search.proofs.frames.later_frames.Tie as tie
 
-record Going (v x frames : List ℕ) (n t : ℕ) (b₀ b : List ℕ) (link heard : ℕ) (letters : List ℕ) (used : ℕ)
-    (loops steps entries : List ℕ) : Type 0 where
+record Going (v x frames : List ℕ) (n t : ℕ) (b₀ b : List ℕ) (heard : ℕ) (scores : List (List ℕ)) (used : ℕ)
+    (gains : List (List ℕ)) : Type 0 where
   done : FramesDone v x frames n t b₀ b
-  long : Long loops steps entries
-  held : (k : ℕ) → k ≡ heard → k < 256 → Gained v k link letters used loops steps entries
+  long : length gains ≡ 64
+  held : (k : ℕ) → k ≡ heard → k < 256 → Gained v k scores used gains
 
 -- after the next frame
-going-next : {v x frames : List ℕ} {n t : ℕ} {b₀ b b′ : List ℕ} {link heard : ℕ} {letters : List ℕ} {used : ℕ} {loops steps entries : List ℕ}
+going-next : {v x frames : List ℕ} {n t : ℕ} {b₀ b b′ : List ℕ} {heard : ℕ} {scores : List (List ℕ)} {used : ℕ} {gains : List (List ℕ)}
     → t + 1 < length frames → FramesDone v x frames n t b₀ b → length b′ ≡ length b → StoredAt v x frames n (suc t) b′
-    → Gained v heard link letters used loops steps entries
-    → Going v x frames n (t + 1) b₀ b′ link heard letters used loops steps entries
+    → Gained v heard scores used gains
+    → Going v x frames n (t + 1) b₀ b′ heard scores used gains
 going-next h d k s g = record {
   done = record { stored = rw add-one s; low = h; long = k ∙ d .long };
-  long = gained-long g;
+  long = g .long;
   held = λ k q l. rw q g;
 }
 
 abbrev Inv-loop : tie.InvT-loop
-Inv-loop voice lexicon n lists counts firsts letters used begins looping stepping frames loops₀ steps₀ entries₀ store₀ link at heard₀ t₀ loops steps entries store heard t =
-    Going voice lexicon frames n t store₀ store link heard letters used loops steps entries
+Inv-loop voice lexicon n lists counts firsts scores used frames gains₀ store₀ link at heard₀ t₀ gains store heard t =
+    Going voice lexicon frames n t store₀ store heard scores used gains
 
 abbrev μ-loop : tie.MeasureT-loop
-μ-loop voice lexicon n lists counts firsts letters used begins looping stepping frames loops₀ steps₀ entries₀ store₀ link at heard₀ t₀ loops steps entries store heard t =
+μ-loop voice lexicon n lists counts firsts scores used frames gains₀ store₀ link at heard₀ t₀ gains store heard t =
     length frames - t
 
 loop-holds : tie.Need-loop-holds Inv-loop μ-loop
@@ -61,7 +60,7 @@ link c =
 
 next-frame-requires : tie.Need-next-frame-requires Inv-loop μ-loop
 next-frame-requires c κs =
-    let i = c .before .before .before .before in
+    let i = c .before .before in
     let l = i .before in
     let a = l .before in
     let r = a .before in
@@ -70,14 +69,14 @@ next-frame-requires c κs =
     (run-same (d .done .long) (p .0), ((link r, omega (arith, i .loop-test .taken)), (d .done .stored, (p .1 .1 .0, ((d .long, a .symbols-at .ensures), d .held)))))
 
 loop-less : tie.Need-loop-less Inv-loop μ-loop
-loop-less c = let h = c .before .before .before .before .before .before .before .loop-test .taken in omega arith
+loop-less c = let h = c .before .before .before .before .before .loop-test .taken in omega arith
 
 loop-again : tie.Need-loop-again Inv-loop μ-loop
 loop-again c =
     let n = c .before .before in
-    let i = n .before .before .before .before .before in
+    let i = n .before .before .before in
     let e = n .next-frame .ensures in
-    going-next (i .loop-test .taken) (i .before .loop .inv .done) (n .next-frame .kept .1 .1 .1 .1 .1 .1 .1 .1 .1 .1 .1 .1 .1 .1 .1 .1 .1 .1 .1 .0) (e .0) (e .1)
+    going-next (i .loop-test .taken) (i .before .loop .inv .done) (n .next-frame .kept .1 .1 .1 .1 .1 .1 .1 .1 .1 .1 .1 .1 .1 .1 .0) (e .0) (e .1)
 
 small : (c : tie.At-loop Inv-loop μ-loop) → c .loop .t < 1000
 small c =
@@ -94,7 +93,7 @@ add-loop : tie.Need-add-loop Inv-loop μ-loop
 add-loop c = let h = small c in search needs
 
 add-t : tie.Need-add-t Inv-loop μ-loop
-add-t c = let h = small (c .before .before .before .before .before .before .before .before) in search needs
+add-t c = let h = small (c .before .before .before .before .before .before) in search needs
 
 same-length : tie.Need-same-length Inv-loop μ-loop
 same-length c = c .before .loop .inv .done .long

@@ -4,21 +4,20 @@ use Prim.Native.Nat.{_-_, _<_}
 use native.Mathlib.Omega.{arith}
 use borrow.Author.Needs.{needs}
 use lib.ListN.{getD}
-use Rattle.search.specs.Gains.{loopRaised, stepRaised, Entries, AtLetter}
-use Rattle.search.proofs.Gaining.{letter-small, first-small}
-use Rattle.search.proofs.Filling.{fills-start, fills-next, fills-done, begins-at}
+use Rattle.search.specs.Gains.{ScoreRows, AtLetter}
+use Rattle.search.proofs.Gaining.{letter-small}
+use Rattle.search.proofs.Filling.{scores-start, scores-row, scores-done, begins-at}
 use Rattle.search.proofs.scores.raised_scores.Statement.{statement}
 use Rattle.search.proofs.scores.raised_scores.Tie as tie
 
 abbrev Inv-loop : tie.InvT-loop
-Inv-loop voice letters used begins looping₀ stepping₀ i₀ looping stepping i =
-    Entries voice (loopRaised voice) (stepRaised voice) letters i looping stepping
+Inv-loop voice letters used begins scores₀ i₀ scores i = ScoreRows voice letters i scores
 
 abbrev μ-loop : tie.MeasureT-loop
-μ-loop voice letters used begins looping₀ stepping₀ i₀ looping stepping i = used - i
+μ-loop voice letters used begins scores₀ i₀ scores i = used - i
 
 loop-holds : tie.Need-loop-holds Inv-loop μ-loop
-loop-holds c = let p = c .before .pre .1 .1 in fills-start (p .0) (p .1)
+loop-holds c = scores-start (c .before .pre .1 .1)
 
 -- the letter whose turn it is
 letter : (c : tie.In-loop Inv-loop μ-loop) →
@@ -31,18 +30,15 @@ few : (c : tie.In-loop Inv-loop μ-loop) → c .before .loop .i < 64
 few c = let h = c .loop-test .taken in omega (arith, c .before .before .before .pre .1 .0 .0 .few)
 
 letter-scores-requires : tie.Need-letter-scores-requires Inv-loop μ-loop
-letter-scores-requires c κs =
-    let l = c .before .before .before .before in
-    let i = l .before .loop .inv in
-    (letter l, (i .long-loops, i .long-steps))
+letter-scores-requires c κs = letter (c .before .before)
 
 loop-again : tie.Need-loop-again Inv-loop μ-loop
 loop-again c =
-    let l = c .before .before .before .before .before in
-    fills-next (l .before .before .before .pre .1 .0 .0) (l .loop-test .taken) (l .before .loop .inv) (c .letter-scores .ensures)
+    let l = c .before .before .before in
+    scores-row (few l) (l .before .loop .inv) (c .letter-scores .ensures .0) (c .letter-scores .ensures .1)
 
 returns : tie.Need-returns Inv-loop μ-loop
-returns c = fills-done (c .loop-test .left) (c .before .loop .inv)
+returns c = scores-done (c .loop-test .left) (c .before .loop .inv)
 
 pub raised-scores-spec : {M : Type 1} → statement M
 raised-scores-spec =
@@ -55,9 +51,10 @@ raised-scores-spec =
     (λ c. let h = letter-small (letter (c .before)) in search needs)
     (λ c. let h = letter-small (letter (c .before)) in search needs)
     (λ c. let h = letter-small (letter (c .before)) in search needs)
-    (λ c. let h = first-small (letter (c .before .before)) in search needs)
     letter-scores-requires
-    (λ c. let h = few (c .before .before .before .before .before) in search needs)
+    (λ c. let h = few (c .before .before .before) in search needs)
+    (λ c. let h = few (c .before .before .before) in search needs)
+    (λ c. let h = few (c .before .before .before) in search needs)
     (λ c. search needs)
     loop-again
     returns)

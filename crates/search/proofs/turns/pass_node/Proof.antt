@@ -16,14 +16,14 @@ pass-on-requires c κs = let p = at-last (c .before) .pre in (passing-on (p .0),
 
 renew-node-requires : tie.Need-renew-node-requires
 renew-node-requires c κs =
-    let o = c .before .before .before in
+    let o = c .before .before .before .before in
     let t = at-last (o .before .before) .pre .0 in
     renewing t (o .pass-on .ensures (passing-on t))
 
 returns : tie.Need-returns
 returns c =
     let r = c .before .before in
-    let o = r .before .before .before .before in
+    let o = r .before .before .before .before .before in
     λ t. turn-done t (o .pass-on .ensures (passing-on t)) (r .renew-node .ensures) (r .renew-node .kept .0)
 
 pub pass-node-spec : {M : Type 1} → statement M
@@ -45,6 +45,7 @@ pass-node-spec =
     (λ c. let h = slot-few (at-last c .pre .0) in search needs)
     pass-on-requires
     (λ c. let o = c .before .before .before in let h = letter-small (at-last (o .before .before) .pre .0) in search needs)
+    (λ c. let o = c .before .before .before in let h = letter-small (at-last (o .before .before) .pre .0) in search needs)
     renew-node-requires
-    (λ c. c .before .before .renew-node .kept .0 ∙ c .before .before .before .before .before .before .pass-on .kept .1 .1 .1 .1 .1 .1 .1 .1 .1 .1 .0)
+    (λ c. c .before .before .renew-node .kept .0 ∙ c .before .before .before .before .before .before .before .pass-on .kept .1 .1 .1 .1 .1 .1 .1 .1 .1 .1 .1 .0)
     returns)

@@ -14,11 +14,11 @@ use Rattle.search.proofs.turns.pass_on.Statement.{statement}
 use Rattle.search.proofs.turns.pass_on.Tie as tie
 
 abbrev Inv-loop : tie.InvT-loop
-Inv-loop lexicon n nodes lists counts firsts entries vertex root from store₀ start stop at₀ down₀ store at down =
-    (t : PassingOn lexicon n lists counts firsts entries vertex root from store₀) → PassingLeft t at stop down store
+Inv-loop lexicon n nodes lists counts firsts gains link vertex root from store₀ start stop at₀ down₀ store at down =
+    (t : PassingOn lexicon n lists counts firsts gains link vertex root from store₀) → PassingLeft t at stop down store
 
 abbrev μ-loop : tie.MeasureT-loop
-μ-loop lexicon n nodes lists counts firsts entries vertex root from store₀ start stop at₀ down₀ store at down = stop - at
+μ-loop lexicon n nodes lists counts firsts gains link vertex root from store₀ start stop at₀ down₀ store at down = stop - at
 
 abbrev begin : tie.After-is-empty Inv-loop μ-loop → tie.Start Inv-loop μ-loop
 begin c = c .before .before .before .before
@@ -85,7 +85,7 @@ loop-again c =
     let l = m .before .before in
     λ t. passing-next t (l .loop .inv t) (m .before .loop-test .taken) (m .number-at2 .ensures) (start l .pre .1) (o .pass-over .ensures .0)
     (o .pass-over .ensures .1)
-    (o .pass-over .kept .1 .1 .1 .1 .1 .1 .1 .1 .1 .0)
+    (o .pass-over .kept .1 .1 .1 .1 .1 .1 .1 .1 .1 .1 .0)
 
 same-length-2 : tie.Need-same-length-2 Inv-loop μ-loop
 same-length-2 c = c .before .loop .inv (start (c .before) .pre .0) .long

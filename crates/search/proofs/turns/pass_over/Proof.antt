@@ -15,21 +15,25 @@ returns c = ((λ a. arc-sink a (c .if1 .taken)), refl)
 node : (c : tie.Else1) → let s = c .before .before .before in s .args .t ≤ nodeCount (s .args .lexicon .now)
 node c = omega (arith, c .if1 .left, c .before .before .before .pre .nodes-is)
 
-read : (c : tie.Else1) → let a = c .before .before .before .args in ArcRead (a .lexicon .now) (a .firsts .now) (a .entries .now) (a .t)
+read : (c : tie.Else1) → let a = c .before .before .before .args in ArcRead (a .lexicon .now) (a .firsts .now) (a .gains .now) (a .link) (a .t)
 read c = arc-read (c .before .before .before .pre) (node c)
 
 pass-to-requires : tie.Need-pass-to-requires
-pass-to-requires c κs = let e = c .before .before .before .before in
+pass-to-requires c κs =
+    let g = c .before .before in
+    let e = g .before .before .before in
     let a = e .before .before .before .pre in
-    (arc-offering a (node e), arc-apart a (node e))
+    (arc-offering a (node e) (g .gain .ensures), arc-apart a (node e))
 
 returns-2 : tie.Need-returns-2
 returns-2 c =
     let o = c .before .before in
-    let e = o .before .before .before .before .before in
+    let g = o .before .before .before in
+    let e = g .before .before .before in
     let f = o .pass-to .ensures in
+    let q = g .gain .ensures in
     let p = e .before .before .before .pre in
-    ((λ a. arc-done a (node e) (f (arc-offering a (node e)))), arc-source p (node e) (f (arc-offering p (node e))))
+    ((λ a. arc-done a (node e) q (f (arc-offering a (node e) q))), arc-source p (node e) (f (arc-offering p (node e) q)))
 
 pub pass-over-spec : {M : Type 1} → statement M
 pass-over-spec =
@@ -41,9 +45,11 @@ pass-over-spec =
     (λ c. let h = read (c .before) .letter in search needs)
     (λ c. let h = read (c .before) .letter in search needs)
     (λ c. let h = read (c .before) .letter in search needs)
-    (λ c. let h = read (c .before .before .before) .few in search needs)
-    (λ c. let h = read (c .before .before .before) .few in search needs)
-    (λ c. let h = read (c .before .before .before .before) .slot in search needs)
+    (λ c. search needs)
+    (λ c κs. let r = read (c .before .before) in (r .link-small, r .entry-small))
+    (λ c. let h = read (c .before .before .before .before) .few in search needs)
+    (λ c. let h = read (c .before .before .before .before) .few in search needs)
+    (λ c. let h = read (c .before .before .before .before .before) .slot in search needs)
     pass-to-requires
     (λ c. c .before .before .pass-to .kept .0)
     returns-2)

@@ -10,11 +10,10 @@ use Rattle.search.proofs.turns.renew.Statement.{statement}
 use Rattle.search.proofs.turns.renew.Tie as tie
 
 abbrev Inv-loop : tie.InvT-loop
-Inv-loop part₀ n entry states loops steps s₀ part s =
-    (t : Renewing n entry states loops steps part₀) → RenewLeft t s part
+Inv-loop part₀ n states row s₀ part s = (t : Renewing n states row part₀) → RenewLeft t s part
 
 abbrev μ-loop : tie.MeasureT-loop
-μ-loop part₀ n entry states loops steps s₀ part s = s
+μ-loop part₀ n states row s₀ part s = s
 
 loop-holds : tie.Need-loop-holds Inv-loop μ-loop
 loop-holds c = λ t. renew-start t
@@ -26,7 +25,7 @@ start l = l .before .before
 abbrev LeftT : tie.In-loop Inv-loop μ-loop → Type 0
 LeftT c =
     let a = start (c .before) .args in
-    (t : Renewing (a .n) (a .entry) (a .states) (a .loops .now) (a .steps .now) (a .part .now))
+    (t : Renewing (a .n) (a .states) (a .row .now) (a .part .now))
     → RenewLeft t (suc (c .before .loop .s - 1)) (c .before .loop .part)
 
 left : (c : tie.In-loop Inv-loop μ-loop) → LeftT c

@@ -49,7 +49,6 @@ renew-state-spec =
     (λ c. let h = slot-few (c .before .pre) in search needs)
     (λ c. let h = entry-few (c .before .before .pre) in search needs)
     (λ c. let h = entry-few (c .before .before .pre) in search needs)
-    (λ c. let h = entry-few (c .before .before .pre) in search needs)
     stay-requires
     (λ c. c .before .before .before .stay .kept .0)
     returns
