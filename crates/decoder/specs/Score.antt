@@ -1,18 +1,40 @@
--- What the number of the score type stands for (document 01, State paths and hits: the sentinel for 'no token' and the limits belong to the
--- score type itself). Assumes nothing.
-use Prim.Native.Nat.{_<_}
-use mathlib.Core.Bool.{Bool, true, false, cond}
+-- The score type: the number of a score, and the score of a number (document 01, State paths and hits: the sentinel for
+-- 'no token' and the limits belong to the score type itself). Assumes nothing.
+use Prim.Native.Nat.{ℕ, suc, _+_, _-_}
+use mathlib.Core.Bool.{cond}
 use mathlib.Core.Option.{Option, none, some}
-use lib.Dec.{eqb}
-use lib.IntN.{ℤ, _+ℤ_, subℕ}
-use lib.Signed.{ltZ}
+use lib.Dec.{ltb}
+use lib.IntN.{ℤ, pos, negsuc, negℤ, _+ℤ_, subℕ}
 use Rattle.voice.specs.Voice.{impossible}
 use Rattle.endian.specs.Integers.{eqZ}
-use Rattle.decoder.specs.declared.score.Score.{Score}
+use Rattle.decoder.specs.StatePaths.{scoreLimit}
 
--- 0 is 'no token', any other number a score plus 2^27
-unfoldable pub meaning : Score → Option ℤ
-meaning s = cond (eqb (s .0) 0) none (some (subℕ (s .0) 134217728))
+-- what is added to a score so that it has no sign: more than 1,000 frames can change it by
+abbrev pub bias : ℕ
+bias = 134217728
+
+-- the most that one frame can change a score by: four stored scores
+abbrev pub frameLimit : ℕ
+frameLimit = 131072
+
+-- and 1,000 frames: less than the bias
+abbrev pub reach : ℕ
+reach = 131072000
+
+-- z + k, where that isn't negative
+unfoldable pub raised : ℕ → ℤ → ℕ
+raised k (pos n) = k + n
+raised k (negsuc n) = k - suc n
+
+-- the number of a score: 0 is 'no token', any other a score plus the bias
+unfoldable pub numberOf : Option ℤ → ℕ
+numberOf none = 0
+numberOf (some z) = raised bias z
+
+-- the score of a number; one that passes a limit gives the limit
+unfoldable pub valueOf : ℕ → ℤ
+valueOf n =
+    cond (ltb n (bias - scoreLimit)) (negℤ (pos scoreLimit)) (cond (ltb (bias + scoreLimit) n) (pos scoreLimit) (subℕ n bias))
 
 -- a stored score, where it is not impossible
 unfoldable pub possible : ℤ → Option ℤ
@@ -23,14 +45,3 @@ unfoldable pub plus : Option ℤ → Option ℤ → Option ℤ
 plus none b = none
 plus (some a) none = none
 plus (some a) (some b) = some (a +ℤ b)
-
--- the first is higher than the second; every score is higher than none
-unfoldable pub isHigher : Option ℤ → Option ℤ → Bool
-isHigher none b = false
-isHigher (some a) none = true
-isHigher (some a) (some b) = ltZ b a
-
--- a score to which one stored score can be added within u32; the upper bound is 2^32 - 2^16, with room to spare
-pub record Roomy (s : Score) : Type 0 where
-  pub low : 0 < s .0 → 32768 < s .0
-  pub high : s .0 < 4294901760

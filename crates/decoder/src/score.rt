@@ -1,15 +1,14 @@
-// The score of a token. It is held as a number without a sign: the score plus 2^27, and 0 for 'no token', so that a work space of zeros
-// holds no token at all.
+// The score of a token. It is held as a number without a sign: the score plus the bias, and 0 for 'no token', so that a
+// work space of zeros holds no token at all.
 ghost use mathlib.Core.Path.{_≡_};
-ghost use mathlib.Core.Option.{none, some};
+ghost use mathlib.Core.Option.{none};
 ghost use Prim.Native.Nat.{_<_};
-ghost use lib.IntN.{pos, negℤ, subℕ};
-ghost use Rattle.endian.specs.Lists.{isNone};
-ghost use Rattle.decoder.specs.StatePaths.{scoreLimit};
-ghost use Rattle.decoder.specs.Score.{meaning, possible, plus, isHigher, Roomy};
+ghost use lib.Dec.{eqb};
+ghost use lib.IntN.{subℕ};
+ghost use Rattle.decoder.specs.Score.{possible, numberOf, valueOf};
 
 // What is added to a score so that it has no sign.
-const BIAS: u32 = 134217728;
+pub const BIAS: u32 = 134217728;
 
 // The score of the voice model that means impossible.
 pub const STORED_IMPOSSIBLE: i16 = -32768;
@@ -24,41 +23,16 @@ impl Score {
     // 65,501,233: as many of at most 32,767 each.
     pub const HIGHEST: Score = Score(199718961);
 
-    pub fn impossible() -> Score
-        ensures { λ r. ⌜ meaning r ≡ none ⌝ }
-    {
-        Score::IMPOSSIBLE
-    }
-
-    pub fn lowest() -> Score
-        ensures { λ r. ⌜ meaning r ≡ some (negℤ (pos scoreLimit)) ⌝ }
-    {
-        Score::LOWEST
-    }
-
-    pub fn highest() -> Score
-        ensures { λ r. ⌜ meaning r ≡ some (pos scoreLimit) ⌝ }
-    {
-        Score::HIGHEST
-    }
-
     pub fn is_impossible(self) -> bool
-        ensures { λ r. ⌜ r ≡ isNone (meaning self) ⌝ }
+        ensures { λ r. ⌜ r ≡ eqb (self .0) (numberOf none) ⌝ }
     {
         let none = Score::IMPOSSIBLE;
         self.0 == none.0
     }
 
-    // Whether it is higher than another; 'no token' is below every score.
-    pub fn is_higher(self, other: Score) -> bool
-        ensures { λ r. ⌜ r ≡ isHigher (meaning self) (meaning other) ⌝ }
-    {
-        other.0 < self.0
-    }
-
     // A score of the voice model; -32,768 means impossible.
     pub fn from_stored(stored: i16) -> Score
-        ensures { λ r. ⌜ meaning r ≡ possible stored ⌝ }
+        ensures { λ r. ⌜ r .0 ≡ numberOf (possible stored) ⌝ }
     {
         if stored == STORED_IMPOSSIBLE {
             return Score::IMPOSSIBLE;
@@ -66,19 +40,19 @@ impl Score {
         Score(BIAS - 32768 + raised(stored))
     }
 
-    // The score with a score of the voice model added to it; impossible where either is.
-    pub(crate) fn plus(self, stored: i16) -> Score
-        requires { ⌜ Roomy self ⌝ }
-        ensures { λ r. ⌜ meaning r ≡ plus (meaning self) (possible stored) ⌝ }
+    // The score as a hit has it. No word's score passes the limits; a number that does gives the limit that it passes.
+    pub fn value(self) -> i32
+        ensures { λ r. ⌜ r ≡ valueOf (self .0) ⌝ }
     {
-        let biased = self.0;
-        if biased == 0 {
-            return Score::IMPOSSIBLE;
+        let lowest = Score::LOWEST;
+        let highest = Score::HIGHEST;
+        if self.0 < lowest.0 {
+            return lowest.0 as i32 - BIAS as i32;
         }
-        if stored == STORED_IMPOSSIBLE {
-            return Score::IMPOSSIBLE;
+        if highest.0 < self.0 {
+            return highest.0 as i32 - BIAS as i32;
         }
-        Score(biased - 32768 + raised(stored))
+        self.0 as i32 - BIAS as i32
     }
 }
 

@@ -88,7 +88,7 @@ module _ (v x work : List ℕ) where
     pub record Clear : Type 0 where
       pub none : noneApplies (callRows v frames n out) ≡ true
       pub heard : AcceptedFrames v frames
-      pub some : 1 ≤ n
+      pub one : 1 ≤ n
       pub few : n ≤ 8
       pub room : 8 * n ≤ length out
 
@@ -99,7 +99,7 @@ module _ (v x work : List ℕ) where
         let q = none-parts (frameRows v frames) (on Count (badCount n) ∷ on Output (ltb (length out) (8 * n)) ∷ []) p in
         let s = none-says (on Count (badCount n) ∷ on Output (ltb (length out) (8 * n)) ∷ []) (q .1) in
         let b = bounds 1 8 n (not-false _ (s .0)) in
-        record { none = p; heard = q .0; some = b .0; few = b .1; room = ltb-false (length out) (8 * n) (s .1 .0) }
+        record { none = p; heard = q .0; one = b .0; few = b .1; room = ltb-false (length out) (8 * n) (s .1 .0) }
 
     -- a store of n tokens a place
     pub call-run : {W : ℕ} {lists counts firsts b : List ℕ} → Passed v x work W → Clear → Tables x lists counts
@@ -107,7 +107,7 @@ module _ (v x work : List ℕ) where
         → Run v x frames n lists counts firsts b
     call-run p c o t l = record {
       ready = record { accepted = p .images; lists-of = o .listed; counts-of = o .counted; firsts-of = t };
-      roomy = record { some = c .some; few = c .few; room = omega (arith, l) };
+      roomy = record { one = c .one; few = c .few; room = omega (arith, l) };
       heard = c .heard;
     }
 

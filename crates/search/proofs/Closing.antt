@@ -32,10 +32,10 @@ use Rattle.checking.proofs.Reached.{count-within-words}
 use Rattle.ranking.specs.Hits.{Hit}
 use Rattle.passing.specs.Best.{shift}
 use Rattle.passing.specs.Tokens.{bestTokens, lastState, finalScore, carried, ending}
-use Rattle.search.specs.Slots.{slots, offered, Room, Falling, Offer}
+use Rattle.search.specs.Slots.{slots, offered, PlaceRoom, Falling, Offer}
 use Rattle.search.specs.Held.{raised, held, Storable, upOf, downOf}
 use Rattle.search.specs.Places.{firstPlace}
-use Rattle.search.specs.Stored.{Ready, Roomy, Place}
+use Rattle.search.specs.Stored.{VertexTable, StoreRoom, Place}
 use Rattle.search.specs.Running.{Arcs, LastArc, Ending, Ended}
 use Rattle.search.proofs.Lending.{copied, length-copied}
 use Rattle.search.proofs.Held.{Moves}
@@ -112,7 +112,7 @@ module _ {x lists counts : List ℕ} (a : Arcs x lists counts) {w : ℕ} (h : w 
 
 -- ---- a node's last state
 
-module _ {v x : List ℕ} {n : ℕ} {lists counts firsts : List ℕ} (r : Ready v x n lists counts firsts) where
+module _ {v x : List ℕ} {n : ℕ} {lists counts firsts : List ℕ} (r : VertexTable v x n lists counts firsts) where
   pub images : AcceptedImages v x
   images = accepted (r .accepted)
 
@@ -133,14 +133,14 @@ pub record EndPlace (v x : List ℕ) (n : ℕ) (firsts : List ℕ) (w : ℕ) (b 
   pub node-there : 1 + w < length x
   pub letter-there : 2 + 2 * getD x (1 + w) 0 < length v
   pub letter-small : getD x (1 + w) 0 < 64
-  pub some : 1 ≤ getD v (2 + 2 * getD x (1 + w) 0) 0
+  pub one : 1 ≤ getD v (2 + 2 * getD x (1 + w) 0) 0
   pub few : getD v (2 + 2 * getD x (1 + w) 0) 0 ≤ 4
   pub slot-small : getD firsts w 0 + n * lastAt v x w ≤ 8000
-  pub room : Room n (getD firsts w 0 + n * lastAt v x w) b
+  pub room : PlaceRoom n (getD firsts w 0 + n * lastAt v x w) b
   pub place : Place v (graphOf x) w (lastState v (graphOf x) w)
   pub slot : slots n (getD firsts w 0 + n * lastAt v x w) b ≡ slots n (n * (firstPlace v (graphOf x) w + lastState v (graphOf x) w)) b
 
-module _ {v x : List ℕ} {n : ℕ} {lists counts firsts : List ℕ} {w : ℕ} {b : List ℕ} (r : Ready v x n lists counts firsts) (m : Roomy v x n b)
+module _ {v x : List ℕ} {n : ℕ} {lists counts firsts : List ℕ} {w : ℕ} {b : List ℕ} (r : VertexTable v x n lists counts firsts) (m : StoreRoom v x n b)
     (low : 1 ≤ w) (high : w ≤ nodeCount x) where
   known : nodeLetter x w < letterCount v
   known = letter-known (letterCount v) x (images r .lexicon) w low high
@@ -159,7 +159,7 @@ module _ {v x : List ℕ} {n : ℕ} {lists counts firsts : List ℕ} {w : ℕ} {
         node-there = omega (arith, nodes-there (arcs-of r .listed .well-formed));
         letter-there = states-there v (images r .voice) known;
         letter-small = omega (arith, known, letters-few v (images r .voice));
-        some = s .0;
+        one = s .0;
         few = s .1;
         slot-small = rw slot-is (slot-small v x (r .accepted) m (omega (arith, place-there v x p)));
         room = rw slot-is (place-room v x m p);
@@ -249,7 +249,7 @@ module _ {v x : List ℕ} {n : ℕ} {lists counts firsts : List ℕ} {w : ℕ} {
       end-offer =
           rw (level-up, level-down d) at
           (offer-ready n (pos 0) d last-tokens end-moves {k = 0} {from = tokens} {b = list} {s = e .s}
-          (record { some = e .roomy .some; few = e .roomy .few; room = omega (arith, e .long, e .roomy .few) })
+          (record { one = e .roomy .one; few = e .roomy .few; room = omega (arith, e .long, e .roomy .few) })
           (rw (c, length-copied n (getD firsts w 0 + n * lastAt v x w) b (e .roomy .few)) (e .roomy .few))
           copied-tokens (e .holds) (e .storable))
 

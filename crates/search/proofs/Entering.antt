@@ -10,7 +10,7 @@ use native.Mathlib.Nat.{add-zero}
 use borrow.Author.Tests.{lt-ltb, le-ltb, ne-eqb}
 use lib.Dec.{ltb, eqb}
 use lib.ListN.{length}
-use Rattle.search.specs.Slots.{tokenAt, slots, Put, codePart, sameCode, position, push, enter}
+use Rattle.search.specs.Slots.{tokenAt, slots, SlotPut, codePart, sameCode, position, push, enter}
 use Rattle.search.proofs.Slots.{length-slots, slots-cut, slots-step, slots-snoc, slots-none, put-apart}
 
 -- ---- the search: what is before k is passed
@@ -52,7 +52,7 @@ position-within x (y ∷ l) = go (ltb y x) (sameCode y x) refl refl (position-wi
 abbrev pub stops : ℕ → ℕ → Bool
 stops c y = eqb y 0 || eqb (codePart y) c
 
-module _ (b : List ℕ) (n k token c : ℕ) (b′ : List ℕ) (p : Put b k token b′) (h : k < n) where
+module _ (b : List ℕ) (n k token c : ℕ) (b′ : List ℕ) (p : SlotPut b k token b′) (h : k < n) where
   front : slots k 0 b′ ≡ slots k 0 b
   front = put-apart p k 0 (inr (omega arith))
 

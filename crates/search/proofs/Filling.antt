@@ -23,7 +23,7 @@ use Rattle.voice.proofs.Scores.{letters-few, emission-there}
 use Rattle.lexicon.specs.Lexicon.{nodeCount, nodeLetter}
 use Rattle.decoder.specs.Score.{possible}
 use Rattle.search.specs.Held.{raised}
-use Rattle.search.specs.Gains.{raisedOf, raisedGain, letterPairs, pairScore, loopRaised, stepRaised, loopGain, stepGain, LettersMarked, Letters, Among, InUse, Begins, LetterEntries, ScoreRow, ScoreRows, letterAt, Scored, GainRow, Gained, MoveGains, EntryGains, Hearing, AtLetter, StatePut, FirstPut}
+use Rattle.search.specs.Gains.{raisedOf, raisedGain, letterPairs, pairScore, loopRaised, stepRaised, loopGain, stepGain, LettersMarked, Letters, Among, InUse, FirstStates, LetterEntries, ScoreRow, ScoreRows, letterAt, Scored, GainRow, Gained, MoveGains, EntryGains, KnownSymbol, AtLetter, StatePut, FirstPut}
 use Rattle.search.proofs.Gaining.{raised-below, gain-both, letter-few, state-there, loop-score, step-score}
 use Rattle.search.proofs.Carrying.{emission-range}
 
@@ -120,7 +120,7 @@ begins-next {v} {begins} {letter} {first} h e b =
     at l k (yes d) = rw d (getD-set-same begins letter first 0 (omega (arith, b .long)) ∙ e)
     at l k (no d) = getD-set-other begins letter l first 0 d ∙ b .begin l (omega (arith, d))
 
-pub begins-done : {v begins : List ℕ} {letter : ℕ} → letterCount v ≤ letter → Beginning v letter begins → Begins v begins
+pub begins-done : {v begins : List ℕ} {letter : ℕ} → letterCount v ≤ letter → Beginning v letter begins → FirstStates v begins
 begins-done h b = record { long = b .long; begin = λ l k. b .begin l (omega arith) }
 
 -- ---- the row of one letter
@@ -250,7 +250,7 @@ row-scored {v} {row} {l} a e f d = record {
 pub row-letter : {v row : List ℕ} → voiceVerdict v ≡ wellFormed → ScoreRow v row → AtLetter v (getD row 8 0) (getD row 9 0)
 row-letter w r = record { well-formed = w; letter = r .letter; begins = r .first }
 
-pub begins-at : {v letters begins : List ℕ} {n i : ℕ} → voiceVerdict v ≡ wellFormed → Letters v letters n → Begins v begins → i < n
+pub begins-at : {v letters begins : List ℕ} {n i : ℕ} → voiceVerdict v ≡ wellFormed → Letters v letters n → FirstStates v begins → i < n
     → AtLetter v (getD letters i 0) (getD begins (getD letters i 0) 0)
 begins-at {v} {letters} {begins} {i = i} w t b h =
     record { well-formed = w; letter = t .known i h; begins = b .begin (getD letters i 0) (t .known i h) }
@@ -288,7 +288,7 @@ module _ {v : List ℕ} {l : ℕ} {scores : List ℕ} (e : LetterEntries v (loop
   }
     where
       some : 1 ≤ states v l
-      some = states-range v (a .well-formed) (a .letter) .0
+      one = states-range v (a .well-formed) (a .letter) .0
 
       at : (r : ℕ) → r < 1 → Dec (r ≡ 0) → getD row r 0 ≡ loopGain v k l r
       at r h (yes z) = rw z (d .loop ∙ loop-gain k {s = 0} some (rw (a .begins) at q))
@@ -306,7 +306,7 @@ module _ {v : List ℕ} {l : ℕ} {scores : List ℕ} (e : LetterEntries v (loop
 
 -- ---- where an emission stands
 
-module _ {v : List ℕ} {k : ℕ} (h : Hearing v k) where
+module _ {v : List ℕ} {k : ℕ} (h : KnownSymbol v k) where
   pub heard-is : (n : ℕ) {place heard : ℕ} → place ≡ symbolsAt v + 1 + 2 * (n * symbolCount v + k) → heard ≡ raisedOf (possible (i16 v place))
       → heard ≡ raisedOf (possible (emission v n k))
   unfolding emission

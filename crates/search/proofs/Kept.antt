@@ -11,7 +11,7 @@ use Rattle.passing.specs.Best.{rowOf, best, byCode, shift}
 use Rattle.passing.proofs.Order.{hits-strict}
 use Rattle.passing.proofs.Best.{best-from, best-ranked, best-right}
 use Rattle.passing.proofs.Shifting.{best-shift}
-use Rattle.search.specs.Slots.{slots, offered, shifted, Room, Falling, Offer}
+use Rattle.search.specs.Slots.{slots, offered, shifted, PlaceRoom, Falling, Offer}
 use Rattle.search.specs.Held.{held, upOf, downOf}
 use Rattle.search.proofs.Held.{AllStorable, Moves, shifted-held, offered-held, held-movable, held-falling}
 
@@ -34,7 +34,7 @@ module _ (n : ℕ) (a : ℤ) (d : ℕ) (l : List Hit) (m : Moves a d (best byCod
       ∙ ap (λ k. held n (best byCode n (s ++ k))) (sym (best-shift n a d l))
       ∙ ap (held n) (best-right hits-strict n s (map (shift a d) l))
 
-  pub offer-ready : {k : ℕ} {from b : List ℕ} {s : List Hit} → Room n k b → n ≤ length from → take n from ≡ held n (best byCode n l)
+  pub offer-ready : {k : ℕ} {from b : List ℕ} {s : List Hit} → PlaceRoom n k b → n ≤ length from → take n from ≡ held n (best byCode n l)
       → slots n k b ≡ held n (best byCode n s) → AllStorable s → Offer n k (upOf a) (downOf d) from b
   offer-ready {s} room long e f t = record {
     room = room;

@@ -8,7 +8,7 @@ use native.Mathlib.Omega.{arith}
 use lib.ListN.{length, getD, take, drop, replicate, length-append, length-replicate, length-take, length-drop, replicate-append-replicate, List·getD-append}
 use lib.Seq.{getD-take, getD-drop, getD-append-add, length-take-le, take-at, take-all, drop-append-seam}
 use borrow.Rule.Slice.PartMut.{putMid}
-use Rattle.search.specs.Slots.{tokenAt, slots, Changed, enter, offered, Room, Bears, Falling, Offer}
+use Rattle.search.specs.Slots.{tokenAt, slots, Changed, enter, offered, PlaceRoom, MoveFits, Falling, Offer}
 use Rattle.search.proofs.Slots.{u32-ext, slots-ext, length-slots, slots-cut, slots-step, slots-get}
 use Rattle.search.proofs.Falling.{falling-enter, falling-drop, falling-none}
 use Rattle.search.proofs.Moving.{from-holds, offered-ends, offered-goes, offered-done, offered-late}
@@ -64,8 +64,8 @@ part-slots b k n size e = slots-ext n 0 k (take size (drop (8 * k) b)) b (λ i l
         let p : 8 * k + (8 * (0 + i) + m) ≡ 8 * (k + i) + m = omega arith in
         getD-take size (drop (8 * k) b) (8 * (0 + i) + m) 0 (omega arith) ∙ getD-drop (8 * k) b (8 * (0 + i) + m) 0 ∙ rw p
 
-pub part-room : {n k : ℕ} {b : List ℕ} → Room n k b → (size : ℕ) → size ≡ 8 * n → Room n 0 (take size (drop (8 * k) b))
-part-room r size e = record { some = r .some; few = r .few; room = simp (length-take, length-drop) (omega (arith, r .room)) }
+pub part-room : {n k : ℕ} {b : List ℕ} → PlaceRoom n k b → (size : ℕ) → size ≡ 8 * n → PlaceRoom n 0 (take size (drop (8 * k) b))
+part-room r size e = record { one = r .one; few = r .few; room = simp (length-take, length-drop) (omega (arith, r .room)) }
 
 pub part-offer : {n k up down : ℕ} {from b : List ℕ} → Offer n k up down from b → (size : ℕ) → size ≡ 8 * n
     → Offer n 0 up down from (take size (drop (8 * k) b))
@@ -160,7 +160,7 @@ module _ {n f k up down : ℕ} {b₀ : List ℕ} (below : f + n ≤ k) (o : Offe
       pub from-none : token ≡ 0 → Changed k n (offered up down (slots n f b₀) (slots n k b₀)) b₀ b
       from-none z = from-ends (offered-ends up down n i _ (slots n k b) h (o .long) (sym old ∙ z))
 
-      pub from-bears : ¬ (token ≡ 0) → Bears up down token
+      pub from-bears : ¬ (token ≡ 0) → MoveFits up down token
       from-bears z = rw old (o .bears _ (from-holds n i _ h (o .long)) (λ e. z (old ∙ e)))
 
       pub from-late : token + up - down < tokenAt b (k + n - 1) → Changed k n (offered up down (slots n f b₀) (slots n k b₀)) b₀ b

@@ -9,7 +9,7 @@ use borrow.Author.Tests.{eq-eqb, ne-eqb}
 use lib.ListN.{length, getD, take, drop, length-take, drop-of-length-le}
 use lib.Seq.{drop-cons, getD-take}
 use Rattle.endian.proofs.Lists.{mem-getD}
-use Rattle.search.specs.Slots.{tokenAt, slots, Put, enter, offered, shifted, Falling}
+use Rattle.search.specs.Slots.{tokenAt, slots, SlotPut, enter, offered, shifted, Falling}
 use Rattle.search.proofs.Slots.{length-slots, slots-cut, slots-step, slots-snoc, slots-none, slots-get, put-apart}
 use Rattle.search.proofs.Falling.{falling-drop, early-exit}
 
@@ -27,7 +27,7 @@ module _ (up down n k : ℕ) (b : List ℕ) (h : k < n) where
   shifted-ends z =
       slots-cut n k b (omega arith) ∙ ap (λ l. slots k 0 b ++ l) (sym (rw (slots-step n k b h, eq-eqb (tokenAt b k) 0 z)))
 
-  pub shifted-goes : {b′ : List ℕ} → Put b k (tokenAt b k + up - down) b′ → ¬ (tokenAt b k ≡ 0)
+  pub shifted-goes : {b′ : List ℕ} → SlotPut b k (tokenAt b k + up - down) b′ → ¬ (tokenAt b k ≡ 0)
       → slots (k + 1) 0 b′ ++ shifted up down (slots (n - (k + 1)) (k + 1) b′) ≡ slots k 0 b ++ shifted up down (slots (n - k) k b)
   unfolding shifted
   shifted-goes {b′} p z =

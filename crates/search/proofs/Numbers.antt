@@ -13,7 +13,7 @@ use Rattle.endian.proofs.Integers.{up, down, ints, sum, size}
 use Rattle.ranking.specs.Hits.{Hit, _≻_, higher, tied, outranks}
 use Rattle.ranking.proofs.Hits.{outranks-is}
 use Rattle.passing.specs.Best.{shift}
-use Rattle.search.specs.Slots.{codePart, sameCode, Bears}
+use Rattle.search.specs.Slots.{codePart, sameCode, MoveFits}
 use Rattle.search.specs.Held.{raised, biased, tokenOf, Storable, upOf, downOf}
 
 raised-is : (k : ℕ) (z : ℤ) → natAbs z ≤ k → raised k z + down z ≡ k + up z
@@ -96,7 +96,7 @@ module _ (a : ℤ) (d : ℕ) (small : natAbs a ≤ 65536) (h : Hit) (p : Storabl
   pub token-moved : tokenOf h + upOf a - downOf d ≡ tokenOf (shift a d h)
   token-moved = omega (arith, moved-sum)
 
-  pub token-bears : Bears (upOf a) (downOf d) (tokenOf h)
+  pub token-bears : MoveFits (upOf a) (downOf d) (tokenOf h)
   unfolding tokenOf upOf
   token-bears = record {
     fits = omega (arith, biased-is h p, size (h .score), p .score, raised-is 65536 a small, size a);

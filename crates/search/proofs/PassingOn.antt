@@ -32,7 +32,7 @@ use Rattle.search.specs.Slots.{Changed}
 use Rattle.search.specs.Held.{held, pad, downOf}
 use Rattle.search.specs.Gains.{raisedOf, raisedGain, gainOf, entryRaised}
 use Rattle.search.specs.Places.{firstPlace, firstSlot}
-use Rattle.search.specs.Stored.{Ready, Bound, Place, Stored, source, PassingOn, PassedOn, passedOn}
+use Rattle.search.specs.Stored.{VertexTable, Bound, Place, Stored, source, PassingOn, PassedOn, passedOn}
 use Rattle.search.specs.Carrying.{Worth, Offering, joined, Arc, overOne}
 use Rattle.search.proofs.Numbers.{token-some}
 use Rattle.search.proofs.Lending.{changed-apart}
@@ -42,7 +42,7 @@ use Rattle.search.proofs.Carrying.{emission-range, worth-by, passed-lon
 
 -- ---- what is accepted
 
-module _ {v x : List ℕ} {n : ℕ} {lists counts firsts : List ℕ} (r : Ready v x n lists counts firsts) where
+module _ {v x : List ℕ} {n : ℕ} {lists counts firsts : List ℕ} (r : VertexTable v x n lists counts firsts) where
   images : AcceptedImages v x
   images = accepted (r .accepted)
 
@@ -226,7 +226,7 @@ module _ {x : List ℕ} {n : ℕ} {lists counts firsts : List ℕ} {gains : List
 
   -- a node's first slot is inside
   pub source-room : root ≡ false → 8 * from + 8 ≤ length b₀
-  source-room z = let r = t .inside z in omega (arith, r .room, r .some)
+  source-room z = let r = t .inside z in omega (arith, r .room, r .one)
 
   abbrev formed : WellFormed x
   formed = lexicon-formed (t .ready)
@@ -264,7 +264,7 @@ module _ {x : List ℕ} {n : ℕ} {lists counts firsts : List ℕ} {gains : List
       l = t .l;
       Q = L .Q;
       ready = t .ready;
-      roomy = record { some = t .roomy .some; few = t .roomy .few; room = rw (L .long) (t .roomy .room) };
+      roomy = record { one = t .roomy .one; few = t .roomy .few; room = rw (L .long) (t .roomy .room) };
       vertex = t .vertex;
       entry-gains = t .entry-gains;
       moved = t .moved;
@@ -272,7 +272,7 @@ module _ {x : List ℕ} {n : ℕ} {lists counts firsts : List ℕ} {gains : List
       small = t .small;
       link-is = t .link-is;
       given = L .source-kept ∙ t .given;
-      inside = λ z. let r = t .inside z in record { some = r .some; few = r .few; room = rw (L .long) (r .room) };
+      inside = λ z. let r = t .inside z in record { one = r .one; few = r .few; room = rw (L .long) (r .room) };
       apart = t .apart;
       best = t .best;
       bound = t .bound;
@@ -358,7 +358,7 @@ module _ {x : List ℕ} {n : ℕ} {lists counts firsts : List ℕ} {gains : List
   }
     where
       e : t .l ≡ []
-      e = no-tokens n (t .l) (t .roomy .some) (t .given) (λ y i. t .bound i) z
+      e = no-tokens n (t .l) (t .roomy .one) (t .given) (λ y i. t .bound i) z
 
       nothing : {u s : ℕ} → Place (t .v) (graphOf x) u s
           → passOn (t .v) (graphOf x) n (t .k) (λ u. t .score) w (t .l) (successors x w) (t .Q) u s ≡ t .Q u s

@@ -25,7 +25,7 @@ use Rattle.passing.specs.InPlace.{put, renewDown}
 use Rattle.passing.proofs.Order.{hits-strict}
 use Rattle.passing.proofs.Best.{best-from, best-best, best-left}
 use Rattle.passing.proofs.InPlace.{put-state}
-use Rattle.search.specs.Slots.{slots, offered, Room, Offer, Changed}
+use Rattle.search.specs.Slots.{slots, offered, PlaceRoom, Offer, Changed}
 use Rattle.search.specs.Held.{held, downOf}
 use Rattle.search.specs.Gains.{loopGain, stepGain}
 use Rattle.search.specs.Carrying.{Worth, Staying, Offering, stayed, joined, Own, Renewing, renewedOne, renewedAll}
@@ -109,8 +109,8 @@ module _ {n s : ℕ} {row b : List ℕ} (t : Renewing n (suc s) row b) where
   pub slot-few : n * s ≤ 32
   slot-few = mul-le-mul {n₂ = 8} {m₂ = 4} (t .eight) (omega (arith, t .few, state-few))
 
-  room-at : {r : ℕ} {b′ : List ℕ} → r < suc s → length b′ ≡ length b → Room n (n * r) b′
-  room-at h e = record { some = t .some; few = t .eight; room = omega (arith, block n (inside h), t .room) }
+  room-at : {r : ℕ} {b′ : List ℕ} → r < suc s → length b′ ≡ length b → PlaceRoom n (n * r) b′
+  room-at h e = record { one = t .one; few = t .eight; room = omega (arith, block n (inside h), t .room) }
 
   loop-worth : Worth (getD row s 0) (loopMove (t .v) g (t .P) (t .k) (t .node) s)
   unfolding loopMove loopGain heard stateOf loopScore
@@ -245,7 +245,7 @@ module _ {n states₀ : ℕ} {row b₀ : List ℕ} (t : Renewing n states₀ row
       accepted = t .accepted;
       low = t .low;
       high = t .high;
-      some = t .some;
+      one = t .one;
       eight = t .eight;
       room = rw (L .long) (t .room);
       all = t .all;

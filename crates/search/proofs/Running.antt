@@ -33,16 +33,16 @@ use Rattle.passing.proofs.InPlace.{first-frame, next-frame}
 use Rattle.passing.proofs.Bounds.{token-bounded}
 use Rattle.search.specs.Slots.{slots}
 use Rattle.search.specs.Held.{raised}
-use Rattle.search.specs.Gains.{raisedOf, MoveGains, EntryGains, Hearing}
-use Rattle.search.specs.Stored.{Roomy, Bound, Stored, Within, source, PassingOn, passedOn, PassedOn, Turn, turned, TurnDone}
+use Rattle.search.specs.Gains.{raisedOf, MoveGains, EntryGains, KnownSymbol}
+use Rattle.search.specs.Stored.{StoreRoom, Bound, Stored, Within, source, PassingOn, passedOn, PassedOn, Turn, turned, TurnDone}
 use Rattle.search.specs.Running.{Empty, Run, StoredAt}
 use Rattle.search.proofs.Held.{held-none}
 use Rattle.search.proofs.Storing.{stored-ext}
 
 -- ---- stores
 
-pub roomy-same : {v x : List ℕ} {n : ℕ} {b b′ : List ℕ} → length b′ ≡ length b → Roomy v x n b → Roomy v x n b′
-roomy-same e r = record { some = r .some; few = r .few; room = rw e (r .room) }
+pub roomy-same : {v x : List ℕ} {n : ℕ} {b b′ : List ℕ} → length b′ ≡ length b → StoreRoom v x n b → StoreRoom v x n b′
+roomy-same e r = record { one = r .one; few = r .few; room = rw e (r .room) }
 
 pub empty-slots : (n k : ℕ) (b : List ℕ) → Empty b → slots n k b ≡ replicate n 0
 unfolding slots
@@ -77,7 +77,7 @@ module _ {v x frames : List ℕ} {n : ℕ} {lists counts firsts b : List ℕ} (r
   pub sound-run : Sound (graphOf x)
   sound-run = sound (letterCount v) x (accepted (r .ready .accepted) .lexicon)
 
-  pub hearing : (i : ℕ) → i < length frames → Hearing v (getD frames i 0)
+  pub hearing : (i : ℕ) → i < length frames → KnownSymbol v (getD frames i 0)
   hearing i l = record { well-formed = accepted (r .ready .accepted) .voice; known = symbol-known v frames (r .heard) i l }
 
   -- ---- the first frame
@@ -112,7 +112,7 @@ module _ {v x frames : List ℕ} {n : ℕ} {lists counts firsts b : List ℕ} (r
       given = refl;
       inside = λ z. absurd (true≢false z);
       apart = λ z. absurd (true≢false z);
-      best = one-best n (r .roomy .some);
+      best = one-best n (r .roomy .one);
       bound = root-bound;
       fits = omega arith;
       stored = record { holds = λ p. empty-slots n _ b e ∙ held-none n; kept = λ p. none-best n };

@@ -20,10 +20,10 @@ use Rattle.passing.specs.Best.{shift}
 use Rattle.passing.specs.Tokens.{Store, bestTokens, carried, heard}
 use Rattle.passing.specs.InPlace.{put, passOn}
 use Rattle.passing.proofs.InPlace.{put-here, put-node, put-state}
-use Rattle.search.specs.Slots.{slots, Room, Changed}
+use Rattle.search.specs.Slots.{slots, PlaceRoom, Changed}
 use Rattle.search.specs.Held.{held, Storable}
 use Rattle.search.specs.Places.{firstPlace}
-use Rattle.search.specs.Stored.{Roomy, Bound, Place, Stored}
+use Rattle.search.specs.Stored.{StoreRoom, Bound, Place, Stored}
 use Rattle.search.specs.Carrying.{Movers}
 use Rattle.search.proofs.Lending.{changed-apart}
 use Rattle.search.proofs.Numbering.{place-below, place-once}
@@ -114,10 +114,10 @@ module _ (v x : List ℕ) where
   unfolding sink
   place-there p = place-below v (graphOf x) (p .low) (omega (arith, p .high)) (p .state)
 
-  pub place-room : {n : ℕ} {b : List ℕ} {u s : ℕ} → Roomy v x n b → Place v (graphOf x) u s → Room n (n * (firstPlace v (graphOf x) u + s)) b
-  place-room {n} r p = record { some = r .some; few = r .few; room = omega (arith, r .room, block n (place-there p)) }
+  pub place-room : {n : ℕ} {b : List ℕ} {u s : ℕ} → StoreRoom v x n b → Place v (graphOf x) u s → PlaceRoom n (n * (firstPlace v (graphOf x) u + s)) b
+  place-room {n} r p = record { one = r .one; few = r .few; room = omega (arith, r .room, block n (place-there p)) }
 
-  pub slot-small : {n : ℕ} {b : List ℕ} {a : ℕ} → Accepted v x → Roomy v x n b → a ≤ placeCount v (graphOf x) → n * a ≤ 8000
+  pub slot-small : {n : ℕ} {b : List ℕ} {a : ℕ} → Accepted v x → StoreRoom v x n b → a ≤ placeCount v (graphOf x) → n * a ≤ 8000
   slot-small {n} {b} {a} i r h = mul-le-mul {n₂ = 8} {m₂ = 1000} (r .few) (omega (arith, places-few i))
 
 -- ---- bounds

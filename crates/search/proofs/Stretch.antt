@@ -103,7 +103,7 @@ module _ {n first s : ℕ} {row b : List ℕ} (t : Renewal n first s row b) wher
       accepted = t .accepted;
       low = t .low;
       high = t .high;
-      some = t .roomy .some;
+      one = t .roomy .one;
       eight = t .roomy .few;
       room = simp (length-take, length-drop) (omega (arith, stretch-there));
       all = omega (arith, t .all);

@@ -173,7 +173,7 @@ module _ {v x : List ℕ} {n : ℕ} {lists counts firsts : List ℕ} {gains : Li
       P = passedOn passing-on;
       node = w;
       accepted = t .ready .accepted;
-      roomy = record { some = t .roomy .some; few = t .roomy .few; room = rw (H .long) (t .roomy .room) };
+      roomy = record { one = t .roomy .one; few = t .roomy .few; room = rw (H .long) (t .roomy .room) };
       low = t .low;
       high = t .high;
       all = refl;

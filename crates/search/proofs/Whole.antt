@@ -15,7 +15,7 @@ use Rattle.decoder.specs.Decoding.{row, hits}
 use Rattle.passing.specs.Tokens.{bestTokens, downFrom, tokens, ending, arrived, decoded}
 use Rattle.passing.proofs.Bounds.{token-bounded}
 use Rattle.passing.proofs.Decoded.{decoded-hits}
-use Rattle.search.specs.Slots.{tokenAt, slots, Room, Falling}
+use Rattle.search.specs.Slots.{tokenAt, slots, PlaceRoom, Falling}
 use Rattle.search.specs.Held.{held, Storable}
 use Rattle.search.specs.Stored.{Bound, Place}
 use Rattle.search.specs.Running.{Empty, Run, StoredAt, Ending, Ended}
@@ -103,9 +103,9 @@ module _ {v x frames : List ℕ} {n : ℕ} {lists counts firsts b : List ℕ} (r
   decoded-so [] l = absurd (omega arith)
   decoded-so (k ∷ frames) l = let e : suc (length frames) - 1 ≡ length frames = omega arith in rw e
 
-  pub list-ready : {m : ℕ} {list : List ℕ} → EndsLeft v x frames n m list → Room n 0 list × Falling (slots n 0 list)
+  pub list-ready : {m : ℕ} {list : List ℕ} → EndsLeft v x frames n m list → PlaceRoom n 0 list × Falling (slots n 0 list)
   list-ready d = (
-    record { some = r .roomy .some; few = r .roomy .few; room = omega (arith, d .long, r .roomy .few) },
+    record { one = r .roomy .one; few = r .roomy .few; room = omega (arith, d .long, r .roomy .few) },
     rw (d .holds) (best-falling n (d .s) (d .storable)),
   )
 

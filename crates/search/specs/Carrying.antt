@@ -12,22 +12,22 @@ use Rattle.lexicon.specs.Lexicon.{nodeCount, nodeLetter, successors}
 use Rattle.graph.specs.Graph.{graphOf, increment}
 use Rattle.graph.specs.Checking.{Accepted}
 use Rattle.ranking.specs.Hits.{Hit}
+use Rattle.decoder.specs.Score.{frameLimit, reach, numberOf}
 use Rattle.passing.specs.Best.{shift}
 use Rattle.passing.specs.Tokens.{Store, bestTokens, carried, overArc, renewed}
 use Rattle.passing.specs.InPlace.{put, renewDown}
-use Rattle.search.specs.Slots.{slots, Room}
+use Rattle.search.specs.Slots.{slots, PlaceRoom}
 use Rattle.search.specs.Held.{held, downOf, Storable}
 use Rattle.search.specs.Places.{firstSlot}
-use Rattle.search.specs.Gains.{gainOf, MoveRow}
-use Rattle.search.specs.Stored.{Roomy, Bound, Stored, PassingOn}
+use Rattle.search.specs.Gains.{MoveRow}
+use Rattle.search.specs.Stored.{StoreRoom, Bound, Stored, PassingOn}
 
 -- ---- one place
 
 -- a move of that score, by its gain
 pub record Worth (gain : ℕ) (score : Option ℤ) : Type 0 where
-  pub gain-is : gain ≡ gainOf score
-  pub none-is : gain ≡ 0 → score ≡ none
-  pub small : {a : ℤ} → score ≡ some a → natAbs a ≤ 65536
+  pub gain-is : gain ≡ numberOf score
+  pub small : {a : ℤ} → score ≡ some a → natAbs a ≤ frameLimit
 
 -- candidates that are the n best of their own, before and after a move of that score and increment
 pub record Movers (n : ℕ) (score : Option ℤ) (d : ℕ) (l : List Hit) : Type 0 where
@@ -40,7 +40,7 @@ pub record Staying (n slot gain : ℕ) (b : List ℕ) : Type 0 where
   pub score : Option ℤ
   pub l : List Hit
   pub worth : Worth gain score
-  pub room : Room n slot b
+  pub room : PlaceRoom n slot b
   pub holds : slots n slot b ≡ held n l
   pub movers : Movers n score 0 l
 
@@ -52,7 +52,7 @@ pub record Offering (n slot gain down : ℕ) (from b : List ℕ) : Type 0 where
   pub s : List Hit
   pub worth : Worth gain score
   pub down-is : down ≡ downOf d
-  pub room : Room n slot b
+  pub room : PlaceRoom n slot b
   pub long : n ≤ length from
   pub given : take n from ≡ held n l
   pub movers : Movers n score d l
@@ -68,17 +68,15 @@ joined {n} t = bestTokens n (t .s ++ carried (t .score) (t .d) (t .l))
 
 -- ---- one arc: from vertex w to u, where the store is as far as the arcs before it left it
 
-pub record Arc (x : List ℕ) (n nodes : ℕ) (firsts : List ℕ) (gains : List (List ℕ)) (link : ℕ) (root : Bool) (from u down : ℕ) (b : List ℕ) : Type 0 where
+pub record Arc (x : List ℕ) (n : ℕ) (vertices gains : List (List ℕ)) (link : ℕ) (root : Bool) (from u down : ℕ) (b : List ℕ)
+    : Type 0 where
   pub w : ℕ
-  pub lists : List ℕ
-  pub counts : List ℕ
-  pub passing-on : PassingOn x n lists counts firsts gains link w root from b
-  pub nodes-is : nodes ≡ nodeCount x
+  pub passing-on : PassingOn x n vertices gains link w root from b
   pub arc : List·Memᴰ u (successors x w)
   pub down-is : down ≡ downOf (increment (graphOf x) w u)
 
-unfoldable pub overOne : {x : List ℕ} {n nodes : ℕ} {firsts : List ℕ} {gains : List (List ℕ)} {link : ℕ} {root : Bool} {from u down : ℕ} {b : List ℕ}
-    → Arc x n nodes firsts gains link root from u down b → Store
+unfoldable pub overOne : {x : List ℕ} {n : ℕ} {vertices gains : List (List ℕ)} {link : ℕ} {root : Bool} {from u down : ℕ}
+    {b : List ℕ} → Arc x n vertices gains link root from u down b → Store
 overOne {x} {n} {u = u} t =
     let h = t .passing-on in
     put (h .Q) u 0 (bestTokens n (h .Q u 0 ++ overArc (h .v) (graphOf x) (h .k) (h .score) (t .w) u (h .l)))
@@ -102,7 +100,7 @@ pub record Renewing (n s : ℕ) (row part : List ℕ) : Type 0 where
   pub accepted : Accepted v x
   pub low : 1 ≤ node
   pub high : node ≤ nodeCount x
-  pub some : 1 ≤ n
+  pub one : 1 ≤ n
   pub eight : n ≤ 8
   pub room : 8 * (n * S) ≤ length part
   pub all : S ≤ states v (nodeLetter x node)
@@ -110,7 +108,7 @@ pub record Renewing (n s : ℕ) (row part : List ℕ) : Type 0 where
   pub moves : MoveRow v k (nodeLetter x node) row
   pub stored : Own n S (P node) part
   pub bound : {r : ℕ} {h : Hit} → r < s → List·Memᴰ h (P node r) → Bound (graphOf x) M node h
-  pub fits : M + 65536 ≤ 67108864
+  pub fits : M + frameLimit ≤ reach
 
 -- the store after state s - 1, and after all below s
 unfoldable pub renewedOne : {n s : ℕ} {row part : List ℕ} → Renewing n (suc s) row part → Store
@@ -128,7 +126,7 @@ pub record Renewal (n first s : ℕ) (row b : List ℕ) : Type 0 where
   pub P : Store
   pub node : ℕ
   pub accepted : Accepted v x
-  pub roomy : Roomy v x n b
+  pub roomy : StoreRoom v x n b
   pub low : 1 ≤ node
   pub high : node ≤ nodeCount x
   pub all : s ≡ states v (nodeLetter x node)
@@ -136,7 +134,7 @@ pub record Renewal (n first s : ℕ) (row b : List ℕ) : Type 0 where
   pub moves : MoveRow v k (nodeLetter x node) row
   pub stored : Stored v (graphOf x) n P b
   pub bound : {r : ℕ} {h : Hit} → r < s → List·Memᴰ h (P node r) → Bound (graphOf x) M node h
-  pub fits : M + 65536 ≤ 67108864
+  pub fits : M + frameLimit ≤ reach
 
 unfoldable pub renewal : {n first s : ℕ} {row b : List ℕ} → Renewal n first s row b → Store
 renewal {n} {s = s} t = renewDown (t .v) (graphOf (t .x)) n (t .k) (t .node) s (t .P)

@@ -1,10 +1,9 @@
--- Gains: what a move and the emission that follows it add to a token, as one number without a sign; and the tables of a call and of a frame
--- that hold them for the letters in use, those that some node has. No public contract cites this. Assumes nothing.
-use Prim.Native.Nat.{ℕ, zero, suc, _+_, _*_, _≤_, _<_}
+-- Gains: what a move and the emission that follows it add to a token, as the number of a score; and the tables of a call
+-- and of a frame that hold them for the letters in use, those that some node has. No public contract cites this. Assumes nothing.
+use Prim.Native.Nat.{ℕ, zero, suc, _+_, _-_, _≤_, _<_}
 use mathlib.Core.Path.{_≡_}
 use mathlib.Core.Bool.{Bool, true, false, cond}
 use mathlib.Core.List.{List, [], _∷_}
-use mathlib.Core.Option.{Option, none, some}
 use lib.IntN.{ℤ, pos}
 use lib.Signed.{mag}
 use lib.ListN.{length, getD}
@@ -12,24 +11,18 @@ use lib.Dec.{ltb}
 use Rattle.voice.specs.Fields.{wellFormed}
 use Rattle.voice.specs.Voice.{letterCount, states, firstState, loopScore, stepScore, symbolCount, impossible, emission, voiceVerdict}
 use Rattle.lexicon.specs.Lexicon.{nodeCount, nodeLetter}
-use Rattle.decoder.specs.Score.{possible, plus}
-use Rattle.search.specs.Held.{raised}
+use Rattle.decoder.specs.Score.{bias, numberOf, possible, plus}
 
--- 0 where it is impossible, else the stored score plus 2^15, which is never 0
-unfoldable pub raisedOf : Option ℤ → ℕ
-raisedOf none = 0
-raisedOf (some z) = raised 32768 z
+-- a number that is 0, or a stored score's: that plus the bias
+pub record NearBias (a : ℕ) : Type 0 where
+  pub low : 0 < a → bias ≤ a + 32768
+  pub high : a ≤ bias + 32768
 
--- 0 where it is impossible, else the sum of the two stored scores plus 2^16, which is never 0
-unfoldable pub gainOf : Option ℤ → ℕ
-gainOf none = 0
-gainOf (some z) = raised 65536 z
-
--- the gain of a move and an emission, both raised
-unfoldable pub raisedGain : ℕ → ℕ → ℕ
-raisedGain zero b = 0
-raisedGain (suc a) zero = 0
-raisedGain (suc a) (suc b) = suc a + suc b
+-- the number of the sum of two scores, by their numbers
+unfoldable pub numberSum : ℕ → ℕ → ℕ
+numberSum zero b = 0
+numberSum (suc a) zero = 0
+numberSum (suc a) (suc b) = suc a + suc b - bias
 
 -- ---- one letter's scores as four pairs of loop and step
 
@@ -41,9 +34,9 @@ pairOf v s there = cond there (loopScore v s ∷ stepScore v s ∷ []) (impossib
 unfoldable pub letterPairs : List ℕ → ℕ → ℕ → List (List ℤ)
 letterPairs v s n = pairOf v s (ltb 0 n) ∷ pairOf v (s + 1) (ltb 1 n) ∷ pairOf v (s + 2) (ltb 2 n) ∷ pairOf v (s + 3) (ltb 3 n) ∷ []
 
--- of the letter's state s, the raised loop (0) or step (1)
+-- the number of the letter's loop (0) or step (1) of state s
 unfoldable pub pairScore : List (List ℤ) → ℕ → ℕ → ℕ
-pairScore pairs s which = raisedOf (possible (getD (getD pairs s []) which (pos 0)))
+pairScore pairs s which = numberOf (possible (getD (getD pairs s []) which (pos 0)))
 
 -- pairs of stored scores: each is within 16 bits
 abbrev pub StoredPairs : List (List ℤ) → Type 0
@@ -51,25 +44,25 @@ StoredPairs pairs = (s which : ℕ) → mag (getD (getD pairs s []) which (pos 0
 
 -- ---- once a call
 
--- the raised loop of a letter's state s, and the raised step from state s into the next
-unfoldable pub loopRaised : List ℕ → ℕ → ℕ → ℕ
-loopRaised v l s = raisedOf (possible (loopScore v (firstState v l + s)))
+-- the number of the loop of a letter's state s, and of the step from state s into the next
+unfoldable pub loopNumber : List ℕ → ℕ → ℕ → ℕ
+loopNumber v l s = numberOf (possible (loopScore v (firstState v l + s)))
 
-unfoldable pub stepRaised : List ℕ → ℕ → ℕ → ℕ
-stepRaised v l s = raisedOf (possible (stepScore v (firstState v l + s)))
+unfoldable pub stepNumber : List ℕ → ℕ → ℕ → ℕ
+stepNumber v l s = numberOf (possible (stepScore v (firstState v l + s)))
 
 -- ---- at a frame of symbol k
 
--- the loop of a letter's state s, and the step from state s into the next
+-- the gain of the loop of a letter's state s, and of the step from state s into the next
 unfoldable pub loopGain : List ℕ → ℕ → ℕ → ℕ → ℕ
-loopGain v k l s = gainOf (plus (possible (loopScore v (firstState v l + s))) (possible (emission v (firstState v l + s) k)))
+loopGain v k l s = numberOf (plus (possible (loopScore v (firstState v l + s))) (possible (emission v (firstState v l + s) k)))
 
 unfoldable pub stepGain : List ℕ → ℕ → ℕ → ℕ → ℕ
-stepGain v k l s = gainOf (plus (possible (stepScore v (firstState v l + s))) (possible (emission v (firstState v l + suc s) k)))
+stepGain v k l s = numberOf (plus (possible (stepScore v (firstState v l + s))) (possible (emission v (firstState v l + suc s) k)))
 
--- the emission of a letter's first state, raised: what is added to the score of the arc that enters it
-unfoldable pub entryRaised : List ℕ → ℕ → ℕ → ℕ
-entryRaised v k l = raisedOf (possible (emission v (firstState v l + 0) k))
+-- the number of the emission of a letter's first state, to which the score of the arc is added that enters it
+unfoldable pub entryNumber : List ℕ → ℕ → ℕ → ℕ
+entryNumber v k l = numberOf (possible (emission v (firstState v l + 0) k))
 
 -- ---- the letters in use
 
@@ -78,76 +71,53 @@ pub record LettersMarked (x : List ℕ) (m : ℕ) (marks : List Bool) : Type 0 w
   pub long : length marks ≡ 64
   pub marked : (u : ℕ) → 1 ≤ u → u ≤ m → getD marks (nodeLetter x u) false ≡ true
 
--- letters of the model, the first n of a list
-pub record Letters (v letters : List ℕ) (n : ℕ) : Type 0 where
-  pub long : length letters ≡ 64
-  pub few : n ≤ 64
-  pub known : (i : ℕ) → i < n → getD letters i 0 < letterCount v
-
--- letter l is one of them
-pub record Among (letters : List ℕ) (n l : ℕ) : Type 0 where
-  pub at : ℕ
-  pub inside : at < n
-  pub same : getD letters at 0 ≡ l
-
--- each letter that some node has is one of them
-pub record InUse (v x letters : List ℕ) (n : ℕ) : Type 0 where
-  pub letters-of : Letters v letters n
-  pub all : (u : ℕ) → 1 ≤ u → u ≤ nodeCount x → Among letters n (nodeLetter x u)
-
--- ---- tables: a row a letter; entry s for the loop of state s, entry 4 + s for the step into it, and in a frame's row entry 4 for the raised emission of the first
-
--- the number of each letter's first state
-pub record Begins (v begins : List ℕ) : Type 0 where
-  pub long : length begins ≡ 64
-  pub begin : (l : ℕ) → l < letterCount v → getD begins l 0 ≡ firstState v l
+-- ---- tables: a row a letter; column s for the loop of state s, column 4 + s for the step into it, and in a frame's row
+-- column 4 for the emission of the first
 
 -- the entries of one letter: of each state's loop, and of the step into each state after the first
 pub record LetterEntries (v : List ℕ) (loop step : ℕ → ℕ → ℕ) (l : ℕ) (row : List ℕ) : Type 0 where
   pub loop-at : (s : ℕ) → s < states v l → getD row s 0 ≡ loop l s
   pub step-at : (s : ℕ) → suc s < states v l → getD row (4 + suc s) 0 ≡ step l s
 
--- what is read once a call of one letter in use: its raised scores, in entry 8 its index, and in entry 9 the number of its first state
-pub record ScoreRow (v row : List ℕ) : Type 0 where
-  pub letter : getD row 8 0 < letterCount v
-  pub first : getD row 9 0 ≡ firstState v (getD row 8 0)
-  pub scores : LetterEntries v (loopRaised v) (stepRaised v) (getD row 8 0) row
+-- the letter of a row of a call's table: column 8
+abbrev pub letterIn : List ℕ → ℕ
+letterIn row = getD row 8 0
+
+-- what is read once a call of one letter in use: the numbers of its scores, and in column 9 that of its first state
+pub record LetterRow (v row : List ℕ) : Type 0 where
+  pub letter : letterIn row < letterCount v
+  pub first : getD row 9 0 ≡ firstState v (letterIn row)
+  pub scores : LetterEntries v (loopNumber v) (stepNumber v) (letterIn row) row
 
 -- the letter of row i
 abbrev pub letterAt : List (List ℕ) → ℕ → ℕ
-letterAt scores i = getD (getD scores i []) 8 0
-
--- rows of the first n of some letters
-pub record ScoreRows (v letters : List ℕ) (n : ℕ) (scores : List (List ℕ)) : Type 0 where
-  pub long : length scores ≡ 64
-  pub row : (i : ℕ) → i < n → ScoreRow v (getD scores i [])
-  pub same : (i : ℕ) → i < n → letterAt scores i ≡ getD letters i 0
+letterAt letters i = letterIn (getD letters i [])
 
 -- letter l has one of the first n rows
-pub record HasRow (scores : List (List ℕ)) (n l : ℕ) : Type 0 where
+pub record HasRow (letters : List (List ℕ)) (n l : ℕ) : Type 0 where
   pub at : ℕ
   pub inside : at < n
-  pub same : letterAt scores at ≡ l
+  pub same : letterAt letters at ≡ l
 
 -- the table of a call has n rows
-pub record ScoreTable (v : List ℕ) (n : ℕ) (scores : List (List ℕ)) : Type 0 where
+pub record LetterTable (v : List ℕ) (n : ℕ) (letters : List (List ℕ)) : Type 0 where
   pub few : n ≤ 64
-  pub row : (i : ℕ) → i < n → ScoreRow v (getD scores i [])
+  pub row : (i : ℕ) → i < n → LetterRow v (getD letters i [])
 
 -- among them one for each letter that some node has
-pub record Scored (v x : List ℕ) (n : ℕ) (scores : List (List ℕ)) : Type 0 where
-  pub table : ScoreTable v n scores
-  pub all : (u : ℕ) → 1 ≤ u → u ≤ nodeCount x → HasRow scores n (nodeLetter x u)
+pub record NodeLetters (v x : List ℕ) (n : ℕ) (letters : List (List ℕ)) : Type 0 where
+  pub table : LetterTable v n letters
+  pub all : (u : ℕ) → 1 ≤ u → u ≤ nodeCount x → HasRow letters n (nodeLetter x u)
 
--- the gains of one letter at a frame of symbol k, and the raised emission of its first state
+-- the gains of one letter at a frame of symbol k, and the emission of its first state
 pub record GainRow (v : List ℕ) (k l : ℕ) (row : List ℕ) : Type 0 where
   pub moves : LetterEntries v (loopGain v k) (stepGain v k) l row
-  pub entry : getD row 4 0 ≡ entryRaised v k l
+  pub entry : getD row 4 0 ≡ entryNumber v k l
 
--- the table of a frame: row l is that of letter l, for the letters of the first n rows of scores
-pub record Gained (v : List ℕ) (k : ℕ) (scores : List (List ℕ)) (n : ℕ) (gains : List (List ℕ)) : Type 0 where
+-- the table of a frame: row l is that of letter l, for the letters of the first n rows of a call's table
+pub record Gained (v : List ℕ) (k : ℕ) (letters : List (List ℕ)) (n : ℕ) (gains : List (List ℕ)) : Type 0 where
   pub long : length gains ≡ 64
-  pub row : (i : ℕ) → i < n → GainRow v k (letterAt scores i) (getD gains (letterAt scores i) [])
+  pub row : (i : ℕ) → i < n → GainRow v k (letterAt letters i) (getD gains (letterAt letters i) [])
 
 -- of the moves inside one letter
 abbrev pub MoveRow : List ℕ → ℕ → ℕ → List ℕ → Type 0
@@ -159,7 +129,7 @@ MoveGains v x k gains = (u : ℕ) → 1 ≤ u → u ≤ nodeCount x → MoveRow 
 
 pub record EntryGains (v x : List ℕ) (k : ℕ) (gains : List (List ℕ)) : Type 0 where
   pub long : length gains ≡ 64
-  pub entry : (u : ℕ) → 1 ≤ u → u ≤ nodeCount x → getD (getD gains (nodeLetter x u) []) 4 0 ≡ entryRaised v k (nodeLetter x u)
+  pub entry : (u : ℕ) → 1 ≤ u → u ≤ nodeCount x → getD (getD gains (nodeLetter x u) []) 4 0 ≡ entryNumber v k (nodeLetter x u)
 
 -- ---- what calls ask
 
@@ -177,7 +147,7 @@ pub record FirstPut (a b : ℕ) (row : List ℕ) : Type 0 where
   pub entry : getD row 4 0 ≡ b
 
 -- a symbol of a well-formed voice model
-pub record Hearing (v : List ℕ) (k : ℕ) : Type 0 where
+pub record KnownSymbol (v : List ℕ) (k : ℕ) : Type 0 where
   pub well-formed : voiceVerdict v ≡ wellFormed
   pub known : k < symbolCount v
 

@@ -1,11 +1,15 @@
--- The numbers of the places: those of a node's states follow each other, after those of the nodes below it (document 01, State paths and hits:
--- each node's tokens fill one stretch of the work space). That no two places have the same number is proved in proofs/Numbering.antt.
--- Assumes nothing.
-use Prim.Native.Nat.{ℕ, zero, suc, _*_}
-use mathlib.Core.List.{List, map}
+-- The numbers of the places: those of a node's states follow each other, after those of the nodes below it (document 01,
+-- State paths and hits: each node's tokens fill one stretch of the work space). That no two places have the same number is
+-- proved in proofs/Numbering.antt. And the columns of the table of vertices. Assumes nothing.
+use Prim.Native.Nat.{ℕ, zero, suc, _*_, _≤_}
+use mathlib.Core.Path.{_≡_}
+use mathlib.Core.List.{List, [], map}
+use lib.ListN.{getD}
 use Rattle.endian.specs.Lists.{from, sum}
 use Rattle.voice.specs.Voice.{states}
-use Rattle.graph.specs.Graph.{Graph}
+use Rattle.lexicon.specs.Lexicon.{nodeCount, sinkOf}
+use Rattle.graph.specs.Graph.{Graph, graphOf}
+use Rattle.graph.specs.Conditions.{placeCount}
 
 -- the number of node u's first place: the number of states of all nodes below it, so that node 1 begins at 0
 unfoldable pub firstPlace : List ℕ → Graph → ℕ → ℕ
@@ -15,3 +19,26 @@ firstPlace v g (suc m) = sum (map (λ n. states v (g .letter n)) (from 1 m))
 -- and of its first slot, where each place has n
 abbrev pub firstSlot : List ℕ → Graph → ℕ → ℕ → ℕ
 firstSlot v g n u = n * firstPlace v g u
+
+-- ---- the table of vertices: where vertex u's list begins, its path count, and its first slot
+
+abbrev pub arcsIn : List (List ℕ) → ℕ → ℕ
+arcsIn t u = getD (getD t u []) 0 0
+
+abbrev pub pathsIn : List (List ℕ) → ℕ → ℕ
+pathsIn t u = getD (getD t u []) 1 0
+
+abbrev pub firstIn : List (List ℕ) → ℕ → ℕ
+firstIn t u = getD (getD t u []) 2 0
+
+-- the first slot of the sink, which has no place
+abbrev pub noPlace : ℕ
+noPlace = 4294967295
+
+-- the first slots are put into the table t, and nothing else; r is the number of all slots
+pub record SlotsPut (v x : List ℕ) (n : ℕ) (t t′ : List (List ℕ)) (r : ℕ) : Type 0 where
+  pub first : {u : ℕ} → 1 ≤ u → u ≤ nodeCount x → firstIn t′ u ≡ firstSlot v (graphOf x) n u
+  pub sink : firstIn t′ (sinkOf x) ≡ noPlace
+  pub arcs : (u : ℕ) → arcsIn t′ u ≡ arcsIn t u
+  pub paths : (u : ℕ) → pathsIn t′ u ≡ pathsIn t u
+  pub total : r ≡ n * placeCount v (graphOf x)

@@ -1,41 +1,59 @@
 -- What the functions over all frames ask and leave: frame by frame, and at the end node by node. No public contract cites this.
 -- Assumes nothing.
-use Prim.Native.Nat.{ℕ, suc, _≤_}
+use Prim.Native.Nat.{ℕ, _≤_}
 use mathlib.Core.Path.{_≡_}
 use mathlib.Core.Bool.{true, false}
 use mathlib.Core.List.{List, _++_, List·Memᴰ}
-use lib.ListN.{length}
+use lib.ListN.{length, getD}
 use Rattle.endian.specs.Lists.{has}
-use Rattle.lexicon.specs.Lexicon.{nodeCount, sinkOf}
+use Rattle.voice.specs.Voice.{linkScore, symbolsAt}
+use Rattle.lexicon.specs.Lexicon.{nodeCount, sinkOf, arcsAt}
 use Rattle.graph.specs.Graph.{Graph, graphOf, sink, pathCount, increment}
-use Rattle.checking.specs.Tables.{TableOf, Listed}
+use Rattle.checking.specs.Tables.{WellFormed}
 use Rattle.ranking.specs.Hits.{Hit}
+use Rattle.decoder.specs.Score.{reach, numberOf, possible}
 use Rattle.decoder.specs.Decoding.{AcceptedFrames}
 use Rattle.passing.specs.Tokens.{Store, bestTokens, tokens, ending}
 use Rattle.search.specs.Slots.{tokenAt, slots}
 use Rattle.search.specs.Held.{held, Storable}
-use Rattle.search.specs.Stored.{Ready, Roomy, Bound, Place, Stored}
+use Rattle.search.specs.declared.frames.Numbers.{Numbers}
+use Rattle.search.specs.Gains.{NodeLetters, Gained}
+use Rattle.search.specs.Places.{arcsIn, pathsIn}
+use Rattle.search.specs.Stored.{VertexTable, StoreRoom, Bound, Place, Stored}
 
 -- no slot holds a token
 abbrev pub Empty : List ℕ → Type 0
 Empty b = (j : ℕ) → tokenAt b j ≡ 0
 
--- accepted images and frames, the tables, and a store with room
-pub record Run (v x frames : List ℕ) (n : ℕ) (lists counts firsts b : List ℕ) : Type 0 where
-  pub ready : Ready v x n lists counts firsts
-  pub roomy : Roomy v x n b
-  pub heard : AcceptedFrames v frames
+-- accepted images and frames, the table of vertices, and a store with room
+pub record Run (v x frames : List ℕ) (n : ℕ) (vertices : List (List ℕ)) (b : List ℕ) : Type 0 where
+  pub ready : VertexTable v x n vertices
+  pub roomy : StoreRoom v x n b
+  pub accepted : AcceptedFrames v frames
 
 -- every place holds its tokens of frame t
 abbrev pub StoredAt : List ℕ → List ℕ → List ℕ → ℕ → ℕ → List ℕ → Type 0
 StoredAt v x frames n t b = Stored v (graphOf x) n (tokens v (graphOf x) frames n t) b
 
+-- the numbers of a call, and its table of letters
+pub record CallNumbers (v x : List ℕ) (c : Numbers) (letters : List (List ℕ)) : Type 0 where
+  pub nodes : c .nodes ≡ nodeCount x
+  pub symbols : c .symbols ≡ symbolsAt v
+  pub link : c .link .0 ≡ numberOf (possible (linkScore v 0))
+  pub letters-of : NodeLetters v x (c .used) letters
+
+-- after frame t: what the places hold, and the table of gains
+pub record FrameHeld (v x frames : List ℕ) (t : ℕ) (c : Numbers) (letters gains : List (List ℕ)) (b : List ℕ) : Type 0 where
+  pub stored : StoredAt v x frames (c .n) t b
+  pub gained : Gained v (getD frames t 0) letters (c .used) gains
+
 -- ---- the end
 
--- a well-formed lexicon with the tables of its lists and path counts, of which none is above the most words
-pub record Arcs (x lists counts : List ℕ) : Type 0 where
-  pub listed : Listed x lists
-  pub counted : TableOf (suc (sinkOf x)) (pathCount (graphOf x)) counts
+-- a well-formed lexicon with where its lists begin and its path counts, of which none is above the most words
+pub record Arcs (x : List ℕ) (vertices : List (List ℕ)) : Type 0 where
+  pub well-formed : WellFormed x
+  pub begin : {u : ℕ} → u ≤ nodeCount x → arcsIn vertices u ≡ arcsAt x u
+  pub paths : {u : ℕ} → u ≤ sinkOf x → pathsIn vertices u ≡ pathCount (graphOf x) u
   pub few : {u : ℕ} → u ≤ nodeCount x → pathCount (graphOf x) u ≤ 1048576
 
 -- the increment of the arc from w to the sink, or w's path count where there is none: no increment is as great
@@ -44,20 +62,20 @@ pub record LastArc (g : Graph) (w r : ℕ) : Type 0 where
   pub none : has (sink g) (g .successors w) ≡ false → r ≡ pathCount g w
 
 -- the tokens of node w's last state are candidates for a list that holds the n best of s
-pub record Ending (v x : List ℕ) (n : ℕ) (lists counts firsts : List ℕ) (w : ℕ) (b list : List ℕ) : Type 0 where
+pub record Ending (v x : List ℕ) (n : ℕ) (vertices : List (List ℕ)) (w : ℕ) (b list : List ℕ) : Type 0 where
   pub P : Store
   pub s : List Hit
-  pub ready : Ready v x n lists counts firsts
-  pub roomy : Roomy v x n b
+  pub ready : VertexTable v x n vertices
+  pub roomy : StoreRoom v x n b
   pub low : 1 ≤ w
   pub high : w ≤ nodeCount x
   pub stored : Stored v (graphOf x) n P b
-  pub bound : {u r : ℕ} {h : Hit} → Place v (graphOf x) u r → List·Memᴰ h (P u r) → Bound (graphOf x) 67108864 u h
+  pub bound : {u r : ℕ} {h : Hit} → Place v (graphOf x) u r → List·Memᴰ h (P u r) → Bound (graphOf x) reach u h
   pub holds : slots n 0 list ≡ held n (bestTokens n s)
   pub storable : (h : Hit) → List·Memᴰ h s → Storable h
   pub long : length list ≡ 64
 
 -- the list after it
-pub record Ended {v x : List ℕ} {n : ℕ} {lists counts firsts : List ℕ} {w : ℕ} {b list : List ℕ} (e : Ending v x n lists counts firsts w b list)
+pub record Ended {v x : List ℕ} {n : ℕ} {vertices : List (List ℕ)} {w : ℕ} {b list : List ℕ} (e : Ending v x n vertices w b list)
     (list′ : List ℕ) : Type 0 where
   pub holds : slots n 0 list′ ≡ held n (bestTokens n (e .s ++ ending v (graphOf x) (e .P) w))

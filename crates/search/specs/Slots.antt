@@ -21,7 +21,7 @@ slots zero k b = []
 slots (suc n) k b = tokenAt b k ∷ slots n (k + 1) b
 
 -- b′ has the token in slot k, and is as b in every other
-pub record Put (b : List ℕ) (k token : ℕ) (b′ : List ℕ) : Type 0 where
+pub record SlotPut (b : List ℕ) (k token : ℕ) (b′ : List ℕ) : Type 0 where
   pub here : tokenAt b′ k ≡ token
   pub others : (j : ℕ) → ¬ (j ≡ k) → tokenAt b′ j ≡ tokenAt b j
   pub long : length b′ ≡ length b
@@ -70,18 +70,18 @@ shifted up down (y ∷ l) = cond (eqb y 0) (y ∷ l) ((y + up - down) ∷ shifte
 -- ---- what calls ask
 
 -- a place of 1 to 8 slots, from slot k on
-pub record Room (n k : ℕ) (b : List ℕ) : Type 0 where
-  pub some : 0 < n
+pub record PlaceRoom (n k : ℕ) (b : List ℕ) : Type 0 where
+  pub one : 0 < n
   pub few : n ≤ 8
   pub room : 8 * k + 8 * n ≤ length b
 
 -- the move keeps a number within 64 bits
-pub record Bears (up down y : ℕ) : Type 0 where
+pub record MoveFits (up down y : ℕ) : Type 0 where
   pub fits : y + up < 2 ^ 64
   pub covers : down ≤ y + up
 
 abbrev pub Movable : ℕ → ℕ → List ℕ → Type 0
-Movable up down l = (y : ℕ) → List·Memᴰ y l → ¬ (y ≡ 0) → Bears up down y
+Movable up down l = (y : ℕ) → List·Memᴰ y l → ¬ (y ≡ 0) → MoveFits up down y
 
 -- no token outranks one before it
 pub data Falling : List ℕ → Type 0 where
@@ -90,7 +90,7 @@ pub data Falling : List ℕ → Type 0 where
 
 -- both places are in the order of rank: that of the tokens offered, and that from slot k on
 pub record Offer (n k up down : ℕ) (from b : List ℕ) : Type 0 where
-  pub room : Room n k b
+  pub room : PlaceRoom n k b
   pub long : n ≤ length from
   pub bears : Movable up down (take n from)
   pub source : Falling (take n from)

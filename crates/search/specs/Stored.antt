@@ -13,26 +13,26 @@ use Rattle.lexicon.specs.Lexicon.{nodeCount, sinkOf, arcsAt, successors}
 use Rattle.graph.specs.Graph.{Graph, graphOf, sink, pathCount, wordCount}
 use Rattle.graph.specs.Conditions.{placeCount}
 use Rattle.graph.specs.Checking.{Accepted}
-use Rattle.checking.specs.Tables.{TableOf}
 use Rattle.ranking.specs.Hits.{Hit, hit}
-use Rattle.decoder.specs.Score.{possible}
+use Rattle.decoder.specs.Score.{frameLimit, reach, numberOf, possible}
 use Rattle.passing.specs.Tokens.{Store, bestTokens}
 use Rattle.passing.specs.InPlace.{passOn, passNode}
-use Rattle.search.specs.Slots.{slots, Room}
+use Rattle.search.specs.Slots.{slots, PlaceRoom}
 use Rattle.search.specs.Held.{held}
-use Rattle.search.specs.Places.{firstPlace, firstSlot}
-use Rattle.search.specs.Gains.{raisedOf, MoveGains, EntryGains}
+use Rattle.search.specs.Places.{firstPlace, firstSlot, arcsIn, pathsIn, firstIn, noPlace}
+use Rattle.search.specs.Gains.{MoveGains, EntryGains}
 
--- accepted images, and the tables of their vertices; the first slots are those of n tokens a place
-pub record Ready (v x : List ℕ) (n : ℕ) (lists counts firsts : List ℕ) : Type 0 where
+-- accepted images, and the table of their vertices; the first slots are those of n tokens a place
+pub record VertexTable (v x : List ℕ) (n : ℕ) (vertices : List (List ℕ)) : Type 0 where
   pub accepted : Accepted v x
-  pub lists-of : TableOf (sinkOf x) (arcsAt x) lists
-  pub counts-of : TableOf (suc (sinkOf x)) (pathCount (graphOf x)) counts
-  pub firsts-of : TableOf (sinkOf x) (firstSlot v (graphOf x) n) firsts
+  pub arcs : {u : ℕ} → u ≤ nodeCount x → arcsIn vertices u ≡ arcsAt x u
+  pub paths : {u : ℕ} → u ≤ sinkOf x → pathsIn vertices u ≡ pathCount (graphOf x) u
+  pub first : {u : ℕ} → 1 ≤ u → u ≤ nodeCount x → firstIn vertices u ≡ firstSlot v (graphOf x) n u
+  pub sink : firstIn vertices (sinkOf x) ≡ noPlace
 
 -- n tokens a place, 1 to 8, and room for every place
-pub record Roomy (v x : List ℕ) (n : ℕ) (b : List ℕ) : Type 0 where
-  pub some : 1 ≤ n
+pub record StoreRoom (v x : List ℕ) (n : ℕ) (b : List ℕ) : Type 0 where
+  pub one : 1 ≤ n
   pub few : n ≤ 8
   pub room : 8 * (n * placeCount v (graphOf x)) ≤ length b
 
@@ -55,7 +55,7 @@ pub record Stored (v : List ℕ) (g : Graph) (n : ℕ) (P : Store) (b : List ℕ
 -- nodes up to m hold tokens of the frame before, within M; those above m hold tokens of this frame, within one move more
 pub record Within (v : List ℕ) (g : Graph) (m M : ℕ) (P : Store) : Type 0 where
   pub old : {u s : ℕ} {h : Hit} → Place v g u s → u ≤ m → List·Memᴰ h (P u s) → Bound g M u h
-  pub new : {u s : ℕ} {h : Hit} → Place v g u s → m < u → List·Memᴰ h (P u s) → Bound g (M + 65536) u h
+  pub new : {u s : ℕ} {h : Hit} → Place v g u s → m < u → List·Memᴰ h (P u s) → Bound g (M + frameLimit) u h
 
 -- ---- the tokens of a vertex are passed on along its arcs
 
@@ -65,67 +65,67 @@ source true n k b = held n (hit (pos 0) 0 ∷ [])
 source false n k b = slots n k b
 
 -- vertex w, root or node, passes on the tokens l over arcs of one score, at a frame of symbol k
-pub record PassingOn (x : List ℕ) (n : ℕ) (lists counts firsts : List ℕ) (gains : List (List ℕ)) (link w : ℕ) (root : Bool) (from : ℕ) (b : List ℕ) : Type 0 where
+pub record PassingOn (x : List ℕ) (n : ℕ) (vertices gains : List (List ℕ)) (link w : ℕ) (root : Bool) (from : ℕ) (b : List ℕ) : Type 0 where
   pub v : List ℕ
   pub k : ℕ
   pub M : ℕ
   pub score : Option ℤ
   pub l : List Hit
   pub Q : Store
-  pub ready : Ready v x n lists counts firsts
-  pub roomy : Roomy v x n b
+  pub ready : VertexTable v x n vertices
+  pub roomy : StoreRoom v x n b
   pub vertex : w ≤ nodeCount x
   pub entry-gains : EntryGains v x k gains
   -- the score is a stored one
   pub moved : ℤ
   pub score-is : score ≡ possible moved
   pub small : mag moved < 32768
-  pub link-is : link ≡ raisedOf (possible moved)
+  pub link-is : link ≡ numberOf (possible moved)
   pub given : source root n from b ≡ held n l
   -- a node's slots are in the store, and the places of later nodes are apart from them
-  pub inside : root ≡ false → Room n from b
+  pub inside : root ≡ false → PlaceRoom n from b
   pub apart : {u : ℕ} → root ≡ false → w < u → u ≤ nodeCount x → from + n ≤ firstSlot v (graphOf x) n u
   pub best : bestTokens n l ≡ l
   pub bound : {h : Hit} → List·Memᴰ h l → Bound (graphOf x) M w h
-  pub fits : M + 65536 ≤ 67108864
+  pub fits : M + frameLimit ≤ reach
   pub stored : Stored v (graphOf x) n Q b
-  pub above : {u s : ℕ} {h : Hit} → Place v (graphOf x) u s → w < u → List·Memᴰ h (Q u s) → Bound (graphOf x) (M + 65536) u h
+  pub above : {u s : ℕ} {h : Hit} → Place v (graphOf x) u s → w < u → List·Memᴰ h (Q u s) → Bound (graphOf x) (M + frameLimit) u h
 
 -- the store after it
-unfoldable pub passedOn : {x : List ℕ} {n : ℕ} {lists counts firsts : List ℕ} {gains : List (List ℕ)} {link w : ℕ} {root : Bool} {from : ℕ} {b : List ℕ}
-    → PassingOn x n lists counts firsts gains link w root from b → Store
+unfoldable pub passedOn : {x : List ℕ} {n : ℕ} {vertices gains : List (List ℕ)} {link w : ℕ} {root : Bool} {from : ℕ} {b : List ℕ}
+    → PassingOn x n vertices gains link w root from b → Store
 passedOn {x} {n} {w = w} t = passOn (t .v) (graphOf x) n (t .k) (λ u. t .score) w (t .l) (successors x w) (t .Q)
 
-pub record PassedOn {x : List ℕ} {n : ℕ} {lists counts firsts : List ℕ} {gains : List (List ℕ)} {link w : ℕ} {root : Bool} {from : ℕ} {b : List ℕ}
-    (t : PassingOn x n lists counts firsts gains link w root from b) (b′ : List ℕ) : Type 0 where
+pub record PassedOn {x : List ℕ} {n : ℕ} {vertices gains : List (List ℕ)} {link w : ℕ} {root : Bool} {from : ℕ} {b : List ℕ}
+    (t : PassingOn x n vertices gains link w root from b) (b′ : List ℕ) : Type 0 where
   pub stored : Stored (t .v) (graphOf x) n (passedOn t) b′
-  pub above : {u s : ℕ} {h : Hit} → Place (t .v) (graphOf x) u s → w < u → List·Memᴰ h (passedOn t u s) → Bound (graphOf x) (t .M + 65536) u h
+  pub above : {u s : ℕ} {h : Hit} → Place (t .v) (graphOf x) u s → w < u → List·Memᴰ h (passedOn t u s) → Bound (graphOf x) (t .M + frameLimit) u h
   pub long : length b′ ≡ length b
 
 -- ---- a node's turn
 
-pub record Turn (v x : List ℕ) (n : ℕ) (lists counts firsts : List ℕ) (gains : List (List ℕ)) (link w : ℕ) (b : List ℕ) : Type 0 where
+pub record Turn (v x : List ℕ) (n : ℕ) (vertices gains : List (List ℕ)) (link w : ℕ) (b : List ℕ) : Type 0 where
   pub k : ℕ
   pub M : ℕ
   pub P : Store
-  pub ready : Ready v x n lists counts firsts
-  pub roomy : Roomy v x n b
+  pub ready : VertexTable v x n vertices
+  pub roomy : StoreRoom v x n b
   pub low : 1 ≤ w
   pub high : w ≤ nodeCount x
   pub moves : MoveGains v x k gains
   pub links : EntryGains v x k gains
-  pub link-is : link ≡ raisedOf (possible (linkScore v 0))
+  pub link-is : link ≡ numberOf (possible (linkScore v 0))
   pub stored : Stored v (graphOf x) n P b
   pub within : Within v (graphOf x) w M P
-  pub fits : M + 65536 ≤ 67108864
+  pub fits : M + frameLimit ≤ reach
 
 -- the store after it
-unfoldable pub turned : {v x : List ℕ} {n : ℕ} {lists counts firsts : List ℕ} {gains : List (List ℕ)} {link w : ℕ} {b : List ℕ}
-    → Turn v x n lists counts firsts gains link w b → Store
+unfoldable pub turned : {v x : List ℕ} {n : ℕ} {vertices gains : List (List ℕ)} {link w : ℕ} {b : List ℕ}
+    → Turn v x n vertices gains link w b → Store
 turned {v} {x} {n} {w = w} t = passNode v (graphOf x) n (t .k) w (t .P)
 
-pub record TurnDone {v x : List ℕ} {n : ℕ} {lists counts firsts : List ℕ} {gains : List (List ℕ)} {link w : ℕ} {b : List ℕ}
-    (t : Turn v x n lists counts firsts gains link w b) (b′ : List ℕ) : Type 0 where
+pub record TurnDone {v x : List ℕ} {n : ℕ} {vertices gains : List (List ℕ)} {link w : ℕ} {b : List ℕ}
+    (t : Turn v x n vertices gains link w b) (b′ : List ℕ) : Type 0 where
   pub stored : Stored v (graphOf x) n (turned t) b′
   pub within : Within v (graphOf x) (w - 1) (t .M) (turned t)
   pub long : length b′ ≡ length b

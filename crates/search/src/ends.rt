@@ -1,4 +1,5 @@
-// After the last frame: the tokens of the last states from which an arc leads to the sink are candidates for the list of hits.
+// After the last frame: the tokens of the last states from which an arc leads to the sink are candidates for the list of
+// hits.
 ghost use mathlib.Core.Path.{_≡_};
 ghost use Prim.Native.Nat.{_≤_};
 ghost use Rattle.lexicon.specs.Lexicon.{nodeCount};
@@ -7,20 +8,22 @@ ghost use Rattle.decoder.specs.Decoding.{hits};
 ghost use Rattle.search.specs.Held.{held};
 ghost use Rattle.search.specs.Running.{Arcs, LastArc, Ending, Ended, Run, Empty};
 use crate::frames::all_frames;
-use crate::parts::copy_at;
 use crate::store::copy_place;
 use crate::store::offer;
 use crate::tokens::LIFT;
+use checking::ARCS_AT;
+use checking::FIRST_SLOT;
+use checking::PATHS;
 use endian::u16_at;
 
-// The increment of the arc to the sink: the path counts of the successors stored before it. Without such an arc it is the sum of all, the node's
-// own path count, which no increment reaches.
-fn last_increment(lexicon: &[u8], lists: &[u16; 402], counts: &[u32; 402], node: usize) -> u32
-    requires { ⌜ Arcs (now lexicon) (now lists) (now counts) × (node ≤ nodeCount (now lexicon)) ⌝ }
+// The increment of the arc to the sink: the path counts of the successors stored before it. Without such an arc it is the
+// sum of all, the node's own path count, which no increment reaches.
+fn last_increment(lexicon: &[u8], vertices: &[[u32; 3]; 402], node: usize) -> u32
+    requires { ⌜ Arcs (now lexicon) (now vertices) × (node ≤ nodeCount (now lexicon)) ⌝ }
     ensures { λ r. ⌜ LastArc (graphOf (now (lexicon .entry))) node r ⌝ }
 {
     let sink = u16_at(lexicon, 0) as usize + 1;
-    let start = lists[node] as usize;
+    let start = vertices[node][ARCS_AT] as usize;
     let stop = start + 2 + 2 * (u16_at(lexicon, start) as usize);
     let mut at = start + 2;
     let mut increment = 0;
@@ -29,7 +32,7 @@ fn last_increment(lexicon: &[u8], lists: &[u16; 402], counts: &[u32; 402], node:
         if next == sink {
             return increment;
         }
-        increment += counts[next];
+        increment += vertices[next][PATHS];
         at += 2;
     }
     increment
@@ -40,26 +43,23 @@ fn offer_end(
     voice: &[u8],
     lexicon: &[u8],
     n: usize,
-    lists: &[u16; 402],
-    counts: &[u32; 402],
-    firsts: &[u16; 402],
+    vertices: &[[u32; 3]; 402],
     node: usize,
     store: &[u8],
     list: &mut [u8],
 )
-    requires { ⌜ Ending (now voice) (now lexicon) n (now lists) (now counts) (now firsts) node (now store) (now list) ⌝ }
-    ensures { λ _. ⌜ ((e : Ending (now (voice .entry)) (now (lexicon .entry)) n (now (lists .entry)) (now (counts .entry)) (now (firsts .entry)) node (now (store .entry)) (now (list .entry))) → Ended e (now (list .exit))) ⌝ }
+    requires { ⌜ Ending (now voice) (now lexicon) n (now vertices) node (now store) (now list) ⌝ }
+    ensures { λ _. ⌜ ((e : Ending (now (voice .entry)) (now (lexicon .entry)) n (now (vertices .entry)) node (now (store .entry)) (now (list .entry))) → Ended e (now (list .exit))) ⌝ }
 {
-    let increment = last_increment(lexicon, lists, counts, node);
-    if increment == counts[node] {
+    let increment = last_increment(lexicon, vertices, node);
+    if increment == vertices[node][PATHS] {
         return;
     }
     let letter = lexicon[1 + node] as usize;
-    let last = voice[2 + 2 * letter] as usize - 1;
-    let mut tokens = [0; 8];
-    copy_at(store, n, firsts[node] as usize + n * last, &mut tokens);
+    let states = voice[2 + 2 * letter] as usize;
+    let last = vertices[node][FIRST_SLOT] as usize + n * (states - 1);
     // the move to the sink scores 0
-    offer(list, n, &tokens, LIFT, LIFT + increment as u64);
+    offer(list, n, store, last, LIFT, LIFT + increment as u64);
 }
 
 // The list of hits as tokens: all frames, and then each node's end.
@@ -68,30 +68,18 @@ pub(crate) fn best_words(
     lexicon: &[u8],
     frames: &[u8],
     n: usize,
-    lists: &[u16; 402],
-    counts: &[u32; 402],
-    firsts: &[u16; 402],
+    vertices: &[[u32; 3]; 402],
     store: &mut [u8],
 ) -> [u64; 8]
-    requires { ⌜ Run (now voice) (now lexicon) (now frames) n (now lists) (now counts) (now firsts) (now store) ⌝ }
+    requires { ⌜ Run (now voice) (now lexicon) (now frames) n (now vertices) (now store) ⌝ }
     requires { ⌜ Empty (now store) ⌝ }
     ensures { λ r. ⌜ r ≡ held 8 (hits (now (voice .entry)) (graphOf (now (lexicon .entry))) (now (frames .entry)) n) ⌝ }
 {
-    all_frames(voice, lexicon, n, lists, counts, firsts, frames, store);
+    all_frames(voice, lexicon, frames, n, vertices, store);
     let mut list = [0u8; 64];
     let mut node = u16_at(lexicon, 0) as usize;
     while 0 < node {
-        offer_end(
-            voice,
-            lexicon,
-            n,
-            lists,
-            counts,
-            firsts,
-            node,
-            &store[..],
-            &mut list[..],
-        );
+        offer_end(voice, lexicon, n, vertices, node, &store[..], &mut list[..]);
         node -= 1;
     }
     let mut best = [0; 8];

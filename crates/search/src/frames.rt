@@ -1,241 +1,146 @@
-// Frame by frame: the root's token enters at the first, and at each later one every node takes its turn, from the last to the first.
+// Frame by frame: the root's token enters at the first, and at each later one every node takes its turn, from the last to
+// the first.
 ghost use mathlib.Core.Path.{_≡_};
-ghost use Prim.Native.Nat.{ℕ, suc, _-_, _<_};
-ghost use lib.ListN.{length};
-ghost use Rattle.voice.specs.Voice.{linkScore, symbolsAt};
-ghost use Rattle.decoder.specs.Score.{possible};
-ghost use Rattle.search.specs.Gains.{raisedOf, Scored, Gained};
-ghost use Rattle.search.specs.Running.{Empty, Run, StoredAt};
+ghost use Prim.Native.Nat.{suc, _+_, _-_, _<_, _≤_};
+ghost use lib.ListN.{length, getD};
+ghost use Rattle.voice.specs.Voice.{symbolsAt};
+ghost use Rattle.search.specs.Gains.{LetterTable, Gained, KnownSymbol};
+ghost use Rattle.search.specs.Running.{Empty, Run, StoredAt, CallNumbers, FrameHeld};
 use crate::gains::frame_gains;
-use crate::gains::hear;
-use crate::scores::letter_begins;
-use crate::scores::letters_in_use;
-use crate::scores::link_score;
-use crate::scores::raise;
-use crate::scores::raised_scores;
-use crate::scores::symbols_at;
-use crate::turns::pass_node;
-use crate::turns::pass_on;
+use crate::letters::letter_table;
+use crate::letters::link_score;
+use crate::letters::symbols_at;
+use crate::turns::enter_nodes;
+use crate::turns::take_turn;
+use decoder::score::Score;
 use endian::u16_at;
 
-// A score of 0, raised: what the root's token enters by.
-const RAISED_ZERO: u32 = 32768;
+// The numbers of a call: hits wanted, nodes, where the section Symbols begins, letters in use, and the link.
+pub(crate) struct Numbers {
+    pub n: usize,
+    pub nodes: usize,
+    pub symbols: usize,
+    pub used: usize,
+    pub link: Score,
+}
 
-// The first frame: the root's token is passed on into an empty store.
+// The first frame: the root's token enters an empty store.
 fn first_frame(
     voice: &[u8],
     lexicon: &[u8],
-    n: usize,
-    lists: &[u16; 402],
-    counts: &[u32; 402],
-    firsts: &[u16; 402],
-    scores: &[[u32; 10]; 64],
-    used: usize,
     frames: &[u8],
+    numbers: Numbers,
+    vertices: &[[u32; 3]; 402],
+    letters: &[[u32; 10]; 64],
     gains: &mut [[u32; 8]; 64],
     store: &mut [u8],
 )
-    requires { ⌜ Run (now voice) (now lexicon) (now frames) n (now lists) (now counts) (now firsts) (now store) ⌝ }
-    requires { ⌜ Empty (now store) ⌝ }
-    requires { ⌜ Scored (now voice) (now lexicon) used (now scores) ⌝ }
-    requires { ⌜ length (now gains) ≡ 64 ⌝ }
-    ensures { λ _. ⌜ StoredAt (now (voice .entry)) (now (lexicon .entry)) (now (frames .entry)) n 0 (now (store .exit)) ⌝ }
-    ensures { λ _. ⌜ length (now (gains .exit)) ≡ 64 ⌝ }
+    requires { ⌜ Run (now voice) (now lexicon) (now frames) (numbers .n) (now vertices) (now store) × Empty (now store) ⌝ }
+    requires { ⌜ CallNumbers (now voice) (now lexicon) numbers (now letters) × (length (now gains) ≡ 64) ⌝ }
+    ensures { λ _. ⌜ FrameHeld (now (voice .entry)) (now (lexicon .entry)) (now (frames .entry)) 0 numbers (now (letters .entry)) (now (gains .exit)) (now (store .exit)) ⌝ }
 {
     let symbol = frames[0] as usize;
-    let at = symbols_at(voice);
-    frame_gains(voice, at, symbol, scores, used, gains);
-    let nodes = u16_at(lexicon, 0) as usize;
-    pass_on(
-        lexicon,
-        n,
-        nodes,
-        lists,
-        counts,
-        firsts,
-        gains,
-        RAISED_ZERO,
-        0,
-        true,
-        0,
-        store,
-    );
+    frame_gains(voice, numbers.symbols, symbol, letters, numbers.used, gains);
+    enter_nodes(lexicon, numbers.n, vertices, gains, store);
 }
 
-// The frame after frame t, where the table holds the gains of symbol `heard`, or of none if that is 256. Answers its symbol.
+// The gains of the frame after frame t, whose gains the table holds: they stay where the symbol is the same, since a
+// sound lasts longer than a frame.
+fn next_gains(
+    voice: &[u8],
+    frames: &[u8],
+    t: usize,
+    numbers: Numbers,
+    letters: &[[u32; 10]; 64],
+    gains: &mut [[u32; 8]; 64],
+)
+    requires { ⌜ (suc t < length (now frames)) × (length (now frames) ≤ 1000) × KnownSymbol (now voice) (getD (now frames) (t + 1) 0) ⌝ }
+    requires { ⌜ LetterTable (now voice) (numbers .used) (now letters) × (numbers .symbols ≡ symbolsAt (now voice)) ⌝ }
+    requires { ⌜ Gained (now voice) (getD (now frames) t 0) (now letters) (numbers .used) (now gains) ⌝ }
+    ensures { λ _. ⌜ Gained (now (voice .entry)) (getD (now (frames .entry)) (t + 1) 0) (now (letters .entry)) (numbers .used) (now (gains .exit)) ⌝ }
+{
+    let symbol = frames[t + 1];
+    if symbol == frames[t] {
+        return;
+    }
+    frame_gains(voice, numbers.symbols, symbol as usize, letters, numbers.used, gains);
+}
+
+// The frame after frame t.
 fn next_frame(
     voice: &[u8],
     lexicon: &[u8],
-    n: usize,
-    lists: &[u16; 402],
-    counts: &[u32; 402],
-    firsts: &[u16; 402],
-    scores: &[[u32; 10]; 64],
-    used: usize,
-    link: u32,
-    at: usize,
-    heard: usize,
     frames: &[u8],
     t: usize,
+    numbers: Numbers,
+    vertices: &[[u32; 3]; 402],
+    letters: &[[u32; 10]; 64],
     gains: &mut [[u32; 8]; 64],
     store: &mut [u8],
-) -> usize
-    requires { ⌜ Run (now voice) (now lexicon) (now frames) n (now lists) (now counts) (now firsts) (now store) ⌝ }
-    requires { ⌜ (link ≡ raisedOf (possible (linkScore (now voice) 0))) × (suc t < length (now frames)) ⌝ }
-    requires { ⌜ StoredAt (now voice) (now lexicon) (now frames) n t (now store) ⌝ }
-    requires { ⌜ Scored (now voice) (now lexicon) used (now scores) ⌝ }
-    requires { ⌜ (length (now gains) ≡ 64) × (at ≡ symbolsAt (now voice)) ⌝ }
-    requires { ⌜ ((k : ℕ) → k ≡ heard → k < 256 → Gained (now voice) k (now scores) used (now gains)) ⌝ }
-    ensures { λ _. ⌜ StoredAt (now (voice .entry)) (now (lexicon .entry)) (now (frames .entry)) n (suc t) (now (store .exit)) ⌝ }
-    ensures { λ r. ⌜ Gained (now (voice .entry)) r (now (scores .entry)) used (now (gains .exit)) ⌝ }
+)
+    requires { ⌜ Run (now voice) (now lexicon) (now frames) (numbers .n) (now vertices) (now store) × (suc t < length (now frames)) ⌝ }
+    requires { ⌜ CallNumbers (now voice) (now lexicon) numbers (now letters) ⌝ }
+    requires { ⌜ FrameHeld (now voice) (now lexicon) (now frames) t numbers (now letters) (now gains) (now store) ⌝ }
+    ensures { λ _. ⌜ FrameHeld (now (voice .entry)) (now (lexicon .entry)) (now (frames .entry)) (suc t) numbers (now (letters .entry)) (now (gains .exit)) (now (store .exit)) ⌝ }
 {
-    let symbol = frames[t + 1] as usize;
-    hear(voice, at, symbol, heard, scores, used, gains);
-    let nodes = u16_at(lexicon, 0) as usize;
-    let mut node = nodes;
+    next_gains(voice, frames, t, numbers, letters, gains);
+    let n = numbers.n;
+    let link = numbers.link;
+    let mut node = numbers.nodes;
     while 0 < node {
-        pass_node(
-            voice,
-            lexicon,
-            n,
-            nodes,
-            lists,
-            counts,
-            firsts,
-            gains,
-            link,
-            node,
-            store,
-        );
+        take_turn(voice, lexicon, n, vertices, gains, link, node, store);
         node -= 1;
     }
-    symbol
 }
 
 // The frames after the first.
 fn later_frames(
     voice: &[u8],
     lexicon: &[u8],
-    n: usize,
-    lists: &[u16; 402],
-    counts: &[u32; 402],
-    firsts: &[u16; 402],
-    scores: &[[u32; 10]; 64],
-    used: usize,
     frames: &[u8],
+    numbers: Numbers,
+    vertices: &[[u32; 3]; 402],
+    letters: &[[u32; 10]; 64],
     gains: &mut [[u32; 8]; 64],
     store: &mut [u8],
 )
-    requires { ⌜ Run (now voice) (now lexicon) (now frames) n (now lists) (now counts) (now firsts) (now store) ⌝ }
-    requires { ⌜ StoredAt (now voice) (now lexicon) (now frames) n 0 (now store) ⌝ }
-    requires { ⌜ Scored (now voice) (now lexicon) used (now scores) ⌝ }
-    requires { ⌜ length (now gains) ≡ 64 ⌝ }
-    ensures { λ _. ⌜ StoredAt (now (voice .entry)) (now (lexicon .entry)) (now (frames .entry)) n (length (now (frames .entry)) - 1) (now (store .exit)) ⌝ }
+    requires { ⌜ Run (now voice) (now lexicon) (now frames) (numbers .n) (now vertices) (now store) ⌝ }
+    requires { ⌜ CallNumbers (now voice) (now lexicon) numbers (now letters) ⌝ }
+    requires { ⌜ FrameHeld (now voice) (now lexicon) (now frames) 0 numbers (now letters) (now gains) (now store) ⌝ }
+    ensures { λ _. ⌜ StoredAt (now (voice .entry)) (now (lexicon .entry)) (now (frames .entry)) (numbers .n) (length (now (frames .entry)) - 1) (now (store .exit)) ⌝ }
 {
-    let link = raise(link_score(voice));
-    let at = symbols_at(voice);
-    let mut heard = 256;
     let mut t = 0;
     while t + 1 < frames.len() {
-        heard = next_frame(
-            voice,
-            lexicon,
-            n,
-            lists,
-            counts,
-            firsts,
-            scores,
-            used,
-            link,
-            at,
-            heard,
-            frames,
-            t,
-            gains,
-            store,
-        );
+        next_frame(voice, lexicon, frames, t, numbers, vertices, letters, gains, store);
         t += 1;
     }
 }
 
-// All frames, once the tables of the letters in use are made.
-fn run_frames(
-    voice: &[u8],
-    lexicon: &[u8],
-    n: usize,
-    lists: &[u16; 402],
-    counts: &[u32; 402],
-    firsts: &[u16; 402],
-    scores: &[[u32; 10]; 64],
-    used: usize,
-    frames: &[u8],
-    store: &mut [u8],
-)
-    requires { ⌜ Run (now voice) (now lexicon) (now frames) n (now lists) (now counts) (now firsts) (now store) ⌝ }
-    requires { ⌜ Empty (now store) ⌝ }
-    requires { ⌜ Scored (now voice) (now lexicon) used (now scores) ⌝ }
-    ensures { λ _. ⌜ StoredAt (now (voice .entry)) (now (lexicon .entry)) (now (frames .entry)) n (length (now (frames .entry)) - 1) (now (store .exit)) ⌝ }
-{
-    let mut gains = [[0u32; 8]; 64];
-    first_frame(
-        voice,
-        lexicon,
-        n,
-        lists,
-        counts,
-        firsts,
-        scores,
-        used,
-        frames,
-        &mut gains,
-        store,
-    );
-    later_frames(
-        voice,
-        lexicon,
-        n,
-        lists,
-        counts,
-        firsts,
-        scores,
-        used,
-        frames,
-        &mut gains,
-        store,
-    );
-}
-
-// All frames, of which there is at least one.
+// All frames, of which there is at least one, once what is read once a call is read.
 pub(crate) fn all_frames(
     voice: &[u8],
     lexicon: &[u8],
-    n: usize,
-    lists: &[u16; 402],
-    counts: &[u32; 402],
-    firsts: &[u16; 402],
     frames: &[u8],
+    n: usize,
+    vertices: &[[u32; 3]; 402],
     store: &mut [u8],
 )
-    requires { ⌜ Run (now voice) (now lexicon) (now frames) n (now lists) (now counts) (now firsts) (now store) ⌝ }
+    requires { ⌜ Run (now voice) (now lexicon) (now frames) n (now vertices) (now store) ⌝ }
     requires { ⌜ Empty (now store) ⌝ }
     ensures { λ _. ⌜ StoredAt (now (voice .entry)) (now (lexicon .entry)) (now (frames .entry)) n (length (now (frames .entry)) - 1) (now (store .exit)) ⌝ }
 {
-    let mut letters = [0u8; 64];
-    let used = letters_in_use(voice, lexicon, &mut letters);
-    let mut begins = [0u16; 64];
-    letter_begins(voice, &mut begins);
-    let mut scores = [[0u32; 10]; 64];
-    raised_scores(voice, &letters, used, &begins, &mut scores);
-    run_frames(
-        voice,
-        lexicon,
-        n,
-        lists,
-        counts,
-        firsts,
-        &scores,
-        used,
-        frames,
-        store,
-    );
+    let mut letters = [[0u32; 10]; 64];
+    let used = letter_table(voice, lexicon, &mut letters);
+    let link = Score::from_stored(link_score(voice));
+    let nodes = u16_at(lexicon, 0) as usize;
+    let numbers = Numbers {
+        n: n,
+        nodes: nodes,
+        symbols: symbols_at(voice),
+        used: used,
+        link: link,
+    };
+    let mut gains = [[0u32; 8]; 64];
+    first_frame(voice, lexicon, frames, numbers, vertices, &letters, &mut gains, store);
+    later_frames(voice, lexicon, frames, numbers, vertices, &letters, &mut gains, store);
 }

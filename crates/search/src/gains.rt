@@ -1,116 +1,107 @@
-// The gains of one frame's moves. A gain is what a move and the emission after it add to a token: the two raised scores together, and 0 where
-// one of them is impossible. Gains are found for letters that some node has. The table of gains has a row a letter: entry s for the loop of state s,
-// entry 4 + s for the step into it. Entry 4 has the raised emission of the first state, to which an arc's score is added when it is entered.
+// The gains of one frame's moves. A gain is what a move and the emission after it add to a token: the score of both, as a
+// `Score`'s number, impossible where one of them is. The table of a frame has a row for each letter that some node has:
+// the gain of each state's loop, and of the step into each state after the first. For the first state, which is entered
+// over an arc, it has the emission alone.
 ghost use mathlib.Core.Path.{_≡_};
 ghost use Prim.Native.Nat.{_+_, _≤_, _<_};
 ghost use lib.ListN.{length, getD};
 ghost use Rattle.endian.specs.Bytes.{i16};
 ghost use Rattle.voice.specs.Voice.{symbolsAt};
-ghost use Rattle.decoder.specs.Score.{possible};
-ghost use Rattle.search.specs.Gains.{raisedOf, raisedGain, ScoreRow, GainRow, ScoreTable, Gained, Hearing, AtLetter, StatePut, FirstPut};
-use crate::scores::raise;
-use crate::scores::score_at;
+ghost use Rattle.decoder.specs.Score.{numberOf, possible};
+ghost use Rattle.search.specs.Gains.{NearBias, numberSum, LetterRow, GainRow, LetterTable, Gained, KnownSymbol, StatePut, FirstPut, letterIn};
+use crate::letters::FIRST_STATE;
+use crate::letters::LETTER;
+use crate::letters::LOOP;
+use crate::letters::STEP;
+use crate::letters::score_at;
+use decoder::score::BIAS;
+use decoder::score::Score;
 
-// The gain of a move and an emission, both raised.
-pub(crate) fn gain(moved: u32, heard: u32) -> u32
-    requires { ⌜ (moved < 65536) × (heard < 65536) ⌝ }
-    ensures { λ r. ⌜ r ≡ raisedGain moved heard ⌝ }
+// The column of the first state's emission: that of the step into it.
+pub(crate) const ENTRY: usize = 4;
+
+// The score of a move and of the emission after it; impossible where one of them is.
+pub(crate) fn gain(moved: Score, emission: Score) -> Score
+    requires { ⌜ NearBias (moved .0) × NearBias (emission .0) ⌝ }
+    ensures { λ r. ⌜ r .0 ≡ numberSum (moved .0) (emission .0) ⌝ }
 {
-    if moved == 0 {
-        return 0;
+    if moved.is_impossible() {
+        return Score::IMPOSSIBLE;
     }
-    if heard == 0 {
-        return 0;
+    if emission.is_impossible() {
+        return Score::IMPOSSIBLE;
     }
-    moved + heard
+    Score(moved.0 + emission.0 - BIAS)
 }
 
-// The raised score at an offset inside the voice model.
-fn raised_at(voice: &[u8], at: usize) -> u32
+// The score at an offset inside the voice model.
+fn emission_at(voice: &[u8], at: usize) -> Score
     requires { ⌜ at + 2 ≤ length (now voice) ⌝ }
-    ensures { λ r. ⌜ r ≡ raisedOf (possible (i16 (now (voice .entry)) at)) ⌝ }
+    ensures { λ r. ⌜ r .0 ≡ numberOf (possible (i16 (now (voice .entry)) at)) ⌝ }
 {
-    raise(score_at(voice, at))
+    Score::from_stored(score_at(voice, at))
 }
 
-// A row with the gain of the loop of a letter's first state, and its raised emission.
-fn first_gains(heard: u32, scores: &[u32; 10]) -> [u32; 8]
-    requires { ⌜ (heard < 65536) × (getD (now scores) 0 0 < 65536) ⌝ }
-    ensures { λ r. ⌜ FirstPut (raisedGain (getD (now (scores .entry)) 0 0) heard) heard r ⌝ }
+// A row with the gain of the loop of a letter's first state, and its emission.
+fn first_gains(emission: Score, letter: &[u32; 10]) -> [u32; 8]
+    requires { ⌜ NearBias (emission .0) × NearBias (getD (now letter) 0 0) ⌝ }
+    ensures { λ r. ⌜ FirstPut (numberSum (getD (now (letter .entry)) 0 0) (emission .0)) (emission .0) r ⌝ }
 {
-    [gain(scores[0], heard), 0, 0, 0, heard, 0, 0, 0]
+    let stay = gain(Score(letter[LOOP]), emission);
+    [stay.0, 0, 0, 0, emission.0, 0, 0, 0]
 }
 
-// The gains of a later state: of its loop, and of the step into it.
-fn state_gains(heard: u32, s: usize, scores: &[u32; 10], row: &mut [u32; 8])
-    requires { ⌜ (s < 4) × (heard < 65536) × (8 ≤ length (now row)) ⌝ }
-    requires { ⌜ (getD (now scores) s 0 < 65536) × (getD (now scores) (4 + s) 0 < 65536) ⌝ }
-    ensures { λ _. ⌜ StatePut (now (row .entry)) s (raisedGain (getD (now (scores .entry)) s 0) heard) (raisedGain (getD (now (scores .entry)) (4 + s) 0) heard) (now (row .exit)) ⌝ }
+// Puts the gains of a later state: of its loop, and of the step into it.
+fn state_gains(emission: Score, s: usize, letter: &[u32; 10], row: &mut [u32; 8])
+    requires { ⌜ (s < 4) × NearBias (emission .0) × (8 ≤ length (now row)) ⌝ }
+    requires { ⌜ NearBias (getD (now letter) s 0) × NearBias (getD (now letter) (4 + s) 0) ⌝ }
+    ensures { λ _. ⌜ StatePut (now (row .entry)) s (numberSum (getD (now (letter .entry)) s 0) (emission .0)) (numberSum (getD (now (letter .entry)) (4 + s) 0) (emission .0)) (now (row .exit)) ⌝ }
 {
-    row[s] = gain(scores[s], heard);
-    row[4 + s] = gain(scores[4 + s], heard);
+    let stay = gain(Score(letter[LOOP + s]), emission);
+    let step = gain(Score(letter[STEP + s]), emission);
+    row[LOOP + s] = stay.0;
+    row[STEP + s] = step.0;
 }
 
-// The gains of one letter at a frame of symbol k, whose emission in the next state stands one state's emissions further on.
-fn letter_gains(voice: &[u8], at: usize, k: usize, scores: &[u32; 10]) -> [u32; 8]
-    requires { ⌜ Hearing (now voice) k × (at ≡ symbolsAt (now voice)) ⌝ }
-    requires { ⌜ ScoreRow (now voice) (now scores) ⌝ }
-    ensures { λ r. ⌜ GainRow (now (voice .entry)) k (getD (now (scores .entry)) 8 0) r ⌝ }
+// The row of one letter at a frame of symbol k, whose emission in the next state stands one state's emissions further on.
+fn letter_gains(voice: &[u8], at: usize, k: usize, letter: &[u32; 10]) -> [u32; 8]
+    requires { ⌜ KnownSymbol (now voice) k × (at ≡ symbolsAt (now voice)) ⌝ }
+    requires { ⌜ LetterRow (now voice) (now letter) ⌝ }
+    ensures { λ r. ⌜ GainRow (now (voice .entry)) k (letterIn (now (letter .entry))) r ⌝ }
 {
-    let letter = scores[8] as usize;
-    let first = scores[9] as usize;
+    let index = letter[LETTER] as usize;
+    let first = letter[FIRST_STATE] as usize;
     let symbols = voice[at] as usize;
-    let states = voice[2 + 2 * letter] as usize;
+    let states = voice[2 + 2 * index] as usize;
     let mut offset = at + 1 + 2 * (first * symbols + k);
-    let mut row = first_gains(raised_at(voice, offset), scores);
+    let mut row = first_gains(emission_at(voice, offset), letter);
     let mut s = 1;
     while s < states {
         offset += 2 * symbols;
-        let heard = raised_at(voice, offset);
-        state_gains(heard, s, scores, &mut row);
+        let emission = emission_at(voice, offset);
+        state_gains(emission, s, letter, &mut row);
         s += 1;
     }
     row
 }
 
-// The gains of the letters in use at a frame of symbol k.
+// The table of a frame of symbol k, for the first `used` letters of the call's table.
 pub(crate) fn frame_gains(
     voice: &[u8],
     at: usize,
     k: usize,
-    scores: &[[u32; 10]; 64],
+    letters: &[[u32; 10]; 64],
     used: usize,
     gains: &mut [[u32; 8]; 64],
 )
-    requires { ⌜ Hearing (now voice) k × (at ≡ symbolsAt (now voice)) ⌝ }
-    requires { ⌜ ScoreTable (now voice) used (now scores) × (length (now gains) ≡ 64) ⌝ }
-    ensures { λ _. ⌜ Gained (now (voice .entry)) k (now (scores .entry)) used (now (gains .exit)) ⌝ }
+    requires { ⌜ KnownSymbol (now voice) k × (at ≡ symbolsAt (now voice)) ⌝ }
+    requires { ⌜ LetterTable (now voice) used (now letters) × (length (now gains) ≡ 64) ⌝ }
+    ensures { λ _. ⌜ Gained (now (voice .entry)) k (now (letters .entry)) used (now (gains .exit)) ⌝ }
 {
     let mut i = 0;
     while i < used {
-        let letter = scores[i][8] as usize;
-        gains[letter] = letter_gains(voice, at, k, &scores[i]);
+        let letter = letters[i][LETTER] as usize;
+        gains[letter] = letter_gains(voice, at, k, &letters[i]);
         i += 1;
     }
-}
-
-// The same for a frame after others: where the symbol is the one whose gains the table holds, as in most frames of a long sound, they stay.
-pub(crate) fn hear(
-    voice: &[u8],
-    at: usize,
-    k: usize,
-    heard: usize,
-    scores: &[[u32; 10]; 64],
-    used: usize,
-    gains: &mut [[u32; 8]; 64],
-)
-    requires { ⌜ Hearing (now voice) k × (at ≡ symbolsAt (now voice)) ⌝ }
-    requires { ⌜ ScoreTable (now voice) used (now scores) × (length (now gains) ≡ 64) ⌝ }
-    requires { ⌜ (k ≡ heard → Gained (now voice) k (now scores) used (now gains)) ⌝ }
-    ensures { λ _. ⌜ Gained (now (voice .entry)) k (now (scores .entry)) used (now (gains .exit)) ⌝ }
-{
-    if k == heard {
-        return;
-    }
-    frame_gains(voice, at, k, scores, used, gains);
 }

@@ -6,7 +6,7 @@ ghost use Rattle.call.specs.Table.{answerOf, unless};
 ghost use Rattle.voice.specs.Fields.{wellFormed};
 ghost use Rattle.voice.specs.Voice.{voiceVerdict};
 ghost use Rattle.search.specs.Calling.{callRows};
-use crate::scores::symbols_at;
+use crate::letters::symbols_at;
 use call::Answer;
 use call::Refusal;
 use call::inside;

@@ -14,11 +14,11 @@ mod ends;
 mod frames;
 mod gains;
 mod judge;
+mod letters;
 mod parts;
 mod places;
-mod scores;
 mod store;
-mod tokens;
+pub mod tokens;
 mod turns;
 
 // The answer is the first refusal that applies to decoding, or 0 where none does. The tokens are the hits, best first, with no token after them.
@@ -40,9 +40,8 @@ pub fn search(
     ensures { λ _. ⌜ now (work .exit) ≡ decodeWork (now (voice .entry)) (now (lexicon .entry)) (now (frames .entry)) n (now (work .entry)) ⌝ }
     ensures { λ r. ⌜ r .tokens ≡ searchTokens (now (voice .entry)) (now (lexicon .entry)) (now (frames .entry)) n (now (work .entry)) (now (out .entry)) ⌝ }
 {
-    let mut lists = [0u16; 402];
-    let mut counts = [0u32; 402];
-    let opened = open(voice, lexicon, work, &mut lists, &mut counts);
+    let mut vertices = [[0u32; 3]; 402];
+    let opened = open(voice, lexicon, work, &mut vertices);
     let Answer::Value(_) = opened else {
         return Searched {
             answer: opened,
@@ -56,20 +55,10 @@ pub fn search(
             tokens: [0; 8],
         };
     };
-    let mut firsts = [0u16; 402];
-    let slots = find_slots(voice, lexicon, n as usize, &mut firsts);
+    let slots = find_slots(voice, lexicon, n as usize, &mut vertices);
     // a store of n tokens a place; checking left the work space clear, so nothing else has to be cleared again
     let store = 8 * slots;
-    let tokens = best_words(
-        voice,
-        lexicon,
-        frames,
-        n as usize,
-        &lists,
-        &counts,
-        &firsts,
-        &mut work[0..store],
-    );
+    let tokens = best_words(voice, lexicon, frames, n as usize, &vertices, &mut work[0..store]);
     zero(&mut work[0..store]);
     Searched {
         answer: judged,

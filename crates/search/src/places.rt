@@ -1,31 +1,36 @@
 // The places of a lexicon, one for each state of each node, are numbered node by node, and with them their slots.
 ghost use mathlib.Core.Path.{_≡_};
-ghost use Prim.Native.Nat.{_*_, _≤_};
-ghost use lib.ListN.{replicate};
+ghost use Prim.Native.Nat.{_≤_};
+ghost use lib.ListN.{length};
 ghost use Rattle.voice.specs.Fields.{wellFormed};
 ghost use Rattle.voice.specs.Voice.{letterCount, voiceVerdict};
-ghost use Rattle.lexicon.specs.Lexicon.{sinkOf, lexiconVerdict};
-ghost use Rattle.graph.specs.Graph.{graphOf};
-ghost use Rattle.graph.specs.Conditions.{placeCount};
-ghost use Rattle.checking.specs.Tables.{TableOf};
-ghost use Rattle.search.specs.Places.{firstSlot};
+ghost use Rattle.lexicon.specs.Lexicon.{lexiconVerdict};
+ghost use Rattle.search.specs.Places.{SlotsPut};
+use checking::ARCS_AT;
+use checking::PATHS;
 use endian::u16_at;
 
-// The first slot of each node, where each place has n: n times the number of states of all nodes below it. Answers the number of all slots.
-pub(crate) fn find_slots(voice: &[u8], lexicon: &[u8], n: usize, firsts: &mut [u16; 402]) -> usize
+// The first slot of the sink, which has no place.
+pub(crate) const NO_PLACE: u32 = 4294967295;
+
+// Puts the first slot of each node into the table of vertices, where each place has n: n times the number of states of
+// all nodes below it. Answers the number of all slots.
+pub(crate) fn find_slots(voice: &[u8], lexicon: &[u8], n: usize, vertices: &mut [[u32; 3]; 402]) -> usize
     requires { ⌜ (voiceVerdict (now voice) ≡ wellFormed) × (lexiconVerdict (letterCount (now voice)) (now lexicon) ≡ wellFormed) ⌝ }
-    requires { ⌜ (n ≤ 8) × (now firsts ≡ replicate 402 0) ⌝ }
-    ensures { λ _. ⌜ TableOf (sinkOf (now (lexicon .entry))) (firstSlot (now (voice .entry)) (graphOf (now (lexicon .entry))) n) (now (firsts .exit)) ⌝ }
-    ensures { λ r. ⌜ r ≡ n * placeCount (now (voice .entry)) (graphOf (now (lexicon .entry))) ⌝ }
+    requires { ⌜ (n ≤ 8) × (length (now vertices) ≡ 402) ⌝ }
+    ensures { λ r. ⌜ SlotsPut (now (voice .entry)) (now (lexicon .entry)) n (now (vertices .entry)) (now (vertices .exit)) r ⌝ }
 {
     let nodes = u16_at(lexicon, 0) as usize;
     let mut slot = 0;
     let mut node = 1;
     while node <= nodes {
-        firsts[node] = slot as u16;
+        let row = vertices[node];
+        vertices[node] = [row[ARCS_AT], row[PATHS], slot as u32];
         let letter = lexicon[1 + node] as usize;
         slot += n * (voice[2 + 2 * letter] as usize);
         node += 1;
     }
+    let row = vertices[node];
+    vertices[node] = [row[ARCS_AT], row[PATHS], NO_PLACE];
     slot
 }

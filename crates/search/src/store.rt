@@ -1,17 +1,18 @@
-// A place of the token store: n slots, the best token first, then empty ones. Candidates enter it, its tokens are moved, and in the end copied.
+// The list of a place: n slots, the best token first, with no token after the last. A part of the store is lent for it.
 ghost use mathlib.Core.Path.{_≡_};
 ghost use mathlib.Core.List.{_++_};
-ghost use Prim.Native.Nat.{_-_, _*_, _≤_};
-ghost use lib.ListN.{length, take, replicate};
-ghost use Rattle.search.specs.Slots.{slots, codePart, position, push, enter, offered, shifted, Room, Movable, Falling, Offer};
+ghost use Prim.Native.Nat.{_+_, _-_, _*_, _≤_};
+ghost use lib.ListN.{length, replicate};
+ghost use Rattle.search.specs.Slots.{slots, codePart, position, push, enter, offered, shifted, PlaceRoom, Movable, Falling, Offer};
+use crate::tokens::Token;
 use crate::tokens::put_token;
-use crate::tokens::same_code;
 use crate::tokens::token_at;
 
-// A candidate enters a list at the first position whose token it outranks; n: nowhere, since none is outranked, or one of its code stands before.
-fn position(part: &[u8], n: usize, token: u64) -> usize
+// A candidate enters a list at the first position whose token it outranks; n: nowhere, since none is outranked, or one
+// of its code stands before.
+fn position(part: &[u8], n: usize, token: Token) -> usize
     requires { ⌜ 8 * n ≤ length (now part) ⌝ }
-    ensures { λ r. ⌜ r ≡ position token (slots n 0 (now (part .entry))) ⌝ }
+    ensures { λ r. ⌜ r ≡ position (token .0) (slots n 0 (now (part .entry))) ⌝ }
 {
     let mut k = 0;
     let at = loop {
@@ -19,10 +20,10 @@ fn position(part: &[u8], n: usize, token: u64) -> usize
             break n;
         }
         let held = token_at(part, k);
-        if held < token {
+        if token.outranks(held) {
             break k;
         }
-        if same_code(held, token) {
+        if held.has_code_of(token) {
             break n;
         }
         k += 1;
@@ -30,20 +31,21 @@ fn position(part: &[u8], n: usize, token: u64) -> usize
     at
 }
 
-// Puts a token into a slot and carries those from there on down by one, up to one of its code or an empty slot; the last one goes.
-fn push_down(part: &mut [u8], n: usize, from: usize, token: u64)
+// Puts a token into a slot and carries those from there on down by one, up to one of its code or an empty slot; the last
+// one goes.
+fn push_down(part: &mut [u8], n: usize, from: usize, token: Token)
     requires { ⌜ (from ≤ n) × (8 * n ≤ length (now part)) ⌝ }
-    ensures { λ _. ⌜ slots n 0 (now (part .exit)) ≡ slots from 0 (now (part .entry)) ++ push token (codePart token) (slots (n - from) from (now (part .entry))) ⌝ }
+    ensures { λ _. ⌜ slots n 0 (now (part .exit)) ≡ slots from 0 (now (part .entry)) ++ push (token .0) (codePart (token .0)) (slots (n - from) from (now (part .entry))) ⌝ }
 {
     let mut at = from;
     let mut carry = token;
     while at < n {
         let next = token_at(part, at);
         put_token(part, at, carry);
-        if next == 0 {
+        if next.is_none() {
             return;
         }
-        if same_code(next, token) {
+        if next.has_code_of(token) {
             return;
         }
         carry = next;
@@ -52,30 +54,32 @@ fn push_down(part: &mut [u8], n: usize, from: usize, token: u64)
 }
 
 // One more candidate for a place.
-pub(crate) fn insert(part: &mut [u8], n: usize, token: u64)
+pub(crate) fn insert(part: &mut [u8], n: usize, token: Token)
     requires { ⌜ 8 * n ≤ length (now part) ⌝ }
-    ensures { λ _. ⌜ slots n 0 (now (part .exit)) ≡ enter token (slots n 0 (now (part .entry))) ⌝ }
+    ensures { λ _. ⌜ slots n 0 (now (part .exit)) ≡ enter (token .0) (slots n 0 (now (part .entry))) ⌝ }
 {
     let at = position(part, n, token);
     push_down(part, n, at, token);
 }
 
-// The tokens of a list, moved, are candidates for a place, the best first. Once the last of n outranks one, those behind it can't enter.
-pub(crate) fn offer(part: &mut [u8], n: usize, from: &[u64; 8], up: u64, down: u64)
-    requires { ⌜ Offer n 0 up down (now from) (now part) ⌝ }
-    ensures { λ _. ⌜ slots n 0 (now (part .exit)) ≡ offered up down (take n (now (from .entry))) (slots n 0 (now (part .entry))) ⌝ }
+// The tokens of a place of the store, moved, are candidates for a list, the best first. Once the last of n outranks one,
+// those behind it can't enter.
+pub(crate) fn offer(list: &mut [u8], n: usize, store: &[u8], from: usize, up: u64, down: u64)
+    requires { ⌜ PlaceRoom n from (now store) × Offer n 0 up down (slots n from (now store)) (now list) ⌝ }
+    ensures { λ _. ⌜ slots n 0 (now (list .exit)) ≡ offered up down (slots n from (now (store .entry))) (slots n 0 (now (list .entry))) ⌝ }
 {
     let mut i = 0;
     while i < n {
-        let token = from[i];
-        if token == 0 {
+        let token = token_at(store, from + i);
+        if token.is_none() {
             return;
         }
-        let candidate = token + up - down;
-        if candidate < token_at(part, n - 1) {
+        let candidate = token.moved(up, down);
+        let last = token_at(list, n - 1);
+        if last.outranks(candidate) {
             return;
         }
-        insert(part, n, candidate);
+        insert(list, n, candidate);
         i += 1;
     }
 }
@@ -89,10 +93,10 @@ pub(crate) fn shift(part: &mut [u8], n: usize, up: u64, down: u64)
     let mut k = 0;
     while k < n {
         let token = token_at(part, k);
-        if token == 0 {
+        if token.is_none() {
             return;
         }
-        put_token(part, k, token + up - down);
+        put_token(part, k, token.moved(up, down));
         k += 1;
     }
 }
@@ -104,25 +108,25 @@ pub(crate) fn clear_place(part: &mut [u8], n: usize)
 {
     let mut k = 0;
     while k < n {
-        put_token(part, k, 0);
+        put_token(part, k, Token::NONE);
         k += 1;
     }
 }
 
-// Copies the tokens of a place to a lent list of no tokens, since one that is returned would be copied again. Behind the first empty slot are only
-// empty ones, so that the copy ends there.
+// Copies the numbers of a list's tokens to a lent list of no tokens, since one that is returned would be copied again.
+// Behind the first empty slot are only empty ones, so that the copy ends there.
 pub(crate) fn copy_place(part: &[u8], n: usize, tokens: &mut [u64; 8])
-    requires { ⌜ Room n 0 (now part) × Falling (slots n 0 (now part)) ⌝ }
+    requires { ⌜ PlaceRoom n 0 (now part) × Falling (slots n 0 (now part)) ⌝ }
     requires { ⌜ now tokens ≡ replicate 8 0 ⌝ }
     ensures { λ _. ⌜ now (tokens .exit) ≡ slots n 0 (now (part .entry)) ++ replicate (8 - n) 0 ⌝ }
 {
     let mut k = 0;
     while k < n {
         let token = token_at(part, k);
-        if token == 0 {
+        if token.is_none() {
             return;
         }
-        tokens[k] = token;
+        tokens[k] = token.0;
         k += 1;
     }
 }

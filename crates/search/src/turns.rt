@@ -1,28 +1,34 @@
-// A node's turn at a frame: what its last state holds is passed on to its successors, and then its own states are renewed. The table
-// `firsts` has each node's first slot in the store.
+// A node's turn at a frame: what its last state holds is passed on to its successors, and then its own states are
+// renewed. At the first frame the root's token is passed on instead, which has no place in the store.
 ghost use mathlib.Core.Path.{_≡_};
-ghost use mathlib.Core.Bool.{false};
-ghost use Prim.Native.Nat.{ℕ, suc, _+_, _*_, _≤_, _<_};
-ghost use lib.Dec.{eqb};
-ghost use lib.ListN.{length, getD};
+ghost use mathlib.Core.Bool.{true, false};
+ghost use Prim.Native.Nat.{suc, _+_, _*_, _≤_};
+ghost use lib.ListN.{length};
 ghost use Rattle.endian.specs.Bytes.{u16};
-ghost use Rattle.lexicon.specs.Lexicon.{nodeCount};
 ghost use Rattle.graph.specs.Graph.{graphOf};
-ghost use Rattle.search.specs.Slots.{Changed};
-ghost use Rattle.search.specs.Held.{held};
-ghost use Rattle.search.specs.Stored.{Stored, source, PassingOn, PassedOn, Turn, TurnDone};
-ghost use Rattle.search.specs.Carrying.{Staying, Offering, Arc, Own, Renewing, Renewal, stayed, joined, overOne, renewedOne, renewedAll, renewal};
+ghost use Rattle.decoder.specs.Score.{bias};
+ghost use Rattle.search.specs.Slots.{slots};
+ghost use Rattle.search.specs.Held.{lift, held};
+ghost use Rattle.search.specs.Stored.{Stored, PassingOn, PassedOn, Turn, TurnDone};
+ghost use Rattle.search.specs.Carrying.{Staying, Arc, Own, Renewing, Renewal, stayed, overOne, renewedOne, renewedAll, renewal};
+use crate::gains::ENTRY;
 use crate::gains::gain;
-use crate::parts::clear_at;
-use crate::parts::offer_at;
+use crate::letters::LOOP;
+use crate::letters::STEP;
 use crate::parts::offer_from;
-use crate::parts::shift_at;
+use crate::places::NO_PLACE;
+use crate::store::clear_place;
+use crate::store::insert;
+use crate::store::shift;
 use crate::tokens::LIFT;
+use crate::tokens::Token;
+use crate::tokens::UNIT;
 use crate::tokens::token_at;
+use checking::ARCS_AT;
+use checking::FIRST_SLOT;
+use checking::PATHS;
+use decoder::score::Score;
 use endian::u16_of;
-
-// The root's token: score 0 and code 0.
-const ROOT: u64 = 576460756598390783;
 
 // The number at an offset inside the image.
 fn number_at(lexicon: &[u8], at: usize) -> usize
@@ -32,133 +38,140 @@ fn number_at(lexicon: &[u8], at: usize) -> usize
     u16_of(lexicon[at], lexicon[at + 1]) as usize
 }
 
-// Offers the tokens of a vertex to a place, unless the move is impossible: the root's, which has no place of its own, or those of an earlier place.
-fn pass_to(store: &mut [u8], n: usize, root: bool, from: usize, slot: usize, gain: u32, down: u64)
-    requires { ⌜ Offering n slot gain down (source root n from (now store)) (now store) × (root ≡ false → from + n ≤ slot) ⌝ }
-    ensures { λ _. ⌜ ((t : Offering n slot gain down (source root n from (now (store .entry))) (now (store .entry))) → Changed slot n (held n (joined t)) (now (store .entry)) (now (store .exit))) ⌝ }
-{
-    if gain == 0 {
-        return;
-    }
-    let up = gain as u64 * 4294967296;
-    if root {
-        let tokens = [ROOT, 0, 0, 0, 0, 0, 0, 0];
-        offer_at(store, n, slot, &tokens, up, down);
-        return;
-    }
-    offer_from(store, n, from, slot, up, down);
-}
-
-// Passes the tokens on over one arc, to node t; the sink has no place.
+// Passes tokens on over one arc, to vertex t: the link of the letter that is left, and the emission of the one entered.
 fn pass_over(
     lexicon: &[u8],
     n: usize,
-    nodes: usize,
-    firsts: &[u16; 402],
+    vertices: &[[u32; 3]; 402],
     gains: &[[u32; 8]; 64],
-    link: u32,
-    root: bool,
+    link: Score,
     from: usize,
     t: usize,
     down: u64,
     store: &mut [u8],
 )
-    requires { ⌜ Arc (now lexicon) n nodes (now firsts) (now gains) link root from t down (now store) ⌝ }
-    ensures { λ _. ⌜ ((a : Arc (now (lexicon .entry)) n nodes (now (firsts .entry)) (now (gains .entry)) link root from t down (now (store .entry))) → Stored (a .passing-on .v) (graphOf (now (lexicon .entry))) n (overOne a) (now (store .exit))) ⌝ }
-    ensures { λ _. ⌜ source root n from (now (store .exit)) ≡ source root n from (now (store .entry)) ⌝ }
+    requires { ⌜ Arc (now lexicon) n (now vertices) (now gains) (link .0) false from t down (now store) ⌝ }
+    ensures { λ _. ⌜ ((a : Arc (now (lexicon .entry)) n (now (vertices .entry)) (now (gains .entry)) (link .0) false from t down (now (store .entry))) → Stored (a .passing-on .v) (graphOf (now (lexicon .entry))) n (overOne a) (now (store .exit))) ⌝ }
+    ensures { λ _. ⌜ slots n from (now (store .exit)) ≡ slots n from (now (store .entry)) ⌝ }
 {
-    if nodes < t {
+    let slot = vertices[t][FIRST_SLOT];
+    if slot == NO_PLACE {
         return;
     }
     let letter = lexicon[1 + t] as usize;
-    let up = gain(link, gains[letter][4]);
-    pass_to(store, n, root, from, firsts[t] as usize, up, down);
-}
-
-// A vertex without tokens; the root has one.
-fn is_empty(store: &[u8], root: bool, from: usize) -> bool
-    requires { ⌜ (root ≡ false → 8 * from + 8 ≤ length (now store)) ⌝ }
-    ensures { λ r. ⌜ ((n : ℕ) → 0 < n → r ≡ eqb (getD (source root n from (now (store .entry))) 0 0) 0) ⌝ }
-{
-    if root {
-        return false;
+    let score = gain(link, Score(gains[letter][ENTRY]));
+    if score.is_impossible() {
+        return;
     }
-    token_at(store, from) == 0
+    offer_from(store, n, from, slot as usize, score.0 as u64 * UNIT, down);
 }
 
-// Passes the tokens of a vertex, which a node has from a slot on, on to the first state of each node that it leads to.
-pub(crate) fn pass_on(
+// Passes the tokens of a node, which it has from a slot on, on to the first state of each node that it leads to.
+fn pass_on(
     lexicon: &[u8],
     n: usize,
-    nodes: usize,
-    lists: &[u16; 402],
-    counts: &[u32; 402],
-    firsts: &[u16; 402],
+    vertices: &[[u32; 3]; 402],
     gains: &[[u32; 8]; 64],
-    link: u32,
-    vertex: usize,
-    root: bool,
+    link: Score,
+    node: usize,
     from: usize,
     store: &mut [u8],
 )
-    requires { ⌜ PassingOn (now lexicon) n (now lists) (now counts) (now firsts) (now gains) link vertex root from (now store) ⌝ }
-    requires { ⌜ nodes ≡ nodeCount (now lexicon) ⌝ }
-    ensures { λ _. ⌜ ((t : PassingOn (now (lexicon .entry)) n (now (lists .entry)) (now (counts .entry)) (now (firsts .entry)) (now (gains .entry)) link vertex root from (now (store .entry))) → PassedOn t (now (store .exit))) ⌝ }
+    requires { ⌜ PassingOn (now lexicon) n (now vertices) (now gains) (link .0) node false from (now store) ⌝ }
+    ensures { λ _. ⌜ ((t : PassingOn (now (lexicon .entry)) n (now (vertices .entry)) (now (gains .entry)) (link .0) node false from (now (store .entry))) → PassedOn t (now (store .exit))) ⌝ }
 {
-    if is_empty(&store[..], root, from) {
+    let best = token_at(store, from);
+    if best.is_none() {
         return;
     }
-    let start = lists[vertex] as usize;
+    let start = vertices[node][ARCS_AT] as usize;
     let stop = start + 2 + 2 * number_at(lexicon, start);
     let mut at = start + 2;
     let mut down = LIFT;
     while at < stop {
         let t = number_at(lexicon, at);
-        pass_over(
-            lexicon,
-            n,
-            nodes,
-            firsts,
-            gains,
-            link,
-            root,
-            from,
-            t,
-            down,
-            store,
-        );
-        down += counts[t] as u64;
+        pass_over(lexicon, n, vertices, gains, link, from, t, down, store);
+        down += vertices[t][PATHS] as u64;
+        at += 2;
+    }
+}
+
+// The root's token enters node t over the arc of that increment: its score is the emission alone.
+fn enter_node(
+    lexicon: &[u8],
+    n: usize,
+    vertices: &[[u32; 3]; 402],
+    gains: &[[u32; 8]; 64],
+    t: usize,
+    increment: u32,
+    store: &mut [u8],
+)
+    requires { ⌜ Arc (now lexicon) n (now vertices) (now gains) bias true 0 t (lift + increment) (now store) ⌝ }
+    ensures { λ _. ⌜ ((a : Arc (now (lexicon .entry)) n (now (vertices .entry)) (now (gains .entry)) bias true 0 t (lift + increment) (now (store .entry))) → Stored (a .passing-on .v) (graphOf (now (lexicon .entry))) n (overOne a) (now (store .exit))) ⌝ }
+{
+    let letter = lexicon[1 + t] as usize;
+    let score = Score(gains[letter][ENTRY]);
+    if score.is_impossible() {
+        return;
+    }
+    let start = 8 * (vertices[t][FIRST_SLOT] as usize);
+    let end = start + 8 * n;
+    insert(&mut store[start..end], n, Token::of(score, increment));
+}
+
+// The root's token enters the first state of each node that the root leads to.
+pub(crate) fn enter_nodes(
+    lexicon: &[u8],
+    n: usize,
+    vertices: &[[u32; 3]; 402],
+    gains: &[[u32; 8]; 64],
+    store: &mut [u8],
+)
+    requires { ⌜ PassingOn (now lexicon) n (now vertices) (now gains) bias 0 true 0 (now store) ⌝ }
+    ensures { λ _. ⌜ ((t : PassingOn (now (lexicon .entry)) n (now (vertices .entry)) (now (gains .entry)) bias 0 true 0 (now (store .entry))) → PassedOn t (now (store .exit))) ⌝ }
+{
+    let start = vertices[0][ARCS_AT] as usize;
+    let stop = start + 2 + 2 * number_at(lexicon, start);
+    let mut at = start + 2;
+    let mut increment = 0;
+    while at < stop {
+        let t = number_at(lexicon, at);
+        enter_node(lexicon, n, vertices, gains, t, increment, store);
+        increment += vertices[t][PATHS];
         at += 2;
     }
 }
 
 // The tokens of a place move by its loop.
-fn stay(store: &mut [u8], n: usize, slot: usize, gain: u32)
-    requires { ⌜ Staying n slot gain (now store) ⌝ }
-    ensures { λ _. ⌜ ((t : Staying n slot gain (now (store .entry))) → Changed slot n (held n (stayed t)) (now (store .entry)) (now (store .exit))) ⌝ }
+fn stay(place: &mut [u8], n: usize, score: Score)
+    requires { ⌜ Staying n 0 (score .0) (now place) ⌝ }
+    ensures { λ _. ⌜ ((t : Staying n 0 (score .0) (now (place .entry))) → slots n 0 (now (place .exit)) ≡ held n (stayed t)) ⌝ }
 {
-    if gain == 0 {
-        clear_at(store, n, slot);
+    if score.is_impossible() {
+        clear_place(place, n);
         return;
     }
-    shift_at(store, n, slot, gain as u64 * 4294967296, LIFT);
+    shift(place, n, score.0 as u64 * UNIT, LIFT);
 }
 
-// Renews state s in a node's part of the store: by its loop, and by the step from the state before, whose tokens are still old.
+// Renews state s in a node's part of the store: by its loop, and by the step from the state before, whose tokens are
+// still old.
 fn renew_state(part: &mut [u8], n: usize, s: usize, row: &[u32; 8])
     requires { ⌜ Renewing n (suc s) (now row) (now part) ⌝ }
     ensures { λ _. ⌜ ((t : Renewing n (suc s) (now (row .entry)) (now (part .entry))) → Own n (t .S) (renewedOne t (t .node)) (now (part .exit))) ⌝ }
 {
     let slot = n * s;
-    stay(part, n, slot, row[s]);
+    let start = 8 * slot;
+    let end = start + 8 * n;
+    stay(&mut part[start..end], n, Score(row[LOOP + s]));
     if s == 0 {
         return;
     }
-    let gain = row[4 + s];
-    if gain == 0 {
+    let score = Score(row[STEP + s]);
+    if score.is_impossible() {
         return;
     }
-    offer_from(part, n, slot - n, slot, gain as u64 * 4294967296, LIFT);
+    offer_from(part, n, slot - n, slot, score.0 as u64 * UNIT, LIFT);
 }
 
 // Renews the states in a node's part of the store, from the last to the first.
@@ -183,42 +196,24 @@ fn renew_node(store: &mut [u8], n: usize, first: usize, states: usize, row: &[u3
     renew(&mut store[start..end], n, states, row);
 }
 
-// The turn of a node.
-pub(crate) fn pass_node(
+// The turn of a node. Its successors get its old tokens, so it passes them on first.
+pub(crate) fn take_turn(
     voice: &[u8],
     lexicon: &[u8],
     n: usize,
-    nodes: usize,
-    lists: &[u16; 402],
-    counts: &[u32; 402],
-    firsts: &[u16; 402],
+    vertices: &[[u32; 3]; 402],
     gains: &[[u32; 8]; 64],
-    link: u32,
+    link: Score,
     node: usize,
     store: &mut [u8],
 )
-    requires { ⌜ Turn (now voice) (now lexicon) n (now lists) (now counts) (now firsts) (now gains) link node (now store) ⌝ }
-    requires { ⌜ nodes ≡ nodeCount (now lexicon) ⌝ }
-    ensures { λ _. ⌜ ((t : Turn (now (voice .entry)) (now (lexicon .entry)) n (now (lists .entry)) (now (counts .entry)) (now (firsts .entry)) (now (gains .entry)) link node (now (store .entry))) → TurnDone t (now (store .exit))) ⌝ }
+    requires { ⌜ Turn (now voice) (now lexicon) n (now vertices) (now gains) (link .0) node (now store) ⌝ }
+    ensures { λ _. ⌜ ((t : Turn (now (voice .entry)) (now (lexicon .entry)) n (now (vertices .entry)) (now (gains .entry)) (link .0) node (now (store .entry))) → TurnDone t (now (store .exit))) ⌝ }
 {
     let letter = lexicon[1 + node] as usize;
     let states = voice[2 + 2 * letter] as usize;
-    let first = firsts[node] as usize;
-    // its successors get its old tokens, so it passes them on first
+    let first = vertices[node][FIRST_SLOT] as usize;
     let last = first + n * (states - 1);
-    pass_on(
-        lexicon,
-        n,
-        nodes,
-        lists,
-        counts,
-        firsts,
-        gains,
-        link,
-        node,
-        false,
-        last,
-        store,
-    );
+    pass_on(lexicon, n, vertices, gains, link, node, last, store);
     renew_node(store, n, first, states, &gains[letter]);
 }

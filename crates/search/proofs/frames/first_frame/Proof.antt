@@ -4,13 +4,13 @@ use borrow.Author.Needs.{needs}
 use lib.ListN.{getD}
 use Rattle.voice.proofs.Scores.{symbols-few}
 use Rattle.lexicon.specs.Lexicon.{nodeCount}
-use Rattle.search.specs.Gains.{EntryGains, Hearing}
+use Rattle.search.specs.Gains.{EntryGains, KnownSymbol}
 use Rattle.search.proofs.Filling.{entry-gains}
 use Rattle.search.proofs.Running.{frame-count, hearing, root-passing, root-stored}
 use Rattle.search.proofs.frames.first_frame.Statement.{statement}
 use Rattle.search.proofs.frames.first_frame.Tie as tie
 
-symbol : (c : tie.Start) → Hearing (c .args .voice .now) (getD (c .args .frames .now) 0 0)
+symbol : (c : tie.Start) → KnownSymbol (c .args .voice .now) (getD (c .args .frames .now) 0 0)
 symbol c = let r = c .pre .0 in hearing r 0 (omega (arith, frame-count _ _ (r .heard)))
 
 frame-gains-requires : tie.Need-frame-gains-requires

@@ -7,7 +7,7 @@ use borrow.Author.Needs.{needs}
 use lib.ListN.{length, getD}
 use Rattle.voice.proofs.Scores.{symbols-few}
 use Rattle.lexicon.specs.Lexicon.{nodeCount}
-use Rattle.search.specs.Gains.{Gained, MoveGains, EntryGains, Hearing}
+use Rattle.search.specs.Gains.{Gained, MoveGains, EntryGains, KnownSymbol}
 use Rattle.search.proofs.Filling.{move-gains, entry-gains}
 use Rattle.search.proofs.Running.{frame-count, hearing, TurnsLeft, turns-start, turn-next, turns-next, turns-done}
 use Rattle.search.proofs.frames.next_frame.Statement.{statement}
@@ -26,7 +26,7 @@ few c = omega (arith, c .pre .1 .0 .1)
 most : (c : tie.Start Inv-loop μ-loop) → length (c .args .frames .now) ≤ 1000
 most c = frame-count _ _ (c .pre .0 .heard) .1
 
-symbol : (c : tie.Start Inv-loop μ-loop) → Hearing (c .args .voice .now) (getD (c .args .frames .now) (c .args .t + 1) 0)
+symbol : (c : tie.Start Inv-loop μ-loop) → KnownSymbol (c .args .voice .now) (getD (c .args .frames .now) (c .args .t + 1) 0)
 symbol c = hearing (c .pre .0) (c .args .t + 1) (few c)
 
 hear-requires : tie.Need-hear-requires Inv-loop μ-loop

@@ -5,7 +5,7 @@ use mathlib.Core.Path.{ap, _∙_}
 use native.Mathlib.Omega.{arith}
 use borrow.Author.Needs.{needs}
 use borrow.Rule.Slice.PartMut.{same-len-mid, mid-len}
-use Rattle.search.specs.Slots.{enter, Room, Bears}
+use Rattle.search.specs.Slots.{enter, PlaceRoom, MoveFits}
 use Rattle.search.proofs.Lending.{part-size, part-slots, part-room, part-back, FromLeft, from-start, from-none, from-bears, from-late, from-next, from-done}
 use Rattle.search.proofs.parts.offer_from.Statement.{statement}
 use Rattle.search.proofs.parts.offer_from.Tie as tie
@@ -29,7 +29,7 @@ returns c =
 
 -- a token that is there bears the move
 bears : (c : tie.Else1 Inv-loop μ-loop)
-    → let a = c .before .before .before .before .before .before .args in Bears (a .up) (a .down) (c .before .token-at .result)
+    → let a = c .before .before .before .before .before .before .args in MoveFits (a .up) (a .down) (c .before .token-at .result)
 bears c =
     let t = c .before in
     let e = t .before .before in
@@ -37,10 +37,10 @@ bears c =
     from-bears (p .0) (p .1) (e .before .loop .inv) (e .loop-test .taken) (t .token-at .ensures) (c .if1 .left)
 
 -- the place is still there
-there : (c : tie.In-loop Inv-loop μ-loop) → let a = c .before .before .before .args in Room (a .n) (a .slot) (c .before .loop .store)
+there : (c : tie.In-loop Inv-loop μ-loop) → let a = c .before .before .before .args in PlaceRoom (a .n) (a .slot) (c .before .loop .store)
 there c =
     let r = c .before .before .before .pre .1 .room in
-    record { some = r .some; few = r .few; room = rw (c .before .loop .inv .long) (r .room) }
+    record { one = r .one; few = r .few; room = rw (c .before .loop .inv .long) (r .room) }
 
 returns-2 : tie.Need-returns-2 Inv-loop μ-loop
 returns-2 c =

@@ -6,7 +6,7 @@ use mathlib.Core.Path.{_≡_, refl, ap, sym, _∙_}
 use native.Mathlib.Omega.{arith}
 use borrow.Author.Needs.{needs}
 use lib.ListN.{length, getD, take, drop}
-use Rattle.search.specs.Slots.{slots, offered, Bears, Falling}
+use Rattle.search.specs.Slots.{slots, offered, MoveFits, Falling}
 use Rattle.search.proofs.Falling.{falling-enter}
 use Rattle.search.proofs.Moving.{from-holds, offered-ends, offered-goes, offered-late, offered-done}
 use Rattle.search.proofs.store.offer.Statement.{statement}
@@ -34,7 +34,7 @@ returns c =
 
 -- a token that is there bears the move
 bears : (c : tie.Else1 Inv-loop μ-loop)
-    → let a = c .before .before .before .before .before .args in Bears (a .up) (a .down) (getD (a .from .now) (c .before .before .before .loop .i) 0)
+    → let a = c .before .before .before .before .before .args in MoveFits (a .up) (a .down) (getD (a .from .now) (c .before .before .before .loop .i) 0)
 bears c =
     let e = c .before .before in
     let s = e .before .before .before in

@@ -6,7 +6,7 @@ use mathlib.Core.List.{_++_}
 use native.Mathlib.Omega.{arith}
 use borrow.Author.Needs.{needs}
 use lib.ListN.{length}
-use Rattle.search.specs.Slots.{tokenAt, slots, shifted, Bears}
+use Rattle.search.specs.Slots.{tokenAt, slots, shifted, MoveFits}
 use Rattle.search.proofs.Moving.{slots-hold, shifted-start, shifted-ends, shifted-goes, shifted-done}
 use Rattle.search.proofs.store.shift.Statement.{statement}
 use Rattle.search.proofs.store.shift.Tie as tie
@@ -32,7 +32,7 @@ returns c =
 
 -- a token that is there bears the move
 bears : (c : tie.Else1 Inv-loop μ-loop)
-    → let a = c .before .before .before .before .before .before .args in Bears (a .up) (a .down) (c .before .token-at .result)
+    → let a = c .before .before .before .before .before .before .args in MoveFits (a .up) (a .down) (c .before .token-at .result)
 bears c =
     let t = c .before in
     let l = t .before .before .before .loop in

@@ -26,7 +26,7 @@ begin c = c .before .before .before .before
 -- whether the vertex has tokens
 tested : (c : tie.After-is-empty Inv-loop μ-loop) →
     let a = begin c .args in c .is-empty .result ≡ eqb (getD (source (a .root) (a .n) (a .from) (a .store .now)) 0 0) 0
-tested c = c .is-empty .ensures (begin c .args .n) (begin c .pre .0 .roomy .some)
+tested c = c .is-empty .ensures (begin c .args .n) (begin c .pre .0 .roomy .one)
 
 returns : tie.Need-returns Inv-loop μ-loop
 returns c = λ t. passing-nothing t (eqb-true _ _ (sym (tested (c .before)) ∙ c .if1 .taken))

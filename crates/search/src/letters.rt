@@ -1,46 +1,37 @@
-// What is read once a call: the letters that some node has, and the scores of their moves, raised by 32,768 so that a sum of two has no sign.
-// The table of scores has a row for each letter in use: entry s for the loop of state s, entry 4 + s for the step into it, where 0 is an impossible
-// one; then the letter's index and the number of its first state.
+// What is read once a call: a table of the letters that some node has, a row each, with the scores of the letter's moves
+// as `Score`s' numbers, its index, and the number of its first state.
 ghost use mathlib.Core.Path.{_≡_};
 ghost use mathlib.Core.Bool.{true, cond};
 ghost use mathlib.Core.List.{[], _∷_};
 ghost use Prim.Native.Nat.{ℕ, _+_, _-_, _≤_, _<_};
-ghost use lib.ListN.{length, getD};
+ghost use lib.ListN.{length};
 ghost use Rattle.endian.specs.Bytes.{i16};
 ghost use Rattle.voice.specs.Fields.{wellFormed};
 ghost use Rattle.voice.specs.Voice.{letterCount, linkScore, stateCount, symbolsAt, impossible, voiceVerdict};
 ghost use Rattle.lexicon.specs.Lexicon.{nodeCount, nodeLetter, lexiconVerdict};
 ghost use Rattle.checking.specs.Tables.{WellFormed};
-ghost use Rattle.decoder.specs.Score.{possible};
-ghost use Rattle.search.specs.Gains.{raisedOf, letterPairs, pairScore, StoredPairs, LettersMarked, Letters, InUse, Begins, ScoreRow, ScoreRows, AtLetter, StatePut};
+ghost use Rattle.search.specs.Gains.{letterPairs, pairScore, StoredPairs, LettersMarked, AtLetter, LetterRow, NodeLetters, StatePut, letterIn};
 use decoder::score::STORED_IMPOSSIBLE;
 use decoder::score::Score;
 use endian::i16_of;
 use endian::u16_at;
 
-// The bias of a score, less 2^15.
-const BASE: u32 = 134184960;
+// Columns: of the loop of state s, LOOP + s; of the step into it, STEP + s; then the letter's index and first state.
+pub(crate) const LOOP: usize = 0;
 
-// A stored score raised by 32,768, and 0 where it is impossible.
-pub(crate) fn raise(stored: i16) -> u32
-    ensures { λ r. ⌜ r ≡ raisedOf (possible stored) ⌝ }
-{
-    // -32,768 raised is 0 as well: tested here, the compiler makes both cases one sum
-    if stored == STORED_IMPOSSIBLE {
-        let none = Score::IMPOSSIBLE;
-        return none.0;
-    }
-    let score = Score::from_stored(stored);
-    score.0 - BASE
-}
+pub(crate) const STEP: usize = 4;
 
-// The move scorer: of one letter's pairs, the raised loop (0) or step (1) of a state.
-fn move_score(pairs: [[i16; 2]; 4], state: usize, which: usize) -> u32
+pub(crate) const LETTER: usize = 8;
+
+pub(crate) const FIRST_STATE: usize = 9;
+
+// The move scorer: of one letter's pairs, the loop (0) or step (1) of a state.
+fn move_score(pairs: [[i16; 2]; 4], state: usize, which: usize) -> Score
     requires { ⌜ (state < 4) × (which < 2) ⌝ }
     requires { ⌜ StoredPairs pairs ⌝ }
-    ensures { λ r. ⌜ r ≡ pairScore pairs state which ⌝ }
+    ensures { λ r. ⌜ r .0 ≡ pairScore pairs state which ⌝ }
 {
-    raise(pairs[state][which])
+    Score::from_stored(pairs[state][which])
 }
 
 // The score at an offset inside the voice model.
@@ -108,59 +99,24 @@ fn mark_letters(lexicon: &[u8], marks: &mut [bool; 64])
     }
 }
 
-// The letters in use, in rising order; answers how many.
-pub(crate) fn letters_in_use(voice: &[u8], lexicon: &[u8], letters: &mut [u8; 64]) -> usize
-    requires { ⌜ (voiceVerdict (now voice) ≡ wellFormed) × (lexiconVerdict (letterCount (now voice)) (now lexicon) ≡ wellFormed) ⌝ }
-    requires { ⌜ length (now letters) ≡ 64 ⌝ }
-    ensures { λ r. ⌜ InUse (now (voice .entry)) (now (lexicon .entry)) (now (letters .exit)) r ⌝ }
-{
-    let mut marks = [false; 64];
-    mark_letters(lexicon, &mut marks);
-    let count = voice[0] as usize;
-    let mut used = 0;
-    let mut letter = 0;
-    while letter < count {
-        if marks[letter] {
-            letters[used] = letter as u8;
-            used += 1;
-        }
-        letter += 1;
-    }
-    used
-}
-
-// The number of each letter's first state.
-pub(crate) fn letter_begins(voice: &[u8], begins: &mut [u16; 64])
-    requires { ⌜ voiceVerdict (now voice) ≡ wellFormed ⌝ }
-    requires { ⌜ length (now begins) ≡ 64 ⌝ }
-    ensures { λ _. ⌜ Begins (now (voice .entry)) (now (begins .exit)) ⌝ }
-{
-    let letters = voice[0] as usize;
-    let mut first: usize = 0;
-    let mut letter = 0;
-    while letter < letters {
-        begins[letter] = first as u16;
-        first += voice[2 + 2 * letter] as usize;
-        letter += 1;
-    }
-}
-
-// One state's raised scores: of its loop, and of the step from the state before it.
+// Puts one state's scores: of its loop, and of the step from the state before it.
 fn state_scores(pairs: [[i16; 2]; 4], s: usize, row: &mut [u32; 10])
     requires { ⌜ (s < 4) × (8 ≤ length (now row)) ⌝ }
     requires { ⌜ StoredPairs pairs ⌝ }
     ensures { λ _. ⌜ StatePut (now (row .entry)) s (pairScore pairs s 0) (pairScore pairs (s - 1) 1) (now (row .exit)) ⌝ }
 {
-    row[s] = move_score(pairs, s, 0);
+    let stay = move_score(pairs, s, 0);
+    row[LOOP + s] = stay.0;
     if 0 < s {
-        row[4 + s] = move_score(pairs, s - 1, 1);
+        let step = move_score(pairs, s - 1, 1);
+        row[STEP + s] = step.0;
     }
 }
 
-// The raised scores of one letter, whose states begin with number `first`.
-fn letter_scores(voice: &[u8], letter: usize, first: u16) -> [u32; 10]
+// The row of one letter, whose states begin with number `first`.
+fn letter_row(voice: &[u8], letter: usize, first: u16) -> [u32; 10]
     requires { ⌜ AtLetter (now voice) letter first ⌝ }
-    ensures { λ r. ⌜ ScoreRow (now (voice .entry)) r × (getD r 8 0 ≡ letter) ⌝ }
+    ensures { λ r. ⌜ LetterRow (now (voice .entry)) r × (letterIn r ≡ letter) ⌝ }
 {
     let states = voice[2 + 2 * letter] as usize;
     let pairs = letter_pairs(voice, first as usize, states);
@@ -173,23 +129,25 @@ fn letter_scores(voice: &[u8], letter: usize, first: u16) -> [u32; 10]
     row
 }
 
-// The raised scores of the letters in use.
-pub(crate) fn raised_scores(
-    voice: &[u8],
-    letters: &[u8; 64],
-    used: usize,
-    begins: &[u16; 64],
-    scores: &mut [[u32; 10]; 64],
-)
-    requires { ⌜ voiceVerdict (now voice) ≡ wellFormed ⌝ }
-    requires { ⌜ Letters (now voice) (now letters) used × Begins (now voice) (now begins) ⌝ }
-    requires { ⌜ length (now scores) ≡ 64 ⌝ }
-    ensures { λ _. ⌜ ScoreRows (now (voice .entry)) (now (letters .entry)) used (now (scores .exit)) ⌝ }
+// Fills the table with the letters in use, in rising order; answers how many.
+pub(crate) fn letter_table(voice: &[u8], lexicon: &[u8], letters: &mut [[u32; 10]; 64]) -> usize
+    requires { ⌜ (voiceVerdict (now voice) ≡ wellFormed) × (lexiconVerdict (letterCount (now voice)) (now lexicon) ≡ wellFormed) ⌝ }
+    requires { ⌜ length (now letters) ≡ 64 ⌝ }
+    ensures { λ r. ⌜ NodeLetters (now (voice .entry)) (now (lexicon .entry)) r (now (letters .exit)) ⌝ }
 {
-    let mut i = 0;
-    while i < used {
-        let letter = letters[i] as usize;
-        scores[i] = letter_scores(voice, letter, begins[letter]);
-        i += 1;
+    let mut marks = [false; 64];
+    mark_letters(lexicon, &mut marks);
+    let count = voice[0] as usize;
+    let mut used = 0;
+    let mut first: u16 = 0;
+    let mut letter = 0;
+    while letter < count {
+        if marks[letter] {
+            letters[used] = letter_row(voice, letter, first);
+            used += 1;
+        }
+        first += voice[2 + 2 * letter] as u16;
+        letter += 1;
     }
+    used
 }
