@@ -10,7 +10,7 @@ use Rattle.lexicon.proofs.Shape.{Shape, shape, arcs-next}
 use Rattle.lexicon.proofs.Readers.{length-successors}
 use Rattle.graph.specs.Graph.{graphOf, sink}
 use Rattle.graph.proofs.Sound.{Sound, sound}
-use Rattle.checking.specs.Tables.{WellFormed, Listed}
+use Rattle.checking.specs.Tables.{WellFormed, WithOffsets}
 use Rattle.checking.proofs.Tables.{entry}
 
 pub shape-of : {x : List ℕ} → WellFormed x → Shape x
@@ -38,17 +38,17 @@ pub has-entry : {x : List ℕ} → WellFormed x → {u : ℕ} → u ≤ sinkOf x
 unfolding sinkOf
 has-entry w h = omega (arith, shape-of w .few)
 
--- and by the table of the lists its own is found
-module _ {x lists : List ℕ} (l : Listed x lists) {u : ℕ} (h : u ≤ nodeCount x) where
-  pub list-entry : getD lists u 0 ≡ arcsAt x u
+-- and by the table of offsets its own list is found
+module _ {x offsets : List ℕ} (l : WithOffsets x offsets) {u : ℕ} (h : u ≤ nodeCount x) where
+  pub list-entry : getD offsets u 0 ≡ arcsAt x u
   unfolding sinkOf
   list-entry = entry (l .table) (omega arith)
 
-  pub list-at : ListThere x (getD lists u 0)
+  pub list-at : ListThere x (getD offsets u 0)
   list-at = list-there (l .well-formed) h list-entry
 
 -- the offset stands before the last arcs of u's list, which ends at stop
-pub record ArcsLeft (x : List ℕ) (u at stop : ℕ) (left : List ℕ) : Type 0 where
+pub record ArcsToRead (x : List ℕ) (u at stop : ℕ) (left : List ℕ) : Type 0 where
   pub read : u16s x at (length left) ≡ left
   pub size : stop ≡ at + 2 * length left
   pub there : stop ≤ length x
@@ -57,7 +57,7 @@ pub record ArcsLeft (x : List ℕ) (u at stop : ℕ) (left : List ℕ) : Type 0 
 
 -- at the list's first arc, all are left
 pub arcs-start : {x : List ℕ} → WellFormed x → {u at : ℕ} → u ≤ nodeCount x → at ≡ arcsAt x u
-    → ArcsLeft x u (at + 2) (at + 2 + 2 * u16 x at) (successors x u)
+    → ArcsToRead x u (at + 2) (at + 2 + 2 * u16 x at) (successors x u)
 unfolding sinkOf sink arcCount successors
 arcs-start {x} w {u} {at} h e = rw e (record {
   read = rw (length-successors x u) refl;
@@ -73,13 +73,13 @@ pub record ArcNext (x : List ℕ) (u at stop : ℕ) (left : List ℕ) : Type 0 w
   pub rises : u < u16 x at
   pub bounded : u16 x at ≤ sinkOf x
   pub room : at + 2 ≤ stop
-  pub after : ArcsLeft x u (at + 2) stop others
+  pub after : ArcsToRead x u (at + 2) stop others
 
-pub arc-next : {x : List ℕ} {u at stop : ℕ} {left : List ℕ} → ArcsLeft x u at stop left → at < stop → ArcNext x u at stop left
+pub arc-next : {x : List ℕ} {u at stop : ℕ} {left : List ℕ} → ArcsToRead x u at stop left → at < stop → ArcNext x u at stop left
 unfolding u16s
 arc-next {x} {u} {at} {stop} {left} a h = go left a
   where
-    go : (left : List ℕ) → ArcsLeft x u at stop left → ArcNext x u at stop left
+    go : (left : List ℕ) → ArcsToRead x u at stop left → ArcNext x u at stop left
     go [] a = absurd (omega (arith, a .size))
     go (s ∷ l) a =
         let e : u16 x at ≡ s = let r = a .read in cc in
@@ -95,6 +95,6 @@ arc-next {x} {u} {at} {stop} {left} a h = go left a
         }
 
 -- at its end none is left
-pub arcs-done : {x : List ℕ} {u at stop : ℕ} {left : List ℕ} → ArcsLeft x u at stop left → stop ≤ at → left ≡ []
+pub arcs-done : {x : List ℕ} {u at stop : ℕ} {left : List ℕ} → ArcsToRead x u at stop left → stop ≤ at → left ≡ []
 arcs-done {left = []} a h = refl
 arcs-done {left = s ∷ l} a h = absurd (omega (arith, a .size))

@@ -10,7 +10,7 @@ use Rattle.lexicon.specs.Lexicon.{nodeCount, sinkOf, arcsAt}
 use Rattle.graph.specs.Graph.{graphOf, sink, pathCount}
 use Rattle.graph.proofs.Codes.{pathCount-sink, pathCount-below}
 use Rattle.checking.specs.Tables.{WellFormed, cappedCount}
-use Rattle.checking.proofs.Arcs.{ArcsLeft, arcs-start, ArcNext, arcs-done, sound-of}
+use Rattle.checking.proofs.Arcs.{ArcsToRead, arcs-start, ArcNext, arcs-done, sound-of}
 
 -- a summand may be capped, and so may a part of the sum
 min-sum : (a b c l : ℕ) → min (min (a + min b l) l + c) l ≡ min (a + (b + c)) l
@@ -19,7 +19,7 @@ min-sum a b c l = omega arith
 -- some successors are left, and with their counts the sum so far is the vertex's count
 pub record CountLeft (x : List ℕ) (u at stop so-far : ℕ) : Type 0 where
   pub left : List ℕ
-  pub arcs : ArcsLeft x u at stop left
+  pub arcs : ArcsToRead x u at stop left
   pub low : so-far ≤ suc mostWords
   pub rest : min (so-far + sum (map (pathCount (graphOf x)) left)) (suc mostWords) ≡ cappedCount (graphOf x) u
 

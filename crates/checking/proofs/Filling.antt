@@ -14,7 +14,7 @@ use Rattle.endian.specs.Bytes.{u16}
 use Rattle.endian.proofs.Lists.{getD-copies}
 use Rattle.lexicon.specs.Lexicon.{nodeCount, sinkOf, arcsAt}
 use Rattle.lexicon.proofs.Shape.{arcs-next}
-use Rattle.checking.specs.Tables.{TableOf, WellFormed, Listed}
+use Rattle.checking.specs.Tables.{TableOf, WellFormed, WithOffsets}
 use Rattle.checking.specs.Filling.{FilledFrom, AtVertex}
 use Rattle.checking.proofs.Arcs.{shape-of, ArcNext, ListThere, has-entry, list-entry, list-at}
 
@@ -62,23 +62,23 @@ filled-whole {n} {f} {table} t = record { long = t .long; holds = λ u. at u (lt
     at u false q = t .beyond u (ltb-false u n q)
 
 -- what is read at a vertex
-module _ {f : ℕ → ℕ} {x lists table : List ℕ} {u : ℕ} (v : AtVertex f x lists table u) where
+module _ {f : ℕ → ℕ} {x offsets table : List ℕ} {u : ℕ} (v : AtVertex f x offsets table u) where
   pub vertex-small : u ≤ 400
-  vertex-small = omega (arith, v .vertex, shape-of (v .listed .well-formed) .few)
+  vertex-small = omega (arith, v .vertex, shape-of (v .located .well-formed) .few)
 
   -- where its list begins
-  pub list-begins : getD lists u 0 ≡ arcsAt x u
-  list-begins = list-entry (v .listed) (v .vertex)
+  pub list-begins : getD offsets u 0 ≡ arcsAt x u
+  list-begins = list-entry (v .located) (v .vertex)
 
-  pub list-ends : ListThere x (getD lists u 0)
-  list-ends = list-at (v .listed) (v .vertex)
+  pub list-ends : ListThere x (getD offsets u 0)
+  list-ends = list-at (v .located) (v .vertex)
 
   -- the entry of a successor
   pub entry-above : {at stop s : ℕ} {left : List ℕ} → ArcNext x u at stop left → s ≡ u16 x at → getD table s 0 ≡ f (u16 x at)
   entry-above n e = rw e (v .above .filled _ (omega (arith, n .rises)) (omega (arith, n .bounded)))
 
   pub successor-small : {at stop s : ℕ} {left : List ℕ} → ArcNext x u at stop left → s ≡ u16 x at → s < 402
-  successor-small n e = rw e (has-entry (v .listed .well-formed) (n .bounded))
+  successor-small n e = rw e (has-entry (v .located .well-formed) (n .bounded))
 
 -- ---- vertex by vertex
 
@@ -96,28 +96,28 @@ unfolding sinkOf
 sink-small w = omega (arith, shape-of w .few)
 
 -- from vertex k on the table is filled, the sink included
-pub record Filling (f : ℕ → ℕ) (x table : List ℕ) (k : ℕ) : Type 0 where
+pub record FilledDownTo (f : ℕ → ℕ) (x table : List ℕ) (k : ℕ) : Type 0 where
   pub low : k ≤ sinkOf x
   pub entries : FilledFrom k (suc (sinkOf x)) f table
 
 pub filling-sink : {f : ℕ → ℕ} {x table : List ℕ} {k v : ℕ} → WellFormed x → table ≡ replicate 402 0 → k ≡ sinkOf x → v ≡ f (sinkOf x)
-    → Filling f x (set table k v) k
+    → FilledDownTo f x (set table k v) k
 filling-sink {f} {x} {table} {k} {v} w blank e h = record {
   low = omega arith;
   entries =
       filled-next {table = table} (rw (← blank) at (filled-none (suc (sinkOf x)) f)) (ap suc e) (rw e h) (omega arith) (omega (arith, sink-small w));
 }
 
-pub filling-blank : {f : ℕ → ℕ} {x : List ℕ} → f (sinkOf x) ≡ 0 → Filling f x (replicate 402 0) (sinkOf x)
+pub filling-blank : {f : ℕ → ℕ} {x : List ℕ} → f (sinkOf x) ≡ 0 → FilledDownTo f x (replicate 402 0) (sinkOf x)
 filling-blank {f} {x} h = record { low = omega arith; entries = filled-zero (filled-none (suc (sinkOf x)) f) refl h }
 
-pub filling-next : {f : ℕ → ℕ} {x lists table : List ℕ} {u v : ℕ} → AtVertex f x lists table u → v ≡ f u → Filling f x (set table u v) u
+pub filling-next : {f : ℕ → ℕ} {x offsets table : List ℕ} {u v : ℕ} → AtVertex f x offsets table u → v ≡ f u → FilledDownTo f x (set table u v) u
 unfolding sinkOf
 filling-next a h = record {
   low = omega (arith, a .vertex);
-  entries = filled-next (a .above) refl h (omega (arith, a .vertex)) (omega (arith, sink-small (a .listed .well-formed)));
+  entries = filled-next (a .above) refl h (omega (arith, a .vertex)) (omega (arith, sink-small (a .located .well-formed)));
 }
 
-pub vertex-next : {f : ℕ → ℕ} {x lists table : List ℕ} {k u : ℕ} → Listed x lists → Filling f x table k → suc u ≡ k → AtVertex f x lists table u
+pub vertex-next : {f : ℕ → ℕ} {x offsets table : List ℕ} {k u : ℕ} → WithOffsets x offsets → FilledDownTo f x table k → suc u ≡ k → AtVertex f x offsets table u
 unfolding sinkOf
-vertex-next l t e = record { listed = l; vertex = omega (arith, t .low); above = rw e (t .entries) }
+vertex-next l t e = record { located = l; vertex = omega (arith, t .low); above = rw e (t .entries) }

@@ -12,12 +12,12 @@ use Rattle.lexicon.specs.Lexicon.{nodeCount, arcsAt, successors}
 use Rattle.graph.specs.Graph.{graphOf, sink, pathCount, increment}
 use Rattle.graph.proofs.Codes.{increment-at, arc-within}
 use Rattle.checking.specs.Tables.{WellFormed}
-use Rattle.checking.proofs.Arcs.{sound-of, ArcsLeft, arcs-start, ArcNext}
+use Rattle.checking.proofs.Arcs.{sound-of, ArcsToRead, arcs-start, ArcNext}
 
 pub record CountsPassed (x : List ℕ) (u at stop total : ℕ) : Type 0 where
   pub earlier : List ℕ
   pub later : List ℕ
-  pub arcs : ArcsLeft x u at stop later
+  pub arcs : ArcsToRead x u at stop later
   pub split : successors x u ≡ earlier ++ later
   pub total-is : total ≡ sum (map (pathCount (graphOf x)) earlier)
 

@@ -20,7 +20,7 @@ use Rattle.lexicon.specs.Lexicon.{sinkOf, arcsAt, lexiconVerdict}
 use Rattle.graph.specs.Graph.{graphOf, sink, pathCount, wordCount}
 use Rattle.graph.specs.Conditions.{orphan, manyWords}
 use Rattle.graph.specs.Checking.{lexiconRows, imageRows, firstRows, checkAnswer}
-use Rattle.checking.specs.Tables.{TableOf, Tables, Opened, WellFormed, cappedCount}
+use Rattle.checking.specs.Tables.{TableOf, Tables, WellFormed, cappedCount}
 use Rattle.checking.specs.Judging.{graphRows, Judged}
 use Rattle.checking.proofs.Tables.{entry}
 use Rattle.checking.proofs.Arcs.{sound-of}
@@ -32,44 +32,44 @@ refused-no-value : {r : Refusal} {W : ℕ} → refused r ≡ value W → ⊥
 refused-no-value e = let z : _≡_ {A = ℕ} 0 1 = cc in omega arith
 
 -- a refusal by the rows promises nothing of the tables
-pub refusal : {rows : List Row} {r : Refusal} {x lists counts : List ℕ} → unless rows (wordCount (graphOf x)) ≡ refused r
-    → Judged rows (refused r) x lists counts
+pub refusal : {rows : List Row} {r : Refusal} {x offsets counts : List ℕ} → unless rows (wordCount (graphOf x)) ≡ refused r
+    → Judged rows (refused r) x offsets counts
 refusal e = record { answered = sym e; opened = λ W q. absurd (refused-no-value q) }
 
 -- what the later rows answer, where the earlier ones are passed
-passed : {rows more : List Row} {answer : Answer ℕ} {x lists counts : List ℕ}
+passed : {rows more : List Row} {answer : Answer ℕ} {x offsets counts : List ℕ}
     → unless rows (wordCount (graphOf x)) ≡ unless more (wordCount (graphOf x))
-    → Judged more answer x lists counts → Judged rows answer x lists counts
+    → Judged more answer x offsets counts → Judged rows answer x offsets counts
 passed e j = record { answered = j .answered ∙ sym e; opened = j .opened }
 
-module _ (v : List ℕ) {x lists counts : List ℕ} where
+module _ (v : List ℕ) {x offsets counts : List ℕ} where
   -- ---- 2 and 3
 
-  pub voice-length : voiceVerdict v ≡ wrongLength → Judged (imageRows v x) (refused VoiceLength) x lists counts
+  pub voice-length : voiceVerdict v ≡ wrongLength → Judged (imageRows v x) (refused VoiceLength) x offsets counts
   unfolding imageRows voiceRows unless hasWrongLength
   voice-length e = refusal (rw e)
 
-  pub voice-range : voiceVerdict v ≡ outOfRange → Judged (imageRows v x) (refused VoiceRange) x lists counts
+  pub voice-range : voiceVerdict v ≡ outOfRange → Judged (imageRows v x) (refused VoiceRange) x offsets counts
   unfolding imageRows voiceRows unless hasWrongLength isOutOfRange
   voice-range e = refusal (rw e)
 
-  pub voice-passed : {answer : Answer ℕ} → voiceVerdict v ≡ wellFormed → Judged (lexiconRows v x) answer x lists counts
-      → Judged (imageRows v x) answer x lists counts
+  pub voice-passed : {answer : Answer ℕ} → voiceVerdict v ≡ wellFormed → Judged (lexiconRows v x) answer x offsets counts
+      → Judged (imageRows v x) answer x offsets counts
   unfolding imageRows voiceRows unless hasWrongLength isOutOfRange
   voice-passed e j = passed (rw e) j
 
   -- ---- 4 and 5
 
-  pub lexicon-length : lexiconVerdict (letterCount v) x ≡ wrongLength → Judged (lexiconRows v x) (refused LexiconLength) x lists counts
+  pub lexicon-length : lexiconVerdict (letterCount v) x ≡ wrongLength → Judged (lexiconRows v x) (refused LexiconLength) x offsets counts
   unfolding lexiconRows unless hasWrongLength
   lexicon-length e = refusal (rw e)
 
-  pub lexicon-range : lexiconVerdict (letterCount v) x ≡ outOfRange → Judged (lexiconRows v x) (refused LexiconRange) x lists counts
+  pub lexicon-range : lexiconVerdict (letterCount v) x ≡ outOfRange → Judged (lexiconRows v x) (refused LexiconRange) x offsets counts
   unfolding lexiconRows unless hasWrongLength isOutOfRange
   lexicon-range e = refusal (rw e)
 
-  pub lexicon-passed : {answer : Answer ℕ} → lexiconVerdict (letterCount v) x ≡ wellFormed → Judged (graphRows v x) answer x lists counts
-      → Judged (lexiconRows v x) answer x lists counts
+  pub lexicon-passed : {answer : Answer ℕ} → lexiconVerdict (letterCount v) x ≡ wellFormed → Judged (graphRows v x) answer x offsets counts
+      → Judged (lexiconRows v x) answer x offsets counts
   unfolding lexiconRows graphRows unless hasWrongLength isOutOfRange
   lexicon-passed e j = passed (rw e) j
 
@@ -132,14 +132,5 @@ module _ (x : List ℕ) {counts : List ℕ} (t : TableOf (suc (sinkOf x)) (cappe
                 capped-few (omega (arith, k, limit))
             go false e = refl
 
-    pub tables-exact : {lists : List ℕ} → WellFormed x → orphan (graphOf x) ≡ false → TableOf (sinkOf x) (arcsAt x) lists → Tables x lists counts
-    tables-exact w reached l = record { listed = l; counted = counts-exact w reached }
-
--- ---- the tables that are lent
-
-module _ {answer : Answer ℕ} {x lists₀ counts₀ : List ℕ} where
-  pub opened-value : {W : ℕ} {lists counts : List ℕ} → answer ≡ value W → Tables x lists counts → Opened answer x lists₀ counts₀ lists counts
-  opened-value e t = record { filled = λ _ _. t; kept = λ r q. absurd (refused-no-value (sym q ∙ e)) }
-
-  pub opened-refused : {r : Refusal} → answer ≡ refused r → Opened answer x lists₀ counts₀ lists₀ counts₀
-  opened-refused e = record { filled = λ W q. absurd (refused-no-value (sym e ∙ q)); kept = λ _ _. (refl, refl) }
+    pub tables-exact : {offsets : List ℕ} → WellFormed x → orphan (graphOf x) ≡ false → TableOf (sinkOf x) (arcsAt x) offsets → Tables x offsets counts
+    tables-exact w reached l = record { located = l; counted = counts-exact w reached }

@@ -1,4 +1,5 @@
 pub mod Tables
+pub mod Columns
 pub mod Arcs
 pub mod Increments
 pub mod Members
@@ -8,6 +9,7 @@ pub mod Finding
 pub mod Marks
 pub mod Counting
 pub mod Filling
+pub mod VertexRows
 pub mod Capped
 pub mod Longest
 pub mod Common

@@ -18,7 +18,7 @@ use Rattle.graph.proofs.Sound.{Sound, below-sink, is-node, sink-no-node}
 use Rattle.graph.proofs.Ways.{ways-sink, ways-below, some-way}
 use Rattle.checking.specs.Tables.{WellFormed}
 use Rattle.checking.specs.Longest.{greatest, height, heightAbove}
-use Rattle.checking.proofs.Arcs.{shape-of, sound-of, ArcsLeft, arcs-start, ArcNext, arcs-done}
+use Rattle.checking.proofs.Arcs.{shape-of, sound-of, ArcsToRead, arcs-start, ArcNext, arcs-done}
 
 -- ---- the greatest of a list
 
@@ -147,7 +147,7 @@ module _ {g : Graph} (ok : Sound g) where
 -- some successors are left, and the greatest of their heights and of those so far is the greatest of all
 pub record HeightLeft (x : List ℕ) (u at stop most : ℕ) : Type 0 where
   pub left : List ℕ
-  pub arcs : ArcsLeft x u at stop left
+  pub arcs : ArcsToRead x u at stop left
   pub rest : max most (greatest (map (height (graphOf x)) left)) ≡ heightAbove (graphOf x) u
 
 pub height-start : {x : List ℕ} → WellFormed x → {u at : ℕ} → u ≤ nodeCount x → at ≡ arcsAt x u → HeightLeft x u (at + 2) (at + 2 + 2 * u16 x at) 0

@@ -19,8 +19,8 @@ use Rattle.lexicon.specs.Lexicon.{nodeCount, sinkOf, arcsAt, successors}
 use Rattle.graph.specs.Graph.{graphOf, sink}
 use Rattle.graph.specs.Conditions.{orphan}
 use Rattle.checking.specs.Tables.{WellFormed}
-use Rattle.checking.specs.Marks.{named, Marked, unmarked}
-use Rattle.checking.proofs.Arcs.{shape-of, ArcsLeft, ArcNext, arcs-start, arc-next, arcs-done}
+use Rattle.checking.specs.Marks.{named, SuccessorsMarked, unmarked}
+use Rattle.checking.proofs.Arcs.{shape-of, ArcsToRead, ArcNext, arcs-start, arc-next, arcs-done}
 
 -- ---- marking
 
@@ -29,19 +29,19 @@ unfolding named
 named-next x u s = any-last (λ v. has s (successors x v)) 0 u ∙ rw zero-add
 
 -- without marks, no list is read yet
-pub marked-none : (x : List ℕ) → Marked x 0 (replicate 402 false)
+pub marked-none : (x : List ℕ) → SuccessorsMarked x 0 (replicate 402 false)
 unfolding named any from
 marked-none x = record { long = refl; marked = λ s. getD-copies 402 s false }
 
 -- before the last arcs of u's list
 pub record MarksLeft (x : List ℕ) (u at stop : ℕ) (marks : List Bool) : Type 0 where
   pub left : List ℕ
-  pub arcs : ArcsLeft x u at stop left
+  pub arcs : ArcsToRead x u at stop left
   pub long : length marks ≡ 402
   -- what has a mark, or is still to get it
   pub marked : (s : ℕ) → getD marks s false || has s left ≡ named x (suc u) s
 
-pub marks-start : {x : List ℕ} → WellFormed x → {u at : ℕ} {marks : List Bool} → u ≤ nodeCount x → at ≡ arcsAt x u → Marked x u marks
+pub marks-start : {x : List ℕ} → WellFormed x → {u at : ℕ} {marks : List Bool} → u ≤ nodeCount x → at ≡ arcsAt x u → SuccessorsMarked x u marks
     → MarksLeft x u (at + 2) (at + 2 + 2 * u16 x at) marks
 marks-start {x} w {u} h e m = record {
   left = successors x u;
@@ -85,7 +85,7 @@ module _ {x : List ℕ} {u at stop : ℕ} {marks : List Bool} (m : MarksLeft x u
           rw (e, getD-set-same marks (u16 x at) true false, eq-eqb (u16 x at) (u16 x at) refl) (sym (or-true (getD marks (u16 x at) false)))
       marked s (no d) = rw (getD-set-other marks (u16 x at) s true false d, ne-eqb s (u16 x at) d)
 
-  pub marks-done : stop ≤ at → Marked x (suc u) marks
+  pub marks-done : stop ≤ at → SuccessorsMarked x (suc u) marks
   unfolding has
   marks-done h = record {
     long = m .long;
@@ -94,22 +94,22 @@ module _ {x : List ℕ} {u at stop : ℕ} {marks : List Bool} (m : MarksLeft x u
 
 -- ---- looking for a node without a mark
 
-pub unmarked-orphan : {x : List ℕ} {marks : List Bool} → Marked x (sinkOf x) marks → unmarked marks (nodeCount x) ≡ orphan (graphOf x)
+pub unmarked-orphan : {x : List ℕ} {marks : List Bool} → SuccessorsMarked x (sinkOf x) marks → unmarked marks (nodeCount x) ≡ orphan (graphOf x)
 unfolding unmarked orphan named sinkOf sink
 unmarked-orphan {x} m = any-same _ _ (from 1 (nodeCount x)) (λ s i. ap not (m .marked s))
 
 -- the nodes from this one on decide
-pub record NodesLeft (marks : List Bool) (nodes node : ℕ) : Type 0 where
+pub record NodesToTest (marks : List Bool) (nodes node : ℕ) : Type 0 where
   pub left : ℕ
   pub size : node + left ≡ suc nodes
   pub decides : any (λ s. not (getD marks s false)) (from node left) ≡ unmarked marks nodes
 
-pub nodes-start : (marks : List Bool) (nodes : ℕ) → NodesLeft marks nodes 1
+pub nodes-start : (marks : List Bool) (nodes : ℕ) → NodesToTest marks nodes 1
 unfolding unmarked
 nodes-start marks nodes = record { left = nodes; size = omega arith; decides = refl }
 
 module _ {marks : List Bool} {nodes node : ℕ} where
-  node-split : NodesLeft marks nodes node → node ≤ nodes
+  node-split : NodesToTest marks nodes node → node ≤ nodes
       → (left : ℕ) × (suc node + left ≡ suc nodes) × (not (getD marks node false) || any (λ s. not (getD marks s false)) (from (suc node) left) ≡ unmarked marks nodes)
   unfolding any from
   node-split n h = go (n .left) (n .size) (n .decides)
@@ -119,12 +119,12 @@ module _ {marks : List Bool} {nodes node : ℕ} where
       go zero e d = absurd (omega arith)
       go (suc left) e d = (left, omega arith, d)
 
-  pub node-unmarked : NodesLeft marks nodes node → node ≤ nodes → getD marks node false ≡ false → true ≡ unmarked marks nodes
+  pub node-unmarked : NodesToTest marks nodes node → node ≤ nodes → getD marks node false ≡ false → true ≡ unmarked marks nodes
   node-unmarked n h e = rw e at (node-split n h .2)
 
-  pub node-marked : NodesLeft marks nodes node → node ≤ nodes → getD marks node false ≡ true → NodesLeft marks nodes (node + 1)
+  pub node-marked : NodesToTest marks nodes node → node ≤ nodes → getD marks node false ≡ true → NodesToTest marks nodes (node + 1)
   node-marked n h e = let s = node-split n h in rw add-one (record { left = s .0; size = s .1; decides = rw e at (s .2) })
 
-  pub nodes-done : NodesLeft marks nodes node → nodes < node → false ≡ unmarked marks nodes
+  pub nodes-done : NodesToTest marks nodes node → nodes < node → false ≡ unmarked marks nodes
   unfolding any from
   nodes-done n h = let z : n .left ≡ 0 = omega (arith, n .size) in rw z at (n .decides)

@@ -10,36 +10,36 @@ use Rattle.endian.specs.Lists.{any}
 use Rattle.endian.specs.Bytes.{u16}
 use Rattle.lexicon.specs.Lexicon.{nodeCount, sinkOf, arcsAt, successors}
 use Rattle.graph.specs.Graph.{graphOf, sink}
-use Rattle.checking.specs.Tables.{WellFormed, Listed}
+use Rattle.checking.specs.Tables.{WellFormed, WithOffsets}
 use Rattle.checking.specs.Bits.{bit, Joined}
 use Rattle.checking.specs.Pairs.{common, meets, clashAfter, clashAt}
-use Rattle.checking.specs.PairTable.{pairBit, Marked, Gathered}
+use Rattle.checking.specs.PairTable.{pairBit, PairsMarked, Gathered}
 use Rattle.checking.proofs.Tables.{entry}
-use Rattle.checking.proofs.Arcs.{shape-of, ArcsLeft, arcs-start, arc-next, arcs-done}
+use Rattle.checking.proofs.Arcs.{shape-of, ArcsToRead, arcs-start, arc-next, arcs-done}
 use Rattle.checking.proofs.Bits.{bit-zero}
 
 -- ---- where the list of a vertex stands
 
-pub record ListRoom (x lists : List ℕ) (v : ℕ) : Type 0 where
-  pub begins : getD lists v 0 ≡ arcsAt x v
-  pub listed : v < 402
-  pub small : getD lists v 0 ≤ 9204
-  pub room : getD lists v 0 + 2 + 2 * u16 x (getD lists v 0) ≤ length x
+pub record ListRoom (x offsets : List ℕ) (v : ℕ) : Type 0 where
+  pub begins : getD offsets v 0 ≡ arcsAt x v
+  pub inside : v < 402
+  pub small : getD offsets v 0 ≤ 9204
+  pub room : getD offsets v 0 + 2 + 2 * u16 x (getD offsets v 0) ≤ length x
 
-pub list-room : {x lists : List ℕ} → Listed x lists → {v : ℕ} → v ≤ nodeCount x → ListRoom x lists v
+pub list-room : {x offsets : List ℕ} → WithOffsets x offsets → {v : ℕ} → v ≤ nodeCount x → ListRoom x offsets v
 unfolding sinkOf
-list-room {x} {lists} l {v} h =
-    let begins : getD lists v 0 ≡ arcsAt x v = entry (l .table) (omega arith) in
+list-room {x} {offsets} l {v} h =
+    let begins : getD offsets v 0 ≡ arcsAt x v = entry (l .table) (omega arith) in
     let shape = shape-of (l .well-formed) in
     record {
       begins = begins;
-      listed = omega (arith, shape .few);
+      inside = omega (arith, shape .few);
       small = rw begins (shape .small (omega arith));
       room = arcs-start (l .well-formed) h begins .there;
     }
 
 -- no vertex is above 401
-pub few-vertices : {x lists : List ℕ} → Listed x lists → sink (graphOf x) < 402
+pub few-vertices : {x offsets : List ℕ} → WithOffsets x offsets → sink (graphOf x) < 402
 unfolding sink
 few-vertices l = omega (arith, shape-of (l .well-formed) .few)
 
@@ -48,7 +48,7 @@ few-vertices l = omega (arith, shape-of (l .well-formed) .few)
 -- what is left of the list decides
 pub record Searching (p : ℕ → Bool) (x : List ℕ) (v at stop : ℕ) : Type 0 where
   pub left : List ℕ
-  pub arcs : ArcsLeft x v at stop left
+  pub arcs : ArcsToRead x v at stop left
   pub same : any p (successors x v) ≡ any p left
 
 module _ (p : ℕ → Bool) {x : List ℕ} {v at : ℕ} where
@@ -73,7 +73,7 @@ module _ (p : ℕ → Bool) {x : List ℕ} {v at : ℕ} where
 pub record Gathering (x : List ℕ) (u at stop : ℕ) (mask : List ℕ) : Type 0 where
   pub earlier : List ℕ
   pub left : List ℕ
-  pub arcs : ArcsLeft x u at stop left
+  pub arcs : ArcsToRead x u at stop left
   pub long : length mask ≡ 51
   pub bits : (y : ℕ) → u < y → y ≤ sinkOf x → bit mask y ≡ meets (graphOf x) earlier y
   pub clashes : clashAt (graphOf x) u ≡ clashAfter (graphOf x) earlier left
@@ -93,7 +93,7 @@ module _ {x : List ℕ} (w : WellFormed x) {u at : ℕ} where
   }
 
   pub gather-next : {stop : ℕ} {mask after b : List ℕ} {s : ℕ} → Gathering x u at stop mask → at < stop → s ≡ u16 x at → bit mask s ≡ false
-      → Marked (graphOf x) (suc u) b → Joined mask b (s * 51) after → Gathering x u (at + 2) stop after
+      → PairsMarked (graphOf x) (suc u) b → Joined mask b (s * 51) after → Gathering x u (at + 2) stop after
   unfolding meets any clashAfter pairBit sink sinkOf
   gather-next {stop} {mask} {after} {b} d h q f m i =
       let g = graphOf x in

@@ -15,10 +15,10 @@ use Rattle.endian.proofs.Search.{any-same, any-last}
 use Rattle.lexicon.specs.Lexicon.{nodeCount}
 use Rattle.graph.specs.Graph.{Graph, graphOf, sink}
 use Rattle.graph.proofs.Sound.{Sound}
-use Rattle.checking.specs.Tables.{Listed}
+use Rattle.checking.specs.Tables.{WithOffsets}
 use Rattle.checking.specs.Bits.{bit, BitSet}
 use Rattle.checking.specs.Pairs.{common, meets, clashAt, clash}
-use Rattle.checking.specs.PairTable.{pairBit, Marked, MaskOf, Gathered, maskTells, PairSet, RowDone}
+use Rattle.checking.specs.PairTable.{pairBit, PairsMarked, MaskOf, Gathered, maskTells, PairSet, RowDone}
 use Rattle.checking.proofs.Common.{common-self, common-sym, common-below, common-sink}
 use Rattle.checking.proofs.Bits.{below-next, bit-zeroed}
 use Rattle.checking.proofs.Masks.{few-vertices}
@@ -58,7 +58,7 @@ pub record RowMarked (g : Graph) (u v : ℕ) (b : List ℕ) : Type 0 where
 module _ (g : Graph) (few : sink g < 402) where
   -- the pair of the sink with itself
   pub table-start : (b : List ℕ) {after : List ℕ} → length after ≡ 20502 → BitSet (sink g * 408 + sink g) (zeroed (51 * (sink g + 1)) b) after
-      → Marked g (sink g) after
+      → PairsMarked g (sink g) after
   unfolding pairBit
   table-start b l d = record {
     long = l;
@@ -75,7 +75,7 @@ module _ (g : Graph) (few : sink g < 402) where
       ]
 
   -- the pair of u with itself
-  pub row-start : {u : ℕ} {b after : List ℕ} → u < sink g → Marked g (suc u) b → length after ≡ length b → BitSet (u * 408 + u) b after
+  pub row-start : {u : ℕ} {b after : List ℕ} → u < sink g → PairsMarked g (suc u) b → length after ≡ length b → BitSet (u * 408 + u) b after
       → RowMarked g u (u + 1) after
   unfolding pairBit
   row-start {u} {b} {after} below m l d = record {
@@ -134,7 +134,7 @@ module _ {g : Graph} (ok : Sound g) (few : sink g < 402) {u : ℕ} (node : 1 ≤
         ]
       ]
 
-  pub row-done : {v : ℕ} {b : List ℕ} → v ≡ sink g → RowMarked g u v b → Marked g u b
+  pub row-done : {v : ℕ} {b : List ℕ} → v ≡ sink g → RowMarked g u v b → PairsMarked g u b
   row-done {v} {b} end d =
       let r : RowMarked g u (sink g) b = rw end at d in
       record { long = r .long; bits = λ s t i j. r .bits s t i j ∙ go s t i j }
@@ -186,15 +186,15 @@ module _ {u v : ℕ} (m n : ℕ) (test : Bool) where
 -- the vertices above u have their rows, and none of them has two successors with something in common
 pub record Rows (x : List ℕ) (u : ℕ) (b : List ℕ) : Type 0 where
   pub below : u ≤ nodeCount x
-  pub marked : Marked (graphOf x) (suc u) b
+  pub marked : PairsMarked (graphOf x) (suc u) b
   pub clashes : clash (graphOf x) ≡ any (clashAt (graphOf x)) (from 0 (suc u))
 
 module _ {x : List ℕ} where
-  pub rows-start : {lists after : List ℕ} {u k : ℕ} (b : List ℕ) → Listed x lists → u ≡ nodeCount x → k ≡ sink (graphOf x) → length after ≡ 20502
+  pub rows-start : {offsets after : List ℕ} {u k : ℕ} (b : List ℕ) → WithOffsets x offsets → u ≡ nodeCount x → k ≡ sink (graphOf x) → length after ≡ 20502
       → BitSet (k * 408 + k) (zeroed (51 * (k + 1)) b) after → Rows x u after
   unfolding clash sink
   rows-start {after = after} {u} b l e f h d =
-      let m : Marked (graphOf x) (sink (graphOf x)) after = table-start (graphOf x) (few-vertices l) b h (rw f at d) in
+      let m : PairsMarked (graphOf x) (sink (graphOf x)) after = table-start (graphOf x) (few-vertices l) b h (rw f at d) in
       record { below = omega arith; marked = rw e m; clashes = rw e }
 
   pub rows-found : {u : ℕ} {b after : List ℕ} {answer : Bool} → Rows x u b → RowDone (graphOf x) u after answer → answer ≡ true
@@ -219,7 +219,7 @@ module _ {x : List ℕ} where
             ∙ rw (z, ← d .tells, e) (or-false (any p (from 0 (suc w))));
       }
 
-  pub rows-all : {u : ℕ} {b : List ℕ} → Rows x u b → u ≤ 0 → Marked (graphOf x) 1 b
+  pub rows-all : {u : ℕ} {b : List ℕ} → Rows x u b → u ≤ 0 → PairsMarked (graphOf x) 1 b
   rows-all {u} r h = let e : u ≡ 0 = omega arith in rw e at (r .marked)
 
   pub rows-done : {u : ℕ} {b mask : List ℕ} {answer : Bool} → Rows x u b → u ≤ 0 → Gathered (graphOf x) 0 mask answer

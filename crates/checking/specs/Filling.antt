@@ -4,7 +4,7 @@ use mathlib.Core.Path.{_≡_}
 use mathlib.Core.List.{List}
 use lib.ListN.{length, getD}
 use Rattle.lexicon.specs.Lexicon.{nodeCount, sinkOf}
-use Rattle.checking.specs.Tables.{Listed}
+use Rattle.checking.specs.Tables.{WithOffsets}
 
 -- f from k on and below n, and 0 elsewhere
 pub record FilledFrom (k n : ℕ) (f : ℕ → ℕ) (table : List ℕ) : Type 0 where
@@ -14,7 +14,7 @@ pub record FilledFrom (k n : ℕ) (f : ℕ → ℕ) (table : List ℕ) : Type 0 
   pub beyond : (u : ℕ) → n ≤ u → getD table u 0 ≡ 0
 
 -- at vertex u of a well-formed lexicon the table is filled for the vertices above it, the sink included
-pub record AtVertex (f : ℕ → ℕ) (x lists table : List ℕ) (u : ℕ) : Type 0 where
-  pub listed : Listed x lists
+pub record AtVertex (f : ℕ → ℕ) (x offsets table : List ℕ) (u : ℕ) : Type 0 where
+  pub located : WithOffsets x offsets
   pub vertex : u ≤ nodeCount x
   pub above : FilledFrom (suc u) (suc (sinkOf x)) f table

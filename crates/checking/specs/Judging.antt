@@ -10,9 +10,9 @@ use Rattle.graph.specs.Conditions.{orphan, placeCount, manyPlaces, hasLongWord,
 use Rattle.checking.specs.Tables.{Tables}
 
 -- before the images are judged: a bit for each pair of vertices, and nothing in the tables
-pub record Blank (pairs lists counts : List ℕ) : Type 0 where
+pub record Blank (pairs offsets counts : List ℕ) : Type 0 where
   pub room : length pairs ≡ 20502
-  pub no-lists : lists ≡ replicate 402 0
+  pub no-offsets : offsets ≡ replicate 402 0
   pub no-counts : counts ≡ replicate 402 0
 
 -- 6 to 10
@@ -26,6 +26,6 @@ graphRows v x =
     ∷ []
 
 -- images judged by some of the rows: after a refusal the tables are left as they are found
-pub record Judged (rows : List Row) (answer : Answer ℕ) (x lists counts : List ℕ) : Type 0 where
+pub record Judged (rows : List Row) (answer : Answer ℕ) (x offsets counts : List ℕ) : Type 0 where
   pub answered : answer ≡ unless rows (wordCount (graphOf x))
-  pub opened : (W : ℕ) → answer ≡ value W → Tables x lists counts
+  pub opened : (W : ℕ) → answer ≡ value W → Tables x offsets counts

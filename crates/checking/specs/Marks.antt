@@ -13,7 +13,7 @@ unfoldable pub named : List ℕ → ℕ → ℕ → Bool
 named x u s = any (λ v. has s (successors x v)) (from 0 u)
 
 -- the table has a mark for each successor of the vertices below u, and no other
-pub record Marked (x : List ℕ) (u : ℕ) (marks : List Bool) : Type 0 where
+pub record SuccessorsMarked (x : List ℕ) (u : ℕ) (marks : List Bool) : Type 0 where
   pub long : length marks ≡ 402
   pub marked : (s : ℕ) → getD marks s false ≡ named x u s
 

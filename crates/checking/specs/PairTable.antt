@@ -16,7 +16,7 @@ unfoldable pub pairBit : List ℕ → ℕ → ℕ → Bool
 pairBit b s t = bit b (s * 408 + t)
 
 -- the pairs of vertices from k on are marked, and no others; a row after the sink's may hold anything
-pub record Marked (g : Graph) (k : ℕ) (b : List ℕ) : Type 0 where
+pub record PairsMarked (g : Graph) (k : ℕ) (b : List ℕ) : Type 0 where
   pub long : length b ≡ 20502
   pub bits : (s t : ℕ) → s ≤ sink g → t ≤ sink g → pairBit b s t ≡ leb k (min s t) && common g s t
 
@@ -40,4 +40,4 @@ pub record PairSet (u v : ℕ) (test : Bool) (b after : List ℕ) : Type 0 where
 -- the answer tells whether two successors of u have something in common; if none have, the pairs with u are marked too
 pub record RowDone (g : Graph) (u : ℕ) (b : List ℕ) (answer : Bool) : Type 0 where
   pub tells : answer ≡ clashAt g u
-  pub marked : answer ≡ false → Marked g u b
+  pub marked : answer ≡ false → PairsMarked g u b

@@ -5,9 +5,9 @@ ghost use lib.ListN.{replicate};
 ghost use Rattle.call.specs.Limits.{mostWords};
 ghost use Rattle.lexicon.specs.Lexicon.{sinkOf};
 ghost use Rattle.graph.specs.Graph.{graphOf};
-ghost use Rattle.checking.specs.Tables.{TableOf, Listed, cappedCount};
+ghost use Rattle.checking.specs.Tables.{TableOf, WithOffsets, cappedCount};
 ghost use Rattle.checking.specs.Filling.{AtVertex};
-use crate::lists::number_at;
+use crate::offsets::number_at;
 
 // One more than the most words of a lexicon: a count stops here, so that nothing wraps.
 const CAP: u32 = 1048577;
@@ -20,11 +20,11 @@ fn capped_sum(a: u32, b: u32) -> u32
 }
 
 // The path count of a vertex: the sum over its successors.
-fn path_count(lexicon: &[u8], lists: &[u16; 402], counts: &[u32; 402], vertex: usize) -> u32
-    requires { ⌜ AtVertex (cappedCount (graphOf (now lexicon))) (now lexicon) (now lists) (now counts) vertex ⌝ }
+fn path_count(lexicon: &[u8], offsets: &[u16; 402], counts: &[u32; 402], vertex: usize) -> u32
+    requires { ⌜ AtVertex (cappedCount (graphOf (now lexicon))) (now lexicon) (now offsets) (now counts) vertex ⌝ }
     ensures { λ r. ⌜ r ≡ cappedCount (graphOf (now (lexicon .entry))) vertex ⌝ }
 {
-    let start = lists[vertex] as usize;
+    let start = offsets[vertex] as usize;
     let stop = start + 2 + 2 * number_at(lexicon, start);
     let mut at = start + 2;
     let mut sum = 0;
@@ -37,14 +37,14 @@ fn path_count(lexicon: &[u8], lists: &[u16; 402], counts: &[u32; 402], vertex: u
 }
 
 // From the sink down, since arcs lead to greater vertices.
-pub(crate) fn count_paths(lexicon: &[u8], lists: &[u16; 402], counts: &mut [u32; 402])
-    requires { ⌜ Listed (now lexicon) (now lists) × (now counts ≡ replicate 402 0) ⌝ }
+pub(crate) fn count_paths(lexicon: &[u8], offsets: &[u16; 402], counts: &mut [u32; 402])
+    requires { ⌜ WithOffsets (now lexicon) (now offsets) × (now counts ≡ replicate 402 0) ⌝ }
     ensures { λ _. ⌜ TableOf (suc (sinkOf (now (lexicon .entry)))) (cappedCount (graphOf (now (lexicon .entry)))) (now (counts .exit)) ⌝ }
 {
     let mut vertex = number_at(lexicon, 0) + 1;
     counts[vertex] = 1;
     while vertex > 0 {
         vertex -= 1;
-        counts[vertex] = path_count(lexicon, lists, counts, vertex);
+        counts[vertex] = path_count(lexicon, offsets, counts, vertex);
     }
 }

@@ -4,16 +4,16 @@ ghost use Prim.Native.Nat.{suc, _≤_};
 ghost use Rattle.lexicon.specs.Lexicon.{nodeCount, sinkOf};
 ghost use Rattle.graph.specs.Graph.{graphOf};
 ghost use Rattle.graph.specs.Conditions.{orphan};
-ghost use Rattle.checking.specs.Tables.{Listed};
-ghost use Rattle.checking.specs.Marks.{Marked, unmarked};
-use crate::lists::number_at;
+ghost use Rattle.checking.specs.Tables.{WithOffsets};
+ghost use Rattle.checking.specs.Marks.{SuccessorsMarked, unmarked};
+use crate::offsets::number_at;
 
 // Marks the successors of a vertex, after those of the vertices below it.
-fn mark_successors(lexicon: &[u8], lists: &[u16; 402], vertex: usize, marks: &mut [bool; 402])
-    requires { ⌜ Listed (now lexicon) (now lists) × (vertex ≤ nodeCount (now lexicon)) × Marked (now lexicon) vertex (now marks) ⌝ }
-    ensures { λ _. ⌜ Marked (now (lexicon .entry)) (suc vertex) (now (marks .exit)) ⌝ }
+fn mark_successors(lexicon: &[u8], offsets: &[u16; 402], vertex: usize, marks: &mut [bool; 402])
+    requires { ⌜ WithOffsets (now lexicon) (now offsets) × (vertex ≤ nodeCount (now lexicon)) × SuccessorsMarked (now lexicon) vertex (now marks) ⌝ }
+    ensures { λ _. ⌜ SuccessorsMarked (now (lexicon .entry)) (suc vertex) (now (marks .exit)) ⌝ }
 {
-    let start = lists[vertex] as usize;
+    let start = offsets[vertex] as usize;
     let stop = start + 2 + 2 * number_at(lexicon, start);
     let mut at = start + 2;
     while at < stop {
@@ -24,13 +24,13 @@ fn mark_successors(lexicon: &[u8], lists: &[u16; 402], vertex: usize, marks: &mu
 }
 
 // Marks every successor.
-fn mark_all(lexicon: &[u8], lists: &[u16; 402], nodes: usize, marks: &mut [bool; 402])
-    requires { ⌜ Listed (now lexicon) (now lists) × (nodes ≡ nodeCount (now lexicon)) × Marked (now lexicon) 0 (now marks) ⌝ }
-    ensures { λ _. ⌜ Marked (now (lexicon .entry)) (sinkOf (now (lexicon .entry))) (now (marks .exit)) ⌝ }
+fn mark_all(lexicon: &[u8], offsets: &[u16; 402], nodes: usize, marks: &mut [bool; 402])
+    requires { ⌜ WithOffsets (now lexicon) (now offsets) × (nodes ≡ nodeCount (now lexicon)) × SuccessorsMarked (now lexicon) 0 (now marks) ⌝ }
+    ensures { λ _. ⌜ SuccessorsMarked (now (lexicon .entry)) (sinkOf (now (lexicon .entry))) (now (marks .exit)) ⌝ }
 {
     let mut vertex = 0;
     while vertex <= nodes {
-        mark_successors(lexicon, lists, vertex, marks);
+        mark_successors(lexicon, offsets, vertex, marks);
         vertex += 1;
     }
 }
@@ -50,12 +50,12 @@ fn has_unmarked(marks: &[bool; 402], nodes: usize) -> bool
     false
 }
 
-pub(crate) fn has_orphan(lexicon: &[u8], lists: &[u16; 402]) -> bool
-    requires { ⌜ Listed (now lexicon) (now lists) ⌝ }
+pub(crate) fn has_orphan(lexicon: &[u8], offsets: &[u16; 402]) -> bool
+    requires { ⌜ WithOffsets (now lexicon) (now offsets) ⌝ }
     ensures { λ r. ⌜ r ≡ orphan (graphOf (now (lexicon .entry))) ⌝ }
 {
     let nodes = number_at(lexicon, 0);
     let mut marks = [false; 402];
-    mark_all(lexicon, lists, nodes, &mut marks);
+    mark_all(lexicon, offsets, nodes, &mut marks);
     has_unmarked(&marks, nodes)
 }

@@ -9,10 +9,10 @@ ghost use Rattle.call.specs.Buffers.{zeroed};
 ghost use Rattle.lexicon.specs.Lexicon.{nodeCount, successors};
 ghost use Rattle.graph.specs.Graph.{graphOf};
 ghost use Rattle.graph.specs.Conditions.{orphan, sameLetters};
-ghost use Rattle.checking.specs.Tables.{Listed};
+ghost use Rattle.checking.specs.Tables.{WithOffsets};
 ghost use Rattle.checking.specs.Bits.{bit, BitSet, Joined};
-ghost use Rattle.checking.specs.PairTable.{Marked, MaskOf, Gathered, maskTells, PairSet, RowDone};
-use crate::lists::number_at;
+ghost use Rattle.checking.specs.PairTable.{PairsMarked, MaskOf, Gathered, maskTells, PairSet, RowDone};
+use crate::offsets::number_at;
 use call::zero;
 
 // The bytes of a row: a bit for each vertex.
@@ -54,11 +54,11 @@ fn join_row(mask: &mut [u8; 51], pairs: &[u8], at: usize)
 }
 
 // Joins the rows of u's successors to the mask, or answers that one of them has something in common with an earlier one.
-fn gather(lexicon: &[u8], lists: &[u16; 402], u: usize, pairs: &[u8], mask: &mut [u8; 51]) -> bool
-    requires { ⌜ Listed (now lexicon) (now lists) × (u ≤ nodeCount (now lexicon)) × Marked (graphOf (now lexicon)) (suc u) (now pairs) × (now mask ≡ replicate 51 0) ⌝ }
+fn gather(lexicon: &[u8], offsets: &[u16; 402], u: usize, pairs: &[u8], mask: &mut [u8; 51]) -> bool
+    requires { ⌜ WithOffsets (now lexicon) (now offsets) × (u ≤ nodeCount (now lexicon)) × PairsMarked (graphOf (now lexicon)) (suc u) (now pairs) × (now mask ≡ replicate 51 0) ⌝ }
     ensures { λ r. ⌜ Gathered (graphOf (now (lexicon .entry))) u (now (mask .exit)) r ⌝ }
 {
-    let start = lists[u] as usize;
+    let start = offsets[u] as usize;
     let stop = start + 2 + 2 * number_at(lexicon, start);
     let mut at = start + 2;
     while at < stop {
@@ -73,11 +73,11 @@ fn gather(lexicon: &[u8], lists: &[u16; 402], u: usize, pairs: &[u8], mask: &mut
 }
 
 // Some successor of v has its bit in the mask.
-fn meets_mask(lexicon: &[u8], lists: &[u16; 402], v: usize, mask: &[u8; 51]) -> bool
-    requires { ⌜ Listed (now lexicon) (now lists) × (v ≤ nodeCount (now lexicon)) ⌝ }
+fn meets_mask(lexicon: &[u8], offsets: &[u16; 402], v: usize, mask: &[u8; 51]) -> bool
+    requires { ⌜ WithOffsets (now lexicon) (now offsets) × (v ≤ nodeCount (now lexicon)) ⌝ }
     ensures { λ r. ⌜ r ≡ any (bit (now (mask .entry))) (successors (now (lexicon .entry)) v) ⌝ }
 {
-    let start = lists[v] as usize;
+    let start = offsets[v] as usize;
     let stop = start + 2 + 2 * number_at(lexicon, start);
     let mut at = start + 2;
     while at < stop {
@@ -92,48 +92,48 @@ fn meets_mask(lexicon: &[u8], lists: &[u16; 402], v: usize, mask: &[u8; 51]) -> 
 // Marks the pair of u and v, both ways, if they have something in common.
 fn mark_pair(
     lexicon: &[u8],
-    lists: &[u16; 402],
+    offsets: &[u16; 402],
     u: usize,
     v: usize,
     mask: &[u8; 51],
     pairs: &mut [u8],
 )
-    requires { ⌜ Listed (now lexicon) (now lists) × (u ≤ nodeCount (now lexicon)) × (v ≤ nodeCount (now lexicon)) × (length (now pairs) ≡ 20502) ⌝ }
+    requires { ⌜ WithOffsets (now lexicon) (now offsets) × (u ≤ nodeCount (now lexicon)) × (v ≤ nodeCount (now lexicon)) × (length (now pairs) ≡ 20502) ⌝ }
     ensures { λ _. ⌜ PairSet u v (maskTells (graphOf (now (lexicon .entry))) (now (mask .entry)) u v) (now (pairs .entry)) (now (pairs .exit)) ⌝ }
 {
     if lexicon[1 + u] != lexicon[1 + v] {
         return;
     }
-    if meets_mask(lexicon, lists, v, mask) {
+    if meets_mask(lexicon, offsets, v, mask) {
         set_bit(pairs, u * ROW_BITS + v);
         set_bit(pairs, v * ROW_BITS + u);
     }
 }
 
 // Marks the pairs of u and the vertices from u on.
-fn mark_row(lexicon: &[u8], lists: &[u16; 402], u: usize, mask: &[u8; 51], pairs: &mut [u8])
-    requires { ⌜ Listed (now lexicon) (now lists) × (1 ≤ u) × (u ≤ nodeCount (now lexicon)) × MaskOf (graphOf (now lexicon)) u (now mask) × Marked (graphOf (now lexicon)) (suc u) (now pairs) ⌝ }
-    ensures { λ _. ⌜ Marked (graphOf (now (lexicon .entry))) u (now (pairs .exit)) ⌝ }
+fn mark_row(lexicon: &[u8], offsets: &[u16; 402], u: usize, mask: &[u8; 51], pairs: &mut [u8])
+    requires { ⌜ WithOffsets (now lexicon) (now offsets) × (1 ≤ u) × (u ≤ nodeCount (now lexicon)) × MaskOf (graphOf (now lexicon)) u (now mask) × PairsMarked (graphOf (now lexicon)) (suc u) (now pairs) ⌝ }
+    ensures { λ _. ⌜ PairsMarked (graphOf (now (lexicon .entry))) u (now (pairs .exit)) ⌝ }
 {
     let nodes = number_at(lexicon, 0);
     set_bit(pairs, u * ROW_BITS + u);
     let mut v = u + 1;
     while v <= nodes {
-        mark_pair(lexicon, lists, u, v, mask, pairs);
+        mark_pair(lexicon, offsets, u, v, mask, pairs);
         v += 1;
     }
 }
 
 // Whether two successors of u have something in common; if not, the pairs with u are marked.
-fn add_row(lexicon: &[u8], lists: &[u16; 402], u: usize, pairs: &mut [u8]) -> bool
-    requires { ⌜ Listed (now lexicon) (now lists) × (1 ≤ u) × (u ≤ nodeCount (now lexicon)) × Marked (graphOf (now lexicon)) (suc u) (now pairs) ⌝ }
+fn add_row(lexicon: &[u8], offsets: &[u16; 402], u: usize, pairs: &mut [u8]) -> bool
+    requires { ⌜ WithOffsets (now lexicon) (now offsets) × (1 ≤ u) × (u ≤ nodeCount (now lexicon)) × PairsMarked (graphOf (now lexicon)) (suc u) (now pairs) ⌝ }
     ensures { λ r. ⌜ RowDone (graphOf (now (lexicon .entry))) u (now (pairs .exit)) r ⌝ }
 {
     let mut mask = [0; 51];
-    if gather(lexicon, lists, u, &pairs[..], &mut mask) {
+    if gather(lexicon, offsets, u, &pairs[..], &mut mask) {
         return true;
     }
-    mark_row(lexicon, lists, u, &mask, pairs);
+    mark_row(lexicon, offsets, u, &mask, pairs);
     false
 }
 
@@ -147,19 +147,19 @@ fn begin_table(sink: usize, pairs: &mut [u8])
 }
 
 // Adds the rows from vertex N down, until one finds two successors with something in common. The root has no letter, so it needs no row.
-pub(crate) fn has_same_letters(lexicon: &[u8], lists: &[u16; 402], pairs: &mut [u8]) -> bool
-    requires { ⌜ Listed (now lexicon) (now lists) × (orphan (graphOf (now lexicon)) ≡ false) × (length (now pairs) ≡ 20502) ⌝ }
+pub(crate) fn has_same_letters(lexicon: &[u8], offsets: &[u16; 402], pairs: &mut [u8]) -> bool
+    requires { ⌜ WithOffsets (now lexicon) (now offsets) × (orphan (graphOf (now lexicon)) ≡ false) × (length (now pairs) ≡ 20502) ⌝ }
     ensures { λ r. ⌜ r ≡ sameLetters (graphOf (now (lexicon .entry))) ⌝ }
     ensures { λ _. ⌜ length (now (pairs .exit)) ≡ length (now (pairs .entry)) ⌝ }
 {
     let mut u = number_at(lexicon, 0);
     begin_table(u + 1, pairs);
     while 0 < u {
-        if add_row(lexicon, lists, u, pairs) {
+        if add_row(lexicon, offsets, u, pairs) {
             return true;
         }
         u -= 1;
     }
     let mut mask = [0; 51];
-    gather(lexicon, lists, 0, &pairs[..], &mut mask)
+    gather(lexicon, offsets, 0, &pairs[..], &mut mask)
 }

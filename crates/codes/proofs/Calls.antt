@@ -21,9 +21,9 @@ use Rattle.graph.specs.Checking.{firstRows, checkAnswer}
 use Rattle.graph.proofs.Accepted.{accepted, Passed, passed}
 use Rattle.checking.specs.Tables.{Tables}
 use Rattle.codes.specs.Lookup.{wordToCodeRows, wordToCodeAnswer, codeToWordRows, codeToWordAnswer, codeToWordOut, listing, listRows, listAnswer, listOut}
-use Rattle.codes.specs.Steps.{Ready, roomAnswer}
+use Rattle.codes.specs.Steps.{OpenedImages, roomAnswer}
 use Rattle.codes.specs.Marks.{lookedUp}
-use Rattle.codes.specs.Lines.{roomRows, Answered}
+use Rattle.codes.specs.Lines.{roomRows, BytesAnswered}
 use Rattle.codes.proofs.Words.{well-formed}
 
 -- ---- copying a word
@@ -48,10 +48,10 @@ module _ (letters out : List ℕ) {n : ℕ} (h : n ≤ length letters) where
 
 -- ---- after checking
 
-pub ready : (v x work lists counts : List ℕ) {W : ℕ} → Passed v x work W → Tables x lists counts → Ready v x lists counts
-ready v x work lists counts p o = record {
+pub opened-images : (v x work offsets counts : List ℕ) {W : ℕ} → Passed v x work W → Tables x offsets counts → OpenedImages v x offsets counts
+opened-images v x work offsets counts p o = record {
   accepted = p .images;
-  tabled = record { listed = record { well-formed = well-formed (accepted (p .images)); table = o .listed }; counted = o .counted };
+  tabled = record { located = record { well-formed = well-formed (accepted (p .images)); table = o .located }; counted = o .counted };
 }
 
 module _ (v x work : List ℕ) where
@@ -106,7 +106,7 @@ module _ (v x work : List ℕ) where
     unfolding listAnswer listRows roomRows
     list-value h = unless-past (firstRows v x work) _ _ (passed v x work h .rows)
 
-    pub list-written : {W : ℕ} {answer : Answer ℕ} {out′ : List ℕ} → checkAnswer v x work ≡ value W → Answered (listing v (graphOf x)) answer out out′
+    pub list-written : {W : ℕ} {answer : Answer ℕ} {out′ : List ℕ} → checkAnswer v x work ≡ value W → BytesAnswered (listing v (graphOf x)) answer out out′
         → (answer ≡ listAnswer v x work out) × (out′ ≡ listOut v x work out)
     unfolding listOut
     list-written h a =

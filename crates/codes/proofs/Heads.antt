@@ -1,4 +1,4 @@
--- The list of a vertex in the image, by the table of where the lists begin: its count, and each of its arcs by number. Assumes nothing.
+-- The list of a vertex in the image, by the table of offsets: its count, and each of its arcs by number. Assumes nothing.
 use mathlib.Core.Path.{_≡_, refl, sym, ap, _∙_}
 use mathlib.Core.List.{List, [], _∷_, List·Memᴰ, Memᴰ·cast}
 use Prim.Native.Nat.{ℕ, zero, suc, _+_, _*_, _≤_, _<_}
@@ -13,7 +13,7 @@ use Rattle.lexicon.specs.Lexicon.{nodeCount, sinkOf, arcsAt, arcCount, successo
 use Rattle.lexicon.proofs.Shape.{arcs-next}
 use Rattle.lexicon.proofs.Readers.{length-successors}
 use Rattle.graph.specs.Graph.{sink}
-use Rattle.checking.specs.Tables.{Listed}
+use Rattle.checking.specs.Tables.{WithOffsets}
 use Rattle.checking.proofs.Tables.{entry}
 use Rattle.checking.proofs.Arcs.{shape-of, sound-of}
 
@@ -35,9 +35,9 @@ getD-u16s b at zero i h = absurd (omega arith)
 getD-u16s b at (suc n) zero h = rw add-zero
 getD-u16s b at (suc n) (suc i) h = let e : at + 2 + 2 * i ≡ at + 2 * suc i = omega arith in getD-u16s b (at + 2) n i (omega arith) ∙ ap (u16 b) e
 
-pub head-at : {x lists : List ℕ} → Listed x lists → {u : ℕ} → u ≤ nodeCount x → Head x u (getD lists u 0)
+pub head-at : {x offsets : List ℕ} → WithOffsets x offsets → {u : ℕ} → u ≤ nodeCount x → Head x u (getD offsets u 0)
 unfolding sinkOf sink arcCount successors
-head-at {x} {lists} t {u} h = rw (entry (t .table) {u = u} (omega arith)) (record {
+head-at {x} {offsets} t {u} h = rw (entry (t .table) {u = u} (omega arith)) (record {
   there = omega (arith, arcs-next x u, shape-of (t .well-formed) .there {u = u} (omega arith));
   small = shape-of (t .well-formed) .small {u = u} (omega arith);
   few = omega (arith, arcs-next x u, shape-of (t .well-formed) .small {u = suc u} (omega arith));

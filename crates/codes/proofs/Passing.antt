@@ -16,7 +16,7 @@ use Rattle.graph.proofs.Accepted.{accepted, sound-images}
 use Rattle.graph.proofs.Ways.{some-way}
 use Rattle.checking.proofs.Arcs.{shape-of}
 use Rattle.codes.specs.Steps.{Readable}
-use Rattle.codes.specs.Lines.{linesFrom, linesOver, Fits, Walkable, Passes, Room, Wrote}
+use Rattle.codes.specs.Lines.{linesFrom, linesOver, Fits, Walkable, WalksFrom, RoomForLines, Wrote}
 use Rattle.codes.proofs.Words.{readable}
 use Rattle.codes.proofs.Lines.{over-none, over-more, over-part, lines-sink, lines-node, fits-letter, fits-next, wrote-none, wrote-both, one-letter}
 use Rattle.codes.proofs.Heads.{Head, head-at}
@@ -44,8 +44,8 @@ module _ {v x : List ℕ} {u depth at : ℕ} {word₀ out₀ : List ℕ} where
       one-more = rw (w .wrote .kept) (over-more v (graphOf x) (take depth word₀) (successors x u) arc (rw (length-successors x u) h))
 
       -- room for the lines by way of the next arc
-      pub walk-room : Room (linesOver v (graphOf x) (successors x u) (take depth word₀)) word₀ out₀ at
-          → Room (linesFrom v (graphOf x) (getD (successors x u) arc 0) (take depth word)) word out end
+      pub walk-room : RoomForLines (linesOver v (graphOf x) (successors x u) (take depth word₀)) word₀ out₀ at
+          → RoomForLines (linesFrom v (graphOf x) (getD (successors x u) arc 0) (take depth word)) word out end
       walk-room r = record {
         long = w .wrote .long ∙ r .long;
         enough = omega (
@@ -68,26 +68,26 @@ module _ {v x : List ℕ} {u depth at : ℕ} {word₀ out₀ : List ℕ} where
 -- ---- the arcs of a vertex
 
 -- the walk enters u, a node or the sink
-pub record Enters (v x lists : List ℕ) (u depth : ℕ) : Type 0 where
-  pub walkable : Walkable v x lists
+pub record Enters (v x offsets : List ℕ) (u depth : ℕ) : Type 0 where
+  pub walkable : Walkable v x offsets
   pub above : 0 < u
   pub bounded : u ≤ sinkOf x
   pub fits : Fits v (graphOf x) depth u
 
-module _ {v x lists : List ℕ} {u depth : ℕ} (p : Passes v x lists u depth) where
+module _ {v x offsets : List ℕ} {u depth : ℕ} (p : WalksFrom v x offsets u depth) where
   -- its list in the image
-  pub head-of : Head x u (getD lists u 0)
-  head-of = head-at (p .walkable .listed) (p .below)
+  pub head-of : Head x u (getD offsets u 0)
+  head-of = head-at (p .walkable .located) (p .below)
 
   pub vertex-few : u ≤ 400
-  vertex-few = omega (arith, p .below, shape-of (p .walkable .listed .well-formed) .few)
+  vertex-few = omega (arith, p .below, shape-of (p .walkable .located .well-formed) .few)
 
   -- arc i is read as s
-  module _ {i s : ℕ} (h : i < arcCount x u) (e : s ≡ u16 x (getD lists u 0 + 2 + 2 * i)) where
+  module _ {i s : ℕ} (h : i < arcCount x u) (e : s ≡ u16 x (getD offsets u 0 + 2 + 2 * i)) where
     pub leads-to : getD (successors x u) i 0 ≡ s
     leads-to = head-of .number h ∙ sym e
 
-    pub enters : Enters v x lists s depth
+    pub enters : Enters v x offsets s depth
     enters = rw e (record {
       walkable = p .walkable;
       above = omega (arith, head-of .rises h);
@@ -97,7 +97,7 @@ module _ {v x lists : List ℕ} {u depth : ℕ} (p : Passes v x lists u depth) w
 
 -- ---- the vertex that an arc leads to
 
-module _ {v x lists : List ℕ} {u depth : ℕ} (e : Enters v x lists u depth) where
+module _ {v x offsets : List ℕ} {u depth : ℕ} (e : Enters v x offsets u depth) where
   ok : Sound (graphOf x)
   ok = sound-images (accepted (e .walkable .accepted))
 
@@ -118,7 +118,7 @@ module _ {v x lists : List ℕ} {u depth : ℕ} (e : Enters v x lists u depth) w
     unfolding sink
     room = fits-letter ok v (e .above) (omega arith) (e .fits)
 
-    pub starts : Passes v x lists u (depth + 1)
+    pub starts : WalksFrom v x offsets u (depth + 1)
     unfolding sink
     starts = record { walkable = e .walkable; below = h; fits = λ m. fits-next ok v depth (e .above) (omega arith) (e .fits) m }
 

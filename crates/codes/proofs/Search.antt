@@ -12,7 +12,7 @@ use Rattle.endian.proofs.Booleans.{or-none}
 use Rattle.lexicon.specs.Lexicon.{nodeCount, arcsAt, successors}
 use Rattle.graph.specs.Graph.{graphOf, pathCount}
 use Rattle.checking.specs.Tables.{WellFormed}
-use Rattle.checking.proofs.Arcs.{ArcsLeft, ArcNext, arc-next}
+use Rattle.checking.proofs.Arcs.{ArcsToRead, ArcNext, arc-next}
 use Rattle.checking.proofs.Increments.{CountsPassed, counts-start, split-here, increment-here, counts-next}
 use Rattle.codes.specs.Marks.{marked, FirstMarked}
 
@@ -50,7 +50,7 @@ module _ {x table : List ℕ} (w : WellFormed x) {row u : ℕ} (h : u ≤ nodeCo
     unfolding any
     ahead-arc = arc-next (m .counts .arcs) (go (m .counts .later) (m .counts .arcs) (m .ahead))
       where
-        go : (later : List ℕ) → ArcsLeft x u at (m .stop) later → any (marked table row) later ≡ true → at < m .stop
+        go : (later : List ℕ) → ArcsToRead x u at (m .stop) later → any (marked table row) later ≡ true → at < m .stop
         go [] a k = absurd (false≢true k)
         go (s ∷ later) a k = omega (arith, a .size)
 

@@ -23,12 +23,12 @@ pub record Added (x : List ℕ) (u i total : ℕ) : Type 0 where
   pub inside : i ≤ arcCount x u
   pub whole : total + sum (map (arcsOnWays (graphOf x)) (drop i (successors x u))) ≡ arcsOnWays (graphOf x) u
 
-module _ {x lists counts : List ℕ} (c : Countable x lists counts) where
+module _ {x offsets counts : List ℕ} (c : Countable x offsets counts) where
   ok : Sound (graphOf x)
-  ok = sound-of (c .tabled .listed .well-formed)
+  ok = sound-of (c .tabled .located .well-formed)
 
   pub nodes : (2 ≤ length x) × (nodeCount x ≤ 400)
-  nodes = (count-there (c .tabled .listed .well-formed), shape-of (c .tabled .listed .well-formed) .few)
+  nodes = (count-there (c .tabled .located .well-formed), shape-of (c .tabled .located .well-formed) .few)
 
   -- at most 401 arcs a way, and 1,048,576 ways
   pub total-fits : {u : ℕ} → u ≤ sinkOf x → arcsOnWays (graphOf x) u < 2 ^ 32
@@ -36,15 +36,15 @@ module _ {x lists counts : List ℕ} (c : Countable x lists counts) where
   total-fits {u} h = omega (arith, arcs-most ok (omega (arith, nodes .1)) u, c .few h)
 
   module _ {u : ℕ} (h : u ≤ nodeCount x) where
-    pub head : Head x u (getD lists u 0)
-    head = head-at (c .tabled .listed) h
+    pub head : Head x u (getD offsets u 0)
+    head = head-at (c .tabled .located) h
 
     pub added-none : Added x u 0 (getD counts u 0)
     unfolding sinkOf sink
     added-none = record { inside = omega arith; whole = rw (entry (c .tabled .counted) {u = u} (omega arith)) (sym (arcs-below ok (omega arith))) }
 
     module _ {totals : List ℕ} (t : CountedFrom x totals (suc u)) where
-      pub added-next : {i total s : ℕ} → i < arcCount x u → s ≡ u16 x (getD lists u 0 + 2 + 2 * i) → Added x u i total
+      pub added-next : {i total s : ℕ} → i < arcCount x u → s ≡ u16 x (getD offsets u 0 + 2 + 2 * i) → Added x u i total
           → Added x u (i + 1) (total + getD totals s 0)
       unfolding sum
       added-next {i} {total} {s} k e a =
@@ -65,7 +65,7 @@ module _ {x lists counts : List ℕ} (c : Countable x lists counts) where
 
 -- ---- the table, from the sink down
 
-module _ {x lists counts : List ℕ} (c : Countable x lists counts) where
+module _ {x offsets counts : List ℕ} (c : Countable x offsets counts) where
   pub counted-none : {totals : List ℕ} → getD totals (sinkOf x) 0 ≡ 0 → CountedFrom x totals (sinkOf x)
   unfolding sinkOf sink
   counted-none e = record { holds = λ {s} h k. let q : s ≡ sinkOf x = omega arith in rw q (e ∙ sym (arcs-sink (ok c))) }

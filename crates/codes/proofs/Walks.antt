@@ -22,31 +22,31 @@ use Rattle.graph.proofs.Codes.{pathCount-sink, pathCount-below, increment-at}
 use Rattle.graph.proofs.Paths.{full-paths, at-code, wordOfCode-at}
 use Rattle.graph.proofs.Accepted.{AcceptedImages, accepted, sound-images}
 use Rattle.checking.proofs.Tables.{entry}
-use Rattle.checking.proofs.Arcs.{ArcsLeft, ArcNext, arcs-start, arc-next, sound-of}
-use Rattle.codes.specs.Steps.{Tabled, Ready, Stepped, Spelled}
+use Rattle.checking.proofs.Arcs.{ArcsToRead, ArcNext, arcs-start, arc-next, sound-of}
+use Rattle.codes.specs.Steps.{Tabled, OpenedImages, Stepped, Spelled}
 use Rattle.codes.proofs.Words.{word-node, word-root, word-sink, word-short}
 
 -- ---- the tables
 
-pub count-entry : {x lists counts : List ℕ} → Tabled x lists counts → {u : ℕ} → u ≤ sinkOf x → getD counts u 0 ≡ pathCount (graphOf x) u
+pub count-entry : {x offsets counts : List ℕ} → Tabled x offsets counts → {u : ℕ} → u ≤ sinkOf x → getD counts u 0 ≡ pathCount (graphOf x) u
 count-entry t h = entry (t .counted) (omega arith)
 
 -- ---- one arc
 
 -- after the earlier successors of u so much of the code is left, and it is for the later ones
-pub record Passed (g : Graph) (u code left : ℕ) (later : List ℕ) : Type 0 where
+pub record CodePassed (g : Graph) (u code left : ℕ) (later : List ℕ) : Type 0 where
   pub earlier : List ℕ
   pub split : g .successors u ≡ earlier ++ later
   pub code-is : code ≡ sum (map (pathCount g) earlier) + left
   pub below : left < sum (map (pathCount g) later)
 
 module _ {g : Graph} (ok : Sound g) {u code : ℕ} (h : u < sink g) where
-  pub passed-none : code < pathCount g u → Passed g u code code (g .successors u)
+  pub passed-none : code < pathCount g u → CodePassed g u code code (g .successors u)
   unfolding sum
   passed-none k = record { earlier = []; split = refl; code-is = omega arith; below = rw (← pathCount-below ok h) k }
 
   -- it is below the next one's count, and that is the arc
-  pub passed-here : {left s : ℕ} {later : List ℕ} → Passed g u code left (s ∷ later) → left < pathCount g s → Stepped g u code s left
+  pub passed-here : {left s : ℕ} {later : List ℕ} → CodePassed g u code left (s ∷ later) → left < pathCount g s → Stepped g u code s left
   passed-here {s = s} {later = later} p k = record {
     arc = rw (p .split) (Memᴰ·append-right (p .earlier) (List·Memᴰ·head refl));
     split = p .code-is ∙ rw (increment-at ok h (p .earlier) later s (p .split));
@@ -54,8 +54,8 @@ module _ {g : Graph} (ok : Sound g) {u code : ℕ} (h : u < sink g) where
   }
 
   -- or the next one is passed as well
-  pub passed-on : {left s : ℕ} {later : List ℕ} → Passed g u code left (s ∷ later) → pathCount g s ≤ left
-      → Passed g u code (left - pathCount g s) later
+  pub passed-on : {left s : ℕ} {later : List ℕ} → CodePassed g u code left (s ∷ later) → pathCount g s ≤ left
+      → CodePassed g u code (left - pathCount g s) later
   unfolding sum
   passed-on {left} {s} {later} p k = record {
     earlier = p .earlier ++ (s ∷ []);
@@ -66,12 +66,12 @@ module _ {g : Graph} (ok : Sound g) {u code : ℕ} (h : u < sink g) where
     below = omega (arith, p .below);
   }
 
-  chosen : (later : List ℕ) {left : ℕ} → Passed g u code left later → (s : ℕ) × (left : ℕ) × Stepped g u code s left
+  chosen : (later : List ℕ) {left : ℕ} → CodePassed g u code left later → (s : ℕ) × (left : ℕ) × Stepped g u code s left
   unfolding sum
   chosen [] p = absurd (omega (arith, p .below))
   chosen (s ∷ later) {left} p = go (ltb left (pathCount g s)) refl (λ q. chosen later q)
     where
-      go : (b : Bool) → ltb left (pathCount g s) ≡ b → (Passed g u code (left - pathCount g s) later → (s : ℕ) × (left : ℕ) × Stepped g u code s left)
+      go : (b : Bool) → ltb left (pathCount g s) ≡ b → (CodePassed g u code (left - pathCount g s) later → (s : ℕ) × (left : ℕ) × Stepped g u code s left)
           → (s : ℕ) × (left : ℕ) × Stepped g u code s left
       go true e on = (s, left, passed-here p (ltb-true left (pathCount g s) e))
       go false e on = on (passed-on p (ltb-false left (pathCount g s) e))
@@ -114,24 +114,24 @@ module _ {g : Graph} (ok : Sound g) where
 pub record ArcsToPass (x : List ℕ) (u code at left : ℕ) : Type 0 where
   pub later : List ℕ
   pub stop : ℕ
-  pub arcs : ArcsLeft x u at stop later
-  pub passed : Passed (graphOf x) u code left later
+  pub arcs : ArcsToRead x u at stop later
+  pub passed : CodePassed (graphOf x) u code left later
 
 inside : (x : List ℕ) {u : ℕ} → u ≤ nodeCount x → u < sink (graphOf x)
 unfolding sink
 inside x h = omega arith
 
-module _ {x lists counts : List ℕ} (t : Tabled x lists counts) {u code : ℕ} (h : u ≤ nodeCount x) where
+module _ {x offsets counts : List ℕ} (t : Tabled x offsets counts) {u code : ℕ} (h : u ≤ nodeCount x) where
   pub pass-start : {at : ℕ} → at ≡ arcsAt x u → code < pathCount (graphOf x) u → ArcsToPass x u code (at + 2) code
   pass-start e k = record {
     later = successors x u;
     stop = _;
-    arcs = arcs-start (t .listed .well-formed) h e;
-    passed = passed-none (sound-of (t .listed .well-formed)) (inside x h) k;
+    arcs = arcs-start (t .located .well-formed) h e;
+    passed = passed-none (sound-of (t .located .well-formed)) (inside x h) k;
   }
 
   pub step-rises : {s left : ℕ} → Stepped (graphOf x) u code s left → u < s
-  step-rises s = sound-of (t .listed .well-formed) .rises (inside x h) (s .arc) .0
+  step-rises s = sound-of (t .located .well-formed) .rises (inside x h) (s .arc) .0
 
   module _ {at left : ℕ} (p : ArcsToPass x u code at left) where
     -- some arc is to come, since some of the code is left for it
@@ -139,22 +139,22 @@ module _ {x lists counts : List ℕ} (t : Tabled x lists counts) {u code : ℕ} 
     unfolding sum
     pass-arc = arc-next (p .arcs) (go (p .later) (p .arcs) (p .passed .below))
       where
-        go : (later : List ℕ) → ArcsLeft x u at (p .stop) later → left < sum (map (pathCount (graphOf x)) later) → at < p .stop
+        go : (later : List ℕ) → ArcsToRead x u at (p .stop) later → left < sum (map (pathCount (graphOf x)) later) → at < p .stop
         go [] a k = absurd (omega arith)
         go (s ∷ later) a k = omega (arith, a .size)
 
-    split : Passed (graphOf x) u code left (u16 x at ∷ pass-arc .others)
+    split : CodePassed (graphOf x) u code left (u16 x at ∷ pass-arc .others)
     split = rw (← pass-arc .split) (p .passed)
 
     pub pass-here : left < pathCount (graphOf x) (u16 x at) → Stepped (graphOf x) u code (u16 x at) left
-    pass-here k = passed-here (sound-of (t .listed .well-formed)) (inside x h) split k
+    pass-here k = passed-here (sound-of (t .located .well-formed)) (inside x h) split k
 
     pub pass-on : pathCount (graphOf x) (u16 x at) ≤ left → ArcsToPass x u code (at + 2) (left - pathCount (graphOf x) (u16 x at))
     pass-on k = record {
       later = pass-arc .others;
       stop = p .stop;
       arcs = pass-arc .after;
-      passed = passed-on (sound-of (t .listed .well-formed)) (inside x h) split k;
+      passed = passed-on (sound-of (t .located .well-formed)) (inside x h) split k;
     }
 
 -- ---- the letters on the way
@@ -170,9 +170,9 @@ pub record LettersLeft (v x : List ℕ) (code : ℕ) (letters : List ℕ) (n u l
   pub goes-on : (q : List ℕ) → ArcPath (graphOf x) u q → codeFrom (graphOf x) u q ≡ left
       → wordOfCode v (graphOf x) code ≡ take n letters ++ wordOfPath v (graphOf x) (u ∷ q)
 
-module _ {v x lists counts : List ℕ} (ready : Ready v x lists counts) {code : ℕ} (k : code < wordCount (graphOf x)) where
+module _ {v x offsets counts : List ℕ} (opened-images : OpenedImages v x offsets counts) {code : ℕ} (k : code < wordCount (graphOf x)) where
   images : AcceptedImages v x
-  images = accepted (ready .accepted)
+  images = accepted (opened-images .accepted)
 
   ok : Sound (graphOf x)
   ok = sound-images images

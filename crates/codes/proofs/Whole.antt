@@ -18,20 +18,20 @@ use Rattle.graph.proofs.Accepted.{AcceptedImages, accepted, sound-images}
 use Rattle.graph.proofs.Ways.{way-on}
 use Rattle.checking.proofs.Reached.{count-within-words}
 use Rattle.codes.specs.Lookup.{listing}
-use Rattle.codes.specs.Steps.{Ready}
-use Rattle.codes.specs.Lines.{linesOver, Fits, Passes, Wrote, arcsOnWays, Countable, roomRows, Answered}
+use Rattle.codes.specs.Steps.{OpenedImages}
+use Rattle.codes.specs.Lines.{linesOver, Fits, WalksFrom, Wrote, arcsOnWays, Countable, roomRows, BytesAnswered}
 use Rattle.codes.proofs.Words.{path-short, word-root}
 use Rattle.codes.proofs.Lines.{lines-root, listing-lines}
 use Rattle.codes.proofs.Sizes.{listing-size}
 
-module _ {v x lists counts : List ℕ} (r : Ready v x lists counts) where
+module _ {v x offsets counts : List ℕ} (r : OpenedImages v x offsets counts) where
   images : AcceptedImages v x
   images = accepted (r .accepted)
 
   ok : Sound (graphOf x)
   ok = sound-images images
 
-  pub countable : Countable x lists counts
+  pub countable : Countable x offsets counts
   unfolding sink sinkOf manyWords
   countable = record {
     tabled = r .tabled;
@@ -45,9 +45,9 @@ module _ {v x lists counts : List ℕ} (r : Ready v x lists counts) where
       let word = path-short images (Memᴰ·map (λ p. 0 ∷ p) (way-on ok {u = 0} (omega arith) m k)) in
       omega (arith, word, ap length (word-root v (graphOf x) (s ∷ p)))
 
-  pub root-passes : Passes v x lists 0 0
+  pub root-passes : WalksFrom v x offsets 0 0
   root-passes = record {
-    walkable = record { accepted = r .accepted; listed = r .tabled .listed };
+    walkable = record { accepted = r .accepted; located = r .tabled .located };
     below = omega arith;
     fits = root-fits;
   }
@@ -62,12 +62,12 @@ module _ {v x lists counts : List ℕ} (r : Ready v x lists counts) where
 
 -- ---- the answer
 
-pub no-room : {bytes out : List ℕ} → length out < length bytes → Answered bytes (refused Output) out out
+pub no-room : {bytes out : List ℕ} → length out < length bytes → BytesAnswered bytes (refused Output) out out
 unfolding roomRows unless written
 no-room {bytes} {out} h = record { says = rw (lt-ltb (length out) (length bytes) h); leaves = refl }
 
 pub all-written : {bytes word word′ out out′ : List ℕ} {size end : ℕ} → length bytes ≤ length out → size ≡ length bytes
-    → Wrote bytes 0 0 word word′ out out′ end → Answered bytes (value size) out out′
+    → Wrote bytes 0 0 word word′ out out′ end → BytesAnswered bytes (value size) out out′
 unfolding roomRows unless written
 all-written {bytes} {out = out} {out′ = out′} {end = end} h e w = record {
   says = rw (le-ltb (length out) (length bytes) h, e);

@@ -14,7 +14,7 @@ use Rattle.lexicon.specs.Lexicon.{nodeCount, sinkOf, successors}
 use Rattle.graph.specs.Graph.{Graph, graphOf, sink, ways, pathCount}
 use Rattle.graph.specs.Words.{wordOfPath}
 use Rattle.graph.specs.Checking.{Accepted}
-use Rattle.checking.specs.Tables.{Listed}
+use Rattle.checking.specs.Tables.{WithOffsets}
 use Rattle.codes.specs.Steps.{Tabled}
 
 -- ---- the lines
@@ -33,19 +33,19 @@ Fits v g depth u = (p : List ℕ) → List·Memᴰ p (ways g (sink g) u) → dep
 
 -- ---- the walk
 
--- accepted images, with the table of where the lists begin
-pub record Walkable (v x lists : List ℕ) : Type 0 where
+-- accepted images, with the table of offsets
+pub record Walkable (v x offsets : List ℕ) : Type 0 where
   pub accepted : Accepted v x
-  pub listed : Listed x lists
+  pub located : WithOffsets x offsets
 
 -- the walk goes through the arcs of u, the root or a node
-pub record Passes (v x lists : List ℕ) (u depth : ℕ) : Type 0 where
-  pub walkable : Walkable v x lists
+pub record WalksFrom (v x offsets : List ℕ) (u depth : ℕ) : Type 0 where
+  pub walkable : Walkable v x offsets
   pub below : u ≤ nodeCount x
   pub fits : {s : ℕ} → List·Memᴰ s (successors x u) → Fits v (graphOf x) depth s
 
 -- the word has its 32 bytes, and the output has room for the lines from an offset on
-pub record Room (lines word out : List ℕ) (at : ℕ) : Type 0 where
+pub record RoomForLines (lines word out : List ℕ) (at : ℕ) : Type 0 where
   pub long : length word ≡ 32
   pub enough : at + length lines ≤ length out
 
@@ -65,8 +65,8 @@ unfoldable pub arcsOnWays : Graph → ℕ → ℕ
 arcsOnWays g u = sum (map length (ways g (sink g) u))
 
 -- tables of a lexicon that has no more words than any may have
-pub record Countable (x lists counts : List ℕ) : Type 0 where
-  pub tabled : Tabled x lists counts
+pub record Countable (x offsets counts : List ℕ) : Type 0 where
+  pub tabled : Tabled x offsets counts
   pub few : {u : ℕ} → u ≤ sinkOf x → pathCount (graphOf x) u ≤ mostWords
 
 -- the arcs are counted for the vertices from u on
@@ -80,6 +80,6 @@ unfoldable pub roomRows : List ℕ → List ℕ → List Row
 roomRows bytes out = on Output (ltb (length out) (length bytes)) ∷ []
 
 -- bytes that are written where they have room, and how many they are
-pub record Answered (bytes : List ℕ) (answer : Answer ℕ) (out out′ : List ℕ) : Type 0 where
+pub record BytesAnswered (bytes : List ℕ) (answer : Answer ℕ) (out out′ : List ℕ) : Type 0 where
   pub says : answer ≡ unless (roomRows bytes out) (length bytes)
   pub leaves : out′ ≡ written answer bytes out

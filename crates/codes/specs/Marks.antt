@@ -13,7 +13,7 @@ use Rattle.voice.specs.Voice.{printByte}
 use Rattle.graph.specs.Graph.{Graph, sink, isNode, increment}
 use Rattle.graph.specs.Words.{pathOfWord, codeOf}
 use Rattle.graph.specs.Checking.{Accepted}
-use Rattle.checking.specs.Tables.{Listed}
+use Rattle.checking.specs.Tables.{WithOffsets}
 
 -- some way from u spells the bytes, u's own letter first
 unfoldable pub fits : List ℕ → Graph → ℕ → List ℕ → Bool
@@ -46,10 +46,10 @@ pub record FirstMarked (g : Graph) (table : List ℕ) (row u s step : ℕ) : Typ
   pub there : marked table row s ≡ true
   pub increases : step ≡ increment g u s
 
--- what the rows are filled from: accepted images, the table of where the lists begin, and a word that is not too long
-pub record Marking (v x lists word : List ℕ) : Type 0 where
+-- what the rows are filled from: accepted images, the table of offsets, and a word that is not too long
+pub record Marking (v x offsets word : List ℕ) : Type 0 where
   pub accepted : Accepted v x
-  pub listed : Listed x lists
+  pub located : WithOffsets x offsets
   pub short : length word ≤ 32
 
 -- 13, or the word's code

@@ -10,17 +10,17 @@ use Rattle.call.specs.Table.{Answer, on, unless}
 use Rattle.lexicon.specs.Lexicon.{sinkOf, nodeLetter}
 use Rattle.graph.specs.Graph.{Graph, graphOf, pathCount, increment}
 use Rattle.graph.specs.Checking.{Accepted}
-use Rattle.checking.specs.Tables.{TableOf, Listed}
+use Rattle.checking.specs.Tables.{TableOf, WithOffsets}
 
--- a well-formed lexicon with the tables of its lists and path counts
-pub record Tabled (x lists counts : List ℕ) : Type 0 where
-  pub listed : Listed x lists
+-- a well-formed lexicon with the tables of its offsets and path counts
+pub record Tabled (x offsets counts : List ℕ) : Type 0 where
+  pub located : WithOffsets x offsets
   pub counted : TableOf (suc (sinkOf x)) (pathCount (graphOf x)) counts
 
 -- what a call works with that no row of 1 to 10 ends
-pub record Ready (v x lists counts : List ℕ) : Type 0 where
+pub record OpenedImages (v x offsets counts : List ℕ) : Type 0 where
   pub accepted : Accepted v x
-  pub tabled : Tabled x lists counts
+  pub tabled : Tabled x offsets counts
 
 -- the letter of a node, and its print byte, lie inside the images
 pub record Readable (v x : List ℕ) (node : ℕ) : Type 0 where

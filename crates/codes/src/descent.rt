@@ -7,7 +7,7 @@ ghost use Rattle.call.specs.Buffers.{written};
 ghost use Rattle.lexicon.specs.Lexicon.{nodeCount};
 ghost use Rattle.graph.specs.Graph.{graphOf, pathCount, wordCount};
 ghost use Rattle.graph.specs.Words.{wordOfCode};
-ghost use Rattle.codes.specs.Steps.{Tabled, Ready, Stepped, Spelled, roomAnswer};
+ghost use Rattle.codes.specs.Steps.{Tabled, OpenedImages, Stepped, Spelled, roomAnswer};
 use crate::image::number_at;
 use crate::image::print_byte;
 use call::Answer;
@@ -22,16 +22,16 @@ pub(crate) struct Step {
 // The arc along which the code leads, and what of the code is left behind it: the path counts of the successors before it are taken off.
 fn descend(
     lexicon: &[u8],
-    lists: &[u16; 402],
+    offsets: &[u16; 402],
     counts: &[u32; 402],
     vertex: usize,
     code: u32,
 ) -> Step
-    requires { ⌜ Tabled (now lexicon) (now lists) (now counts) ⌝ }
+    requires { ⌜ Tabled (now lexicon) (now offsets) (now counts) ⌝ }
     requires { ⌜ (vertex ≤ nodeCount (now lexicon)) × (code < pathCount (graphOf (now lexicon)) vertex) ⌝ }
     ensures { λ r. ⌜ Stepped (graphOf (now (lexicon .entry))) vertex code (r .vertex) (r .code) ⌝ }
 {
-    let mut at = lists[vertex] as usize + 2;
+    let mut at = offsets[vertex] as usize + 2;
     let mut left = code;
     loop {
         let next = number_at(lexicon, at);
@@ -51,24 +51,24 @@ fn descend(
 pub(crate) fn spell(
     voice: &[u8],
     lexicon: &[u8],
-    lists: &[u16; 402],
+    offsets: &[u16; 402],
     counts: &[u32; 402],
     code: u32,
     letters: &mut [u8; 32],
 ) -> usize
-    requires { ⌜ Ready (now voice) (now lexicon) (now lists) (now counts) ⌝ }
+    requires { ⌜ OpenedImages (now voice) (now lexicon) (now offsets) (now counts) ⌝ }
     requires { ⌜ (code < wordCount (graphOf (now lexicon))) × (length (now letters) ≡ 32) ⌝ }
     ensures { λ r. ⌜ Spelled (wordOfCode (now (voice .entry)) (graphOf (now (lexicon .entry))) code) (now (letters .exit)) r ⌝ }
 {
     let sink = number_at(lexicon, 0) + 1;
-    let first = descend(lexicon, lists, counts, 0, code);
+    let first = descend(lexicon, offsets, counts, 0, code);
     let mut vertex = first.vertex;
     let mut left = first.code;
     let mut length = 0;
     while vertex < sink {
         letters[length] = print_byte(voice, lexicon, vertex);
         length += 1;
-        let next = descend(lexicon, lists, counts, vertex, left);
+        let next = descend(lexicon, offsets, counts, vertex, left);
         vertex = next.vertex;
         left = next.code;
     }

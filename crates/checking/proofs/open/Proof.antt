@@ -7,11 +7,14 @@ use lib.ListN.{length, take}
 use lib.Seq.{length-take-le}
 use borrow.Author.Needs.{needs}
 use Rattle.call.specs.Limits.{workSpace}
-use Rattle.call.specs.Table.{answerOf}
+use Rattle.call.specs.Table.{answerOf, value}
 use Rattle.call.specs.Buffers.{cleared}
 use Rattle.call.proofs.Buffers.{cleared-short, cleared-length, part-cleared}
+use Rattle.voice.specs.Voice.{letterCount}
 use Rattle.graph.specs.Checking.{checkAnswer}
-use Rattle.checking.proofs.Judging.{short-answer, long-answer, opened-value, opened-refused}
+use Rattle.graph.proofs.Accepted.{accepted, passed}
+use Rattle.checking.proofs.Judging.{short-answer, long-answer}
+use Rattle.checking.proofs.VertexRows.{opened-value, opened-refused}
 use Rattle.checking.proofs.open.Statement.{statement}
 use Rattle.checking.proofs.open.Tie as tie
 
@@ -21,7 +24,7 @@ long c = c .if1 .left
 returns : tie.Need-returns
 returns c =
     let short : length (c .before .before .before .before .args .work .now) < workSpace = c .if1 .taken in
-    (sym (short-answer _ _ _ short), (sym (cleared-short _ short), opened-refused refl))
+    (sym (short-answer _ _ _ short), (sym (cleared-short _ short), sym (opened-refused _ _ refl)))
 
 -- the part that is lent on, and that it keeps its length
 part-long : (c : tie.Else1) → length (take 20502 (c .before .before .before .before .args .work .now)) ≡ 20502
@@ -50,14 +53,28 @@ work-cleared c =
     c .clear .ensures
     ∙ part-cleared (judged c .judge-images .last .1 .1 .0) (start c .args .work .now) (part-kept (judged c) ∙ part-long e) (omega arith) (long e)
 
+-- the answer is a value
+valued : (c : tie.After-enum-told) → answerOf (judged (c .before .before .before .before) .judge-images .result) ≡ value (c .enum-told .given .0 .0)
+valued c = ap answerOf (c .enum-told .given .1)
+
+put-rows-requires : tie.Need-put-rows-requires
+put-rows-requires c κs =
+    let t = c .before .before .before in
+    let d = t .before .before .before .before in
+    let a = start d .args in
+    let p = passed (a .voice .now) (a .lexicon .now) (a .work .now) (sym (answered d) ∙ valued t) in (
+      record { letters = letterCount (a .voice .now); judged = accepted (p .images) .lexicon },
+      judged d .judge-images .ensures .opened _ (valued t),
+    )
+
 same-length : tie.Need-same-length
-same-length c = ap length (work-cleared (c .before .before .before .before)) ∙ cleared-length _
+same-length c = ap length (work-cleared (c .before .before .before .before .before .before .before .before)) ∙ cleared-length _
 
 returns-2 : tie.Need-returns-2
 returns-2 c =
-    let d = c .before .before .before .before in
-    let e = ap answerOf (c .enum-told .given .1) in
-    (answered d, (work-cleared d, opened-value e (judged d .judge-images .ensures .opened _ e)))
+    let t = c .before .before .before .before in
+    let d = t .before .before .before .before in
+    (answered d, (work-cleared d, c .put-rows .ensures ∙ sym (opened-value _ _ (valued t))))
 
 same-length-2 : tie.Need-same-length-2
 same-length-2 c = ap length (work-cleared (c .before .before .before .before)) ∙ cleared-length _
@@ -65,7 +82,7 @@ same-length-2 c = ap length (work-cleared (c .before .before .before .before)) �
 returns-3 : tie.Need-returns-3
 returns-3 c =
     let d = c .before .before .before .before in
-    (answered d, (work-cleared d, opened-refused (ap answerOf (c .enum-told2 .given .1))))
+    (answered d, (work-cleared d, sym (opened-refused _ _ (ap answerOf (c .enum-told2 .given .1)))))
 
 pub open-spec : {M : Type 1} → statement M
 open-spec =
@@ -75,9 +92,10 @@ open-spec =
     (λ c. search needs)
     (λ c. search needs)
     (λ c. search needs)
-    (λ c κs. record { room = part-long (c .before .before .before); no-lists = refl; no-counts = refl })
+    (λ c κs. record { room = part-long (c .before .before .before); no-offsets = refl; no-counts = refl })
     (λ c κs. search needs)
     (λ c. c .match .keys1)
+    put-rows-requires
     (λ c. c .match .keys2)
     same-length
     returns-2

@@ -9,8 +9,8 @@ use Rattle.call.specs.Table.{answerOf, refused}
 use Rattle.call.specs.Buffers.{written}
 use Rattle.graph.proofs.Accepted.{Passed, passed}
 use Rattle.codes.specs.Lookup.{codeToWordAnswer}
-use Rattle.codes.specs.Steps.{Ready, roomAnswer}
-use Rattle.codes.proofs.Calls.{ready, code-refused, code-bad, code-good, out-refused, out-written}
+use Rattle.codes.specs.Steps.{OpenedImages, roomAnswer}
+use Rattle.codes.proofs.Calls.{opened-images, code-refused, code-bad, code-good, out-refused, out-written}
 use Rattle.codes.proofs.code_to_word.Statement.{statement}
 use Rattle.codes.proofs.code_to_word.Tie as tie
 
@@ -39,10 +39,10 @@ passes c =
 prepared : (c : tie.After-opened) →
     let o = c .before .before .before .before in
     let a = o .before .before .before .before .before .before .before .before .args in
-    Ready (a .voice .now) (a .lexicon .now) (o .«open» .last .1 .1 .1 .0) (o .«open» .last .1 .1 .1 .1 .0)
+    OpenedImages (a .voice .now) (a .lexicon .now) (o .«open» .last .1 .1 .1 .0) (o .«open» .last .1 .1 .1 .1 .0)
 prepared c =
     let o = c .before .before .before .before in
-    ready _ _ _ _ _ (passes c) (o .«open» .ensures .1 .1 .filled _ (ap answerOf (c .opened .given .1)))
+    opened-images _ _ _ _ _ (passes c) (o .«open» .ensures .1 .1 .filled _ (ap answerOf (c .opened .given .1)))
 
 returns-2 : tie.Need-returns-2
 returns-2 c =

@@ -6,7 +6,7 @@ use Rattle.graph.specs.Checking.{checkAnswer}
 use Rattle.graph.proofs.Accepted.{passed}
 use Rattle.codes.proofs.list.Statement.{statement}
 use Rattle.codes.proofs.list.Tie as tie
-use Rattle.codes.proofs.Calls.{ready, list-refused, list-kept, list-written}
+use Rattle.codes.proofs.Calls.{opened-images, list-refused, list-kept, list-written}
 
 -- checking has answered a value
 answered : (c : tie.After-enum-told) →
@@ -18,7 +18,7 @@ put-listing-requires : tie.Need-put-listing-requires
 put-listing-requires c κs =
     let t = c .before .before .before in
     let opened = c .before .before .before .before .before .before .before .«open» .ensures .1 .1 in
-    ready _ _ _ _ _ (passed _ _ _ (answered t)) (opened .filled _ (ap answerOf (t .enum-told .given .1)))
+    opened-images _ _ _ _ _ (passed _ _ _ (answered t)) (opened .filled _ (ap answerOf (t .enum-told .given .1)))
 
 returns : tie.Need-returns
 returns c =

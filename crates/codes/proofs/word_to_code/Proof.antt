@@ -10,8 +10,8 @@ use Rattle.call.specs.Table.{answerOf}
 use Rattle.call.specs.Buffers.{cleared}
 use Rattle.call.proofs.Buffers.{cleared-length, part-cleared, cleared-twice}
 use Rattle.graph.proofs.Accepted.{Passed, passed}
-use Rattle.codes.specs.Steps.{Ready}
-use Rattle.codes.proofs.Calls.{ready, word-refused, word-looked}
+use Rattle.codes.specs.Steps.{OpenedImages}
+use Rattle.codes.proofs.Calls.{opened-images, word-refused, word-looked}
 use Rattle.codes.proofs.word_to_code.Statement.{statement}
 use Rattle.codes.proofs.word_to_code.Tie as tie
 
@@ -33,10 +33,10 @@ passes c =
 prepared : (c : tie.After-enum-told) →
     let o = c .before .before .before .before in
     let a = o .before .before .before .before .before .before .before .before .args in
-    Ready (a .voice .now) (a .lexicon .now) (o .«open» .last .1 .1 .1 .0) (o .«open» .last .1 .1 .1 .1 .0)
+    OpenedImages (a .voice .now) (a .lexicon .now) (o .«open» .last .1 .1 .1 .0) (o .«open» .last .1 .1 .1 .1 .0)
 prepared c =
     let o = c .before .before .before .before in
-    ready _ _ _ _ _ (passes c) (o .«open» .ensures .1 .1 .filled _ (ap answerOf (c .enum-told .given .1)))
+    opened-images _ _ _ _ _ (passes c) (o .«open» .ensures .1 .1 .filled _ (ap answerOf (c .enum-told .given .1)))
 
 -- the table has room in the work space
 room : (c : tie.After-enum-told) → 13266 ≤ length (c .before .before .before .before .«open» .last .1 .1 .0)

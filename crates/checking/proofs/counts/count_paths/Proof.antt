@@ -7,16 +7,16 @@ use Rattle.lexicon.specs.Lexicon.{sinkOf}
 use Rattle.graph.specs.Graph.{graphOf}
 use Rattle.checking.specs.Tables.{cappedCount}
 use Rattle.checking.specs.Filling.{AtVertex}
-use Rattle.checking.proofs.Filling.{Filling, vertex-small, count-there, sink-is, sink-small, filling-sink, filling-next, vertex-next, filled-whole}
+use Rattle.checking.proofs.Filling.{FilledDownTo, vertex-small, count-there, sink-is, sink-small, filling-sink, filling-next, vertex-next, filled-whole}
 use Rattle.checking.proofs.Capped.{capped-sink}
 use Rattle.checking.proofs.counts.count_paths.Statement.{statement}
 use Rattle.checking.proofs.counts.count_paths.Tie as tie
 
 abbrev Inv-loop : tie.InvT-loop
-Inv-loop lexicon lists counts₀ vertex₀ counts vertex = Filling (cappedCount (graphOf lexicon)) lexicon counts vertex
+Inv-loop lexicon offsets counts₀ vertex₀ counts vertex = FilledDownTo (cappedCount (graphOf lexicon)) lexicon counts vertex
 
 abbrev μ-loop : tie.MeasureT-loop
-μ-loop lexicon lists counts₀ vertex₀ counts vertex = vertex
+μ-loop lexicon offsets counts₀ vertex₀ counts vertex = vertex
 
 -- the first entry is the sink's
 sink : (c : tie.After-number-at Inv-loop μ-loop) → c .number-at .result + 1 ≡ sinkOf (c .before .before .args .lexicon .now)
@@ -33,7 +33,7 @@ loop-holds c =
 -- one vertex down
 next : (c : tie.In-loop Inv-loop μ-loop) →
     let a = c .before .before .before .before .args in
-    AtVertex (cappedCount (graphOf (a .lexicon .now))) (a .lexicon .now) (a .lists .now) (c .before .loop .counts) (c .before .loop .vertex - 1)
+    AtVertex (cappedCount (graphOf (a .lexicon .now))) (a .lexicon .now) (a .offsets .now) (c .before .loop .counts) (c .before .loop .vertex - 1)
 next c =
     let l = c .before in
     vertex-next (l .before .before .before .pre .0) (l .loop .inv) (omega (arith, c .loop-test .taken))

@@ -10,15 +10,15 @@ use Rattle.checking.proofs.counts.path_count.Statement.{statement}
 use Rattle.checking.proofs.counts.path_count.Tie as tie
 
 abbrev Inv-loop : tie.InvT-loop
-Inv-loop lexicon lists counts vertex start stop at₀ sum₀ at sum = CountLeft lexicon vertex at stop sum
+Inv-loop lexicon offsets counts vertex start stop at₀ sum₀ at sum = CountLeft lexicon vertex at stop sum
 
 abbrev μ-loop : tie.MeasureT-loop
-μ-loop lexicon lists counts vertex start stop at₀ sum₀ at sum = stop - at
+μ-loop lexicon offsets counts vertex start stop at₀ sum₀ at sum = stop - at
 
 loop-holds : tie.Need-loop-holds Inv-loop μ-loop
 loop-holds c =
     let p = c .before .before .before .pre in
-    rw (c .number-at .ensures) (count-start (p .listed .well-formed) (p .vertex) (list-begins p))
+    rw (c .number-at .ensures) (count-start (p .located .well-formed) (p .vertex) (list-begins p))
 
 number-at-requires-2 : tie.Need-number-at-requires-2 Inv-loop μ-loop
 number-at-requires-2 c κs =

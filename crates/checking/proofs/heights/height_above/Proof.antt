@@ -11,15 +11,15 @@ use Rattle.checking.proofs.heights.height_above.Statement.{statement}
 use Rattle.checking.proofs.heights.height_above.Tie as tie
 
 abbrev Inv-loop : tie.InvT-loop
-Inv-loop lexicon lists heights vertex start stop at₀ most₀ at most = HeightLeft lexicon vertex at stop most
+Inv-loop lexicon offsets heights vertex start stop at₀ most₀ at most = HeightLeft lexicon vertex at stop most
 
 abbrev μ-loop : tie.MeasureT-loop
-μ-loop lexicon lists heights vertex start stop at₀ most₀ at most = stop - at
+μ-loop lexicon offsets heights vertex start stop at₀ most₀ at most = stop - at
 
 loop-holds : tie.Need-loop-holds Inv-loop μ-loop
 loop-holds c =
     let p = c .before .before .before .pre in
-    rw (c .number-at .ensures) (height-start (p .listed .well-formed) (p .vertex) (list-begins p))
+    rw (c .number-at .ensures) (height-start (p .located .well-formed) (p .vertex) (list-begins p))
 
 number-at-requires-2 : tie.Need-number-at-requires-2 Inv-loop μ-loop
 number-at-requires-2 c κs =

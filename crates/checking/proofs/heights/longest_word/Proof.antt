@@ -13,10 +13,10 @@ use Rattle.checking.proofs.heights.longest_word.Statement.{statement}
 use Rattle.checking.proofs.heights.longest_word.Tie as tie
 
 abbrev Inv-loop : tie.InvT-loop
-Inv-loop lexicon lists heights₀ vertex₀ heights vertex = AtVertex (height (graphOf lexicon)) lexicon lists heights vertex
+Inv-loop lexicon offsets heights₀ vertex₀ heights vertex = AtVertex (height (graphOf lexicon)) lexicon offsets heights vertex
 
 abbrev μ-loop : tie.MeasureT-loop
-μ-loop lexicon lists heights₀ vertex₀ heights vertex = vertex
+μ-loop lexicon offsets heights₀ vertex₀ heights vertex = vertex
 
 loop-holds : tie.Need-loop-holds Inv-loop μ-loop
 loop-holds c =
@@ -27,7 +27,7 @@ add-heights : tie.Need-add-heights Inv-loop μ-loop
 add-heights c =
     let t = c .before .before in
     let i = t .before .loop .inv in
-    let h = above-small (i .listed .well-formed) (t .loop-test .taken) (i .vertex) in
+    let h = above-small (i .located .well-formed) (t .loop-test .taken) (i .vertex) in
     let e = c .height-above .ensures in
     search needs
 
@@ -35,8 +35,8 @@ loop-again : tie.Need-loop-again Inv-loop μ-loop
 loop-again c =
     let t = c .before .before in
     let i = t .before .loop .inv in
-    let e = node-height (i .listed .well-formed) (t .loop-test .taken) (i .vertex) in
-    vertex-next (i .listed) (filling-next i (omega (arith, c .height-above .ensures, e))) (omega (arith, t .loop-test .taken))
+    let e = node-height (i .located .well-formed) (t .loop-test .taken) (i .vertex) in
+    vertex-next (i .located) (filling-next i (omega (arith, c .height-above .ensures, e))) (omega (arith, t .loop-test .taken))
 
 height-above-requires-2 : tie.Need-height-above-requires-2 Inv-loop μ-loop
 height-above-requires-2 c κs =
@@ -45,7 +45,7 @@ height-above-requires-2 c κs =
     rw e at (l .before .loop .inv)
 
 returns : tie.Need-returns Inv-loop μ-loop
-returns c = ap longWord (c .height-above2 .ensures) ∙ longest-above (c .before .before .before .loop .inv .listed .well-formed)
+returns c = ap longWord (c .height-above2 .ensures) ∙ longest-above (c .before .before .before .loop .inv .located .well-formed)
 
 pub longest-word-spec : {M : Type 1} → statement M
 longest-word-spec =

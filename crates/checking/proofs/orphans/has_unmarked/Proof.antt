@@ -3,12 +3,12 @@
 use Prim.Native.Nat.{_+_, _-_}
 use borrow.Author.Needs.{needs}
 use borrow.Author.Tests.{not-true, not-false}
-use Rattle.checking.proofs.Marks.{NodesLeft, nodes-start, node-unmarked, node-marked, nodes-done}
+use Rattle.checking.proofs.Marks.{NodesToTest, nodes-start, node-unmarked, node-marked, nodes-done}
 use Rattle.checking.proofs.orphans.has_unmarked.Statement.{statement}
 use Rattle.checking.proofs.orphans.has_unmarked.Tie as tie
 
 abbrev Inv-loop : tie.InvT-loop
-Inv-loop marks nodes node₀ node = NodesLeft marks nodes node
+Inv-loop marks nodes node₀ node = NodesToTest marks nodes node
 
 abbrev μ-loop : tie.MeasureT-loop
 μ-loop marks nodes node₀ node = nodes + 1 - node

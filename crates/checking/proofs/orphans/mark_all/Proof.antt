@@ -6,16 +6,16 @@ use native.Mathlib.Omega.{arith}
 use native.Mathlib.Numerals.{add-one}
 use borrow.Author.Needs.{needs}
 use Rattle.lexicon.specs.Lexicon.{sinkOf}
-use Rattle.checking.specs.Marks.{Marked}
+use Rattle.checking.specs.Marks.{SuccessorsMarked}
 use Rattle.checking.proofs.Arcs.{shape-of}
 use Rattle.checking.proofs.orphans.mark_all.Statement.{statement}
 use Rattle.checking.proofs.orphans.mark_all.Tie as tie
 
 abbrev Inv-loop : tie.InvT-loop
-Inv-loop lexicon lists nodes marks₀ vertex₀ marks vertex = Marked lexicon vertex marks × (vertex ≤ nodes + 1)
+Inv-loop lexicon offsets nodes marks₀ vertex₀ marks vertex = SuccessorsMarked lexicon vertex marks × (vertex ≤ nodes + 1)
 
 abbrev μ-loop : tie.MeasureT-loop
-μ-loop lexicon lists nodes marks₀ vertex₀ marks vertex = nodes + 1 - vertex
+μ-loop lexicon offsets nodes marks₀ vertex₀ marks vertex = nodes + 1 - vertex
 
 few : (c : tie.Start Inv-loop μ-loop) → c .args .nodes ≤ 400
 few c = omega (arith, c .pre .1, shape-of (c .pre .0 .well-formed) .few)

@@ -13,10 +13,10 @@ use Rattle.checking.proofs.orphans.mark_successors.Statement.{statement
 use Rattle.checking.proofs.orphans.mark_successors.Tie as tie
 
 abbrev Inv-loop : tie.InvT-loop
-Inv-loop lexicon lists vertex marks₀ start stop at₀ marks at = MarksLeft lexicon vertex at stop marks
+Inv-loop lexicon offsets vertex marks₀ start stop at₀ marks at = MarksLeft lexicon vertex at stop marks
 
 abbrev μ-loop : tie.MeasureT-loop
-μ-loop lexicon lists vertex marks₀ start stop at₀ marks at = stop - at
+μ-loop lexicon offsets vertex marks₀ start stop at₀ marks at = stop - at
 
 low : (c : tie.After-shared-slice-known Inv-loop μ-loop) → c .before .args .vertex < 402
 low c = omega (arith, c .before .pre .1, shape-of (c .before .pre .0 .well-formed) .few)
@@ -24,13 +24,13 @@ low c = omega (arith, c .before .pre .1, shape-of (c .before .pre .0 .well-forme
 -- where the list begins, and that it is there
 begins : (c : tie.After-start Inv-loop μ-loop) →
     let a = c .before .before .args in
-    getD (a .lists .now) (a .vertex) 0 ≡ arcsAt (a .lexicon .now) (a .vertex)
+    getD (a .offsets .now) (a .vertex) 0 ≡ arcsAt (a .lexicon .now) (a .vertex)
 unfolding sinkOf
 begins c = let p = c .before .before .pre in entry (p .0 .table) (omega (arith, p .1))
 
 list : (c : tie.After-start Inv-loop μ-loop) →
     let a = c .before .before .args in
-    ListThere (a .lexicon .now) (getD (a .lists .now) (a .vertex) 0)
+    ListThere (a .lexicon .now) (getD (a .offsets .now) (a .vertex) 0)
 list c = let p = c .before .before .pre in list-there (p .0 .well-formed) (p .1) (begins c)
 
 number-at-requires : tie.Need-number-at-requires Inv-loop μ-loop
@@ -38,7 +38,7 @@ number-at-requires c κs = omega (arith, list c .there)
 
 small : (c : tie.After-number-at Inv-loop μ-loop) →
     let a = c .before .before .before .args in
-    getD (a .lists .now) (a .vertex) 0 + 2 + 2 * c .number-at .result ≤ 9204
+    getD (a .offsets .now) (a .vertex) 0 + 2 + 2 * c .number-at .result ≤ 9204
 small c = rw (c .number-at .ensures) (list (c .before) .small)
 
 loop-holds : tie.Need-loop-holds Inv-loop μ-loop

@@ -12,12 +12,12 @@ use Rattle.checking.proofs.pairs.gather.Statement.{statement}
 use Rattle.checking.proofs.pairs.gather.Tie as tie
 
 abbrev Inv-loop : tie.InvT-loop
-Inv-loop lexicon lists u pairs mask₀ start stop at₀ mask at = Gathering lexicon u at stop mask
+Inv-loop lexicon offsets u pairs mask₀ start stop at₀ mask at = Gathering lexicon u at stop mask
 
 abbrev μ-loop : tie.MeasureT-loop
-μ-loop lexicon lists u pairs mask₀ start stop at₀ mask at = stop - at
+μ-loop lexicon offsets u pairs mask₀ start stop at₀ mask at = stop - at
 
-room-at : (c : tie.After-shared-slice-known2 Inv-loop μ-loop) → let a = c .before .before .args in ListRoom (a .lexicon .now) (a .lists .now) (a .u)
+room-at : (c : tie.After-shared-slice-known2 Inv-loop μ-loop) → let a = c .before .before .args in ListRoom (a .lexicon .now) (a .offsets .now) (a .u)
 room-at c = let h = c .before .before .pre in list-room (h .0) (h .1)
 
 loop-holds : tie.Need-loop-holds Inv-loop μ-loop
@@ -29,7 +29,7 @@ next-at : (c : tie.In-loop Inv-loop μ-loop) →
     let d = c .before .before in
     let a = d .before .before .before .before .args in
     let l = c .before .loop in
-    ArcNext (a .lexicon .now) (a .u) (l .at) (getD (a .lists .now) (a .u) 0 + 2 + 2 * d .number-at .result) (l .inv .left)
+    ArcNext (a .lexicon .now) (a .u) (l .at) (getD (a .offsets .now) (a .u) 0 + 2 + 2 * d .number-at .result) (l .inv .left)
 next-at c = arc-next (c .before .loop .inv .arcs) (c .loop-test .taken)
 
 has-bit-requires : tie.Need-has-bit-requires Inv-loop μ-loop
@@ -83,8 +83,8 @@ gather-spec =
     (tie.spec
     Inv-loop
     μ-loop
-    (λ c. omega (arith, room-at c .listed))
-    (λ c. room-at c .listed)
+    (λ c. omega (arith, room-at c .inside))
+    (λ c. room-at c .inside)
     (λ c. omega (arith, room-at (c .before) .small))
     (λ c. omega (arith, room-at (c .before) .small))
     (λ c κs. omega (arith, room-at (c .before) .room))

@@ -17,10 +17,10 @@ use Rattle.checking.proofs.pairs.has_same_letters.Statement.{statement}
 use Rattle.checking.proofs.pairs.has_same_letters.Tie as tie
 
 abbrev Inv-loop : tie.InvT-loop
-Inv-loop lexicon lists pairs₀ u₀ pairs u = Rows lexicon u pairs
+Inv-loop lexicon offsets pairs₀ u₀ pairs u = Rows lexicon u pairs
 
 abbrev μ-loop : tie.MeasureT-loop
-μ-loop lexicon lists pairs₀ u₀ pairs u = u
+μ-loop lexicon offsets pairs₀ u₀ pairs u = u
 
 number-at-requires : tie.Need-number-at-requires Inv-loop μ-loop
 number-at-requires c κs = omega (arith, nodes-there (c .before .before .pre .0 .well-formed))

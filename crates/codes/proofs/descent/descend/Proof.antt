@@ -14,20 +14,20 @@ use Rattle.codes.proofs.descent.descend.Statement.{statement}
 use Rattle.codes.proofs.descent.descend.Tie as tie
 
 abbrev Inv-loop : tie.InvT-loop
-Inv-loop lexicon lists counts vertex code at₀ left₀ at left = ArcsToPass lexicon vertex code at left
+Inv-loop lexicon offsets counts vertex code at₀ left₀ at left = ArcsToPass lexicon vertex code at left
 
 abbrev μ-loop : tie.MeasureT-loop
-μ-loop lexicon lists counts vertex code at₀ left₀ at left = length lexicon - at
+μ-loop lexicon offsets counts vertex code at₀ left₀ at left = length lexicon - at
 
 low : (c : tie.After-shared-slice-known Inv-loop μ-loop) → c .before .args .vertex < 402
 unfolding sinkOf
-low c = has-entry (c .before .pre .0 .listed .well-formed) (omega (arith, c .before .pre .1 .0))
+low c = has-entry (c .before .pre .0 .located .well-formed) (omega (arith, c .before .pre .1 .0))
 
-small : (c : tie.After-at Inv-loop μ-loop) → let a = c .before .before .args in getD (a .lists .now) (a .vertex) 0 ≤ 9204
-small c = let p = c .before .before .pre in omega (arith, list-at (p .0 .listed) (p .1 .0) .small)
+small : (c : tie.After-at Inv-loop μ-loop) → let a = c .before .before .args in getD (a .offsets .now) (a .vertex) 0 ≤ 9204
+small c = let p = c .before .before .pre in omega (arith, list-at (p .0 .located) (p .1 .0) .small)
 
 loop-holds : tie.Need-loop-holds Inv-loop μ-loop
-loop-holds c = let p = c .before .before .pre in pass-start (p .0) (p .1 .0) (list-entry (p .0 .listed) (p .1 .0)) (p .1 .1)
+loop-holds c = let p = c .before .before .pre in pass-start (p .0) (p .1 .0) (list-entry (p .0 .located) (p .1 .0)) (p .1 .1)
 
 -- the arc that comes next
 next : (c : tie.At-loop Inv-loop μ-loop) →
@@ -41,7 +41,7 @@ there c = omega (arith, next c .room, c .loop .inv .arcs .there)
 leads : (c : tie.After-number-at Inv-loop μ-loop) → c .number-at .result < 402
 leads c =
     let p = c .before .before .before .before .pre in
-    rw (c .number-at .ensures) (has-entry (p .0 .listed .well-formed) (next (c .before) .bounded))
+    rw (c .number-at .ensures) (has-entry (p .0 .located .well-formed) (next (c .before) .bounded))
 
 -- the count that is read is the next one's path count
 count : (c : tie.After-count Inv-loop μ-loop) →

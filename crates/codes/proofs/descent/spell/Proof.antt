@@ -16,20 +16,20 @@ use Rattle.codes.proofs.descent.spell.Statement.{statement}
 use Rattle.codes.proofs.descent.spell.Tie as tie
 
 abbrev Inv-loop : tie.InvT-loop
-Inv-loop voice lexicon lists counts code letters₀ sink vertex₀ left₀ length₀ letters vertex left length =
+Inv-loop voice lexicon offsets counts code letters₀ sink vertex₀ left₀ length₀ letters vertex left length =
     LettersLeft voice lexicon code letters length vertex left
 
 abbrev μ-loop : tie.MeasureT-loop
-μ-loop voice lexicon lists counts code letters₀ sink vertex₀ left₀ length₀ letters vertex left length = sink - vertex
+μ-loop voice lexicon offsets counts code letters₀ sink vertex₀ left₀ length₀ letters vertex left length = sink - vertex
 
 number-at-requires : tie.Need-number-at-requires Inv-loop μ-loop
-number-at-requires c κs = count-there (c .before .before .pre .0 .tabled .listed .well-formed)
+number-at-requires c κs = count-there (c .before .before .pre .0 .tabled .located .well-formed)
 
 -- N
 nodes : (c : tie.After-number-at Inv-loop μ-loop) →
     let a = c .before .before .before .args in (c .number-at .result ≡ nodeCount (a .lexicon .now)) × (c .number-at .result ≤ 400)
 unfolding nodeCount
-nodes c = let e = c .number-at .ensures in (e, rw e (shape-of (c .before .before .before .pre .0 .tabled .listed .well-formed) .few))
+nodes c = let e = c .number-at .ensures in (e, rw e (shape-of (c .before .before .before .pre .0 .tabled .located .well-formed) .few))
 
 descend-requires : tie.Need-descend-requires Inv-loop μ-loop
 unfolding wordCount

@@ -9,10 +9,10 @@ use Rattle.codes.proofs.listing.arcs_on_ways.Statement.{statement}
 use Rattle.codes.proofs.listing.arcs_on_ways.Tie as tie
 
 abbrev Inv-loop : tie.InvT-loop
-Inv-loop lexicon lists counts totals vertex list arcs total₀ arc₀ total arc = Added lexicon vertex arc total
+Inv-loop lexicon offsets counts totals vertex list arcs total₀ arc₀ total arc = Added lexicon vertex arc total
 
 abbrev μ-loop : tie.MeasureT-loop
-μ-loop lexicon lists counts totals vertex list arcs total₀ arc₀ total arc = arcs - arc
+μ-loop lexicon offsets counts totals vertex list arcs total₀ arc₀ total arc = arcs - arc
 
 -- the vertex has an entry of the tables
 few : (c : tie.Start Inv-loop μ-loop) → c .args .vertex ≤ 400

@@ -14,16 +14,16 @@ use Rattle.codes.proofs.Totals.{nodes, counted-none, counted-more}
 use Rattle.codes.proofs.listing.listing_size.Statement.{statement}
 use Rattle.codes.proofs.listing.listing_size.Tie as tie
 
-record Filled (x totals : List ℕ) (vertex : ℕ) : Type 0 where
+record TotalsFilled (x totals : List ℕ) (vertex : ℕ) : Type 0 where
   inside : vertex ≤ sinkOf x
   long : length totals ≡ 402
   counted : CountedFrom x totals vertex
 
 abbrev Inv-loop : tie.InvT-loop
-Inv-loop lexicon lists counts totals₀ vertex₀ totals vertex = Filled lexicon totals vertex
+Inv-loop lexicon offsets counts totals₀ vertex₀ totals vertex = TotalsFilled lexicon totals vertex
 
 abbrev μ-loop : tie.MeasureT-loop
-μ-loop lexicon lists counts totals₀ vertex₀ totals vertex = vertex
+μ-loop lexicon offsets counts totals₀ vertex₀ totals vertex = vertex
 
 add-vertex : tie.Need-add-vertex Inv-loop μ-loop
 unfolding nodeCount

@@ -16,27 +16,27 @@ use Rattle.codes.proofs.suffixes.first_marked.Statement.{statement}
 use Rattle.codes.proofs.suffixes.first_marked.Tie as tie
 
 abbrev Inv-loop : tie.InvT-loop
-Inv-loop lexicon lists counts table vertex row at₀ code₀ at code = MarkAhead lexicon table row vertex at code
+Inv-loop lexicon offsets counts table vertex row at₀ code₀ at code = MarkAhead lexicon table row vertex at code
 
 abbrev μ-loop : tie.MeasureT-loop
-μ-loop lexicon lists counts table vertex row at₀ code₀ at code = length lexicon - at
+μ-loop lexicon offsets counts table vertex row at₀ code₀ at code = length lexicon - at
 
 low : (c : tie.After-shared-slice-known2 Inv-loop μ-loop) → c .before .before .args .vertex < 402
 unfolding sinkOf
-low c = let p = c .before .before .pre in has-entry (p .0 .listed .well-formed) (omega (arith, p .1 .0 .0))
+low c = let p = c .before .before .pre in has-entry (p .0 .located .well-formed) (omega (arith, p .1 .0 .0))
 
-small : (c : tie.After-at Inv-loop μ-loop) → let a = c .before .before .before .args in getD (a .lists .now) (a .vertex) 0 ≤ 9204
-small c = let p = c .before .before .before .pre in omega (arith, list-at (p .0 .listed) (p .1 .0 .0) .small)
+small : (c : tie.After-at Inv-loop μ-loop) → let a = c .before .before .before .args in getD (a .offsets .now) (a .vertex) 0 ≤ 9204
+small c = let p = c .before .before .before .pre in omega (arith, list-at (p .0 .located) (p .1 .0 .0) .small)
 
 loop-holds : tie.Need-loop-holds Inv-loop μ-loop
 loop-holds c =
     let p = c .before .before .before .pre in
-    ahead-start (p .0 .listed .well-formed) (p .1 .0 .0) (list-entry (p .0 .listed) (p .1 .0 .0)) (p .1 .1 .0)
+    ahead-start (p .0 .located .well-formed) (p .1 .0 .0) (list-entry (p .0 .located) (p .1 .0 .0)) (p .1 .1 .0)
 
 next : (c : tie.At-loop Inv-loop μ-loop) →
     let a = c .before .before .before .before .args in
     ArcNext (a .lexicon .now) (a .vertex) (c .loop .at) (c .loop .inv .stop) (c .loop .inv .counts .later)
-next c = let p = c .before .before .before .before .pre in ahead-arc (p .0 .listed .well-formed) (p .1 .0 .0) (c .loop .inv)
+next c = let p = c .before .before .before .before .pre in ahead-arc (p .0 .located .well-formed) (p .1 .0 .0) (c .loop .inv)
 
 there : (c : tie.At-loop Inv-loop μ-loop) → c .loop .at + 2 ≤ length (c .before .before .before .before .args .lexicon .now)
 there c = omega (arith, next c .room, c .loop .inv .counts .arcs .there)
@@ -44,7 +44,7 @@ there c = omega (arith, next c .room, c .loop .inv .counts .arcs .there)
 leads : (c : tie.After-number-at Inv-loop μ-loop) → c .number-at .result < 402
 leads c =
     let p = c .before .before .before .before .before .pre in
-    rw (c .number-at .ensures) (has-entry (p .0 .listed .well-formed) (next (c .before) .bounded))
+    rw (c .number-at .ensures) (has-entry (p .0 .located .well-formed) (next (c .before) .bounded))
 
 -- the successor has an entry of the row
 placed : (c : tie.After-number-at Inv-loop μ-loop) →
@@ -55,7 +55,7 @@ returns : tie.Need-returns Inv-loop μ-loop
 returns c =
     let n = c .before .before in
     let s = n .before .before .before .before .before in
-    rw (n .number-at .ensures) (ahead-here (s .pre .0 .listed .well-formed) (s .pre .1 .0 .0) (n .before .loop .inv) (rw (n .number-at .ensures) at (is-marked (s .args .table .now) (s .args .row) (n .number-at .result) (c .if1 .taken))))
+    rw (n .number-at .ensures) (ahead-here (s .pre .0 .located .well-formed) (s .pre .1 .0 .0) (n .before .loop .inv) (rw (n .number-at .ensures) at (is-marked (s .args .table .now) (s .args .row) (n .number-at .result) (c .if1 .taken))))
 
 -- the count that is read is the successor's path count
 count : (c : tie.After-code Inv-loop μ-loop) →
@@ -71,7 +71,7 @@ add-code : tie.Need-add-code Inv-loop μ-loop
 add-code c =
     let n = c .before .before .before in
     let p = n .before .before .before .before .before .pre in
-    omega (arith, count c, p .1 .1 .1, counts-below (p .0 .listed .well-formed) (p .1 .0 .0) (n .before .loop .inv .counts) (next (n .before)))
+    omega (arith, count c, p .1 .1 .1, counts-below (p .0 .located .well-formed) (p .1 .0 .0) (n .before .loop .inv .counts) (next (n .before)))
 
 loop-less : tie.Need-loop-less Inv-loop μ-loop
 loop-less c = omega (arith, there (c .before .before .before .before))
@@ -80,7 +80,7 @@ loop-again : tie.Need-loop-again Inv-loop μ-loop
 loop-again c =
     let n = c .before .before .before in
     let s = n .before .before .before .before .before in
-    rw (count c) (ahead-next (s .pre .0 .listed .well-formed) (s .pre .1 .0 .0) (n .before .loop .inv) (rw (n .number-at .ensures) at (not-marked (s .args .table .now) (s .args .row) (n .number-at .result) (c .before .if1 .left))))
+    rw (count c) (ahead-next (s .pre .0 .located .well-formed) (s .pre .1 .0 .0) (n .before .loop .inv) (rw (n .number-at .ensures) at (not-marked (s .args .table .now) (s .args .row) (n .number-at .result) (c .before .if1 .left))))
 
 pub first-marked-spec : {M : Type 1} → statement M
 first-marked-spec =

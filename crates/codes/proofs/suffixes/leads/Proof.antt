@@ -13,10 +13,10 @@ use Rattle.codes.proofs.suffixes.leads.Statement.{statement}
 use Rattle.codes.proofs.suffixes.leads.Tie as tie
 
 abbrev Inv-loop : tie.InvT-loop
-Inv-loop lexicon lists table vertex row start end at₀ at = Searching (marked table row) lexicon vertex at end
+Inv-loop lexicon offsets table vertex row start end at₀ at = Searching (marked table row) lexicon vertex at end
 
 abbrev μ-loop : tie.MeasureT-loop
-μ-loop lexicon lists table vertex row start end at₀ at = end - at
+μ-loop lexicon offsets table vertex row start end at₀ at = end - at
 
 low : (c : tie.After-shared-slice-known2 Inv-loop μ-loop) → c .before .before .args .vertex < 402
 unfolding sinkOf
@@ -24,7 +24,7 @@ low c = let p = c .before .before .pre in has-entry (p .0 .well-formed) (omega (
 
 -- the list begins here
 abbrev start : tie.After-start Inv-loop μ-loop → ℕ
-start c = let a = c .before .before .before .args in getD (a .lists .now) (a .vertex) 0
+start c = let a = c .before .before .before .args in getD (a .offsets .now) (a .vertex) 0
 
 ends : (c : tie.After-start Inv-loop μ-loop) → ListThere (c .before .before .before .args .lexicon .now) (start c)
 ends c = let p = c .before .before .before .pre in list-at (p .0) (p .1 .0)

@@ -16,11 +16,11 @@ use Rattle.codes.proofs.suffixes.mark.Statement.{statement}
 use Rattle.codes.proofs.suffixes.mark.Tie as tie
 
 number-at-requires : tie.Need-number-at-requires
-number-at-requires c κs = count-there (c .before .before .before .before .pre .0 .listed .well-formed)
+number-at-requires c κs = count-there (c .before .before .before .before .pre .0 .located .well-formed)
 
 add-sink : tie.Need-add-sink
 unfolding nodeCount
-add-sink c = omega (arith, c .number-at .ensures, shape-of (c .before .before .before .before .before .pre .0 .listed .well-formed) .few)
+add-sink c = omega (arith, c .number-at .ensures, shape-of (c .before .before .before .before .before .pre .0 .located .well-formed) .few)
 
 sink-is : (c : tie.After-number-at) → c .number-at .result + 1 ≡ sink (graphOf (c .before .before .before .before .before .args .lexicon .now))
 unfolding nodeCount sink
@@ -64,7 +64,7 @@ leads-requires c κs =
     let p = b .before .before .before .before .before .before .before .before .pre in
     let h = node (b .before) in
     let k = more (b .before .before) in
-    (p .0 .listed, (omega arith, omega (arith, p .1 .0 .long, p .0 .short)))
+    (p .0 .located, (omega arith, omega (arith, p .1 .0 .long, p .0 .short)))
 
 -- what the next row says is what fits
 decides : (c : tie.After-leads) →

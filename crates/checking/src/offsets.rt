@@ -1,4 +1,4 @@
-// The lists of the vertices: where each begins, and the numbers in it.
+// Where the list of each vertex begins in the image, and the numbers in it.
 ghost use mathlib.Core.Path.{_≡_};
 ghost use Prim.Native.Nat.{_+_, _≤_};
 ghost use lib.ListN.{length, replicate};
@@ -16,15 +16,15 @@ pub(crate) fn number_at(lexicon: &[u8], at: usize) -> usize
 }
 
 // Where the list of each vertex begins, with its count.
-pub(crate) fn find_lists(lexicon: &[u8], lists: &mut [u16; 402])
-    requires { ⌜ WellFormed (now lexicon) × (now lists ≡ replicate 402 0) ⌝ }
-    ensures { λ _. ⌜ TableOf (sinkOf (now (lexicon .entry))) (arcsAt (now (lexicon .entry))) (now (lists .exit)) ⌝ }
+pub(crate) fn find_offsets(lexicon: &[u8], offsets: &mut [u16; 402])
+    requires { ⌜ WellFormed (now lexicon) × (now offsets ≡ replicate 402 0) ⌝ }
+    ensures { λ _. ⌜ TableOf (sinkOf (now (lexicon .entry))) (arcsAt (now (lexicon .entry))) (now (offsets .exit)) ⌝ }
 {
     let nodes = number_at(lexicon, 0);
     let mut at = 2 + nodes;
     let mut u = 0;
     while u <= nodes {
-        lists[u] = at as u16;
+        offsets[u] = at as u16;
         at += 2 + 2 * number_at(lexicon, at);
         u += 1;
     }

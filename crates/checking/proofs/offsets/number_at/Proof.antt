@@ -1,8 +1,8 @@
--- `lists::number_at` meets its contract. Assumes nothing.
+-- `offsets::number_at` meets its contract. Assumes nothing.
 use borrow.Author.Needs.{needs}
 use Rattle.endian.specs.Bytes.{u16}
-use Rattle.checking.proofs.lists.number_at.Statement.{statement}
-use Rattle.checking.proofs.lists.number_at.Tie as tie
+use Rattle.checking.proofs.offsets.number_at.Statement.{statement}
+use Rattle.checking.proofs.offsets.number_at.Tie as tie
 
 returns : tie.Need-returns
 unfolding u16
