@@ -12,6 +12,7 @@ use mir.Syntax.{w16, w32}
 use mir.Val.{SFits, ofZ, toZ}
 use mir.Facts.{toZ-ofZ}
 use Rattle.endian.proofs.Signed.{toZ-low}
+use Rattle.endian.proofs.Integers.{up, down}
 use Rattle.voice.specs.Voice.{impossible}
 use Rattle.endian.specs.Integers.{eqZ}
 use Rattle.decoder.specs.StatePaths.{scoreLimit}
@@ -25,6 +26,12 @@ raised-sub k n m h = go (ltb n m) refl
     go : (b : Bool) → ltb n m ≡ b → raised k (subℕ n m) ≡ n + k - m
     go true p = let l = ltb-true n m p in rw (lt-ltb n m l) (omega arith)
     go false p = let l = ltb-false n m p in rw (le-ltb n m l) (omega arith)
+
+-- by the two parts of the score
+pub raised-is : (k : ℕ) (z : ℤ) → natAbs z ≤ k → raised k z + down z ≡ k + up z
+unfolding raised up down
+raised-is k (pos n) h = omega arith
+raised-is k (negsuc n) h = omega arith
 
 -- a score to which 2^15 were added, with the rest of the bias
 pub biased-is : (b : ℕ) (z : ℤ) → subℕ b 32768 ≡ z → bias - 32768 + b ≡ raised bias z

@@ -1,4 +1,4 @@
--- Tokens stay within bounds. A frame changes a score by at most 2^16, a move and an emission of 16 bits each. A token's code and the number of
+-- Tokens stay within bounds. A frame changes a score by at most `frameLimit`, since a move and an emission have 16 bits each. A token's code and the number of
 -- paths that go on from its node are together at most W, since a vertex's paths are counted successor by successor. Assumes nothing.
 use Prim.Native.Nat.{ℕ, suc, _+_, _*_, _^_, _≤_, _<_}
 use mathlib.Core.List.{List}
@@ -15,6 +15,7 @@ use Rattle.graph.specs.Graph.{Graph, sink, pathCount, wordCount}
 use Rattle.graph.proofs.Sound.{Sound}
 use Rattle.graph.proofs.Codes.{arc-count}
 use Rattle.ranking.specs.Hits.{Hit}
+use Rattle.decoder.specs.Score.{frameLimit}
 use Rattle.decoder.proofs.Runs.{Run, begin, loop, step, link, Adds, latest}
 use Rattle.passing.specs.Tokens.{tokens}
 use Rattle.passing.proofs.Order.{_∈_, hits-strict}
@@ -41,10 +42,10 @@ module _ (v : List ℕ) where
       (λ t. omega arith)
 
   module _ (frames : List ℕ) where
-    adds-size : {m e b a : ℤ} → Adds m e b a → natAbs m ≤ 32768 → natAbs e ≤ 32768 → natAbs a ≤ natAbs b + 65536
+    adds-size : {m e b a : ℤ} → Adds m e b a → natAbs m ≤ 32768 → natAbs e ≤ 32768 → natAbs a ≤ natAbs b + frameLimit
     adds-size {m} {e} {b} A h k = rw (A .total) (omega (arith, size-sum b (m +ℤ e), size-sum m e))
 
-    run-size : {t s : ℕ} {ls : List ℕ} {a : ℤ} → Run v frames t ls s a → natAbs a ≤ 65536 * suc t
+    run-size : {t s : ℕ} {ls : List ℕ} {a : ℤ} → Run v frames t ls s a → natAbs a ≤ frameLimit * suc t
     unfolding loopScore stepScore linkScore
     run-size (begin {a} h e) = let k : natAbs a ≤ 32768 = rw e (emission-size _ _) in omega arith
     run-size (loop r A) = omega (arith, run-size r, adds-size A (stored _) (emission-size _ _))
@@ -60,7 +61,7 @@ module _ {g : Graph} (ok : Sound g) where
   chain-count (next m h k e) = omega (arith, arc-count ok h m, chain-count k)
 
 pub record Bounded (g : Graph) (t u : ℕ) (h : Hit) : Type 0 where
-  pub score : natAbs (h .score) ≤ 65536 * suc t
+  pub score : natAbs (h .score) ≤ frameLimit * suc t
   pub code : h .code + pathCount g u ≤ wordCount g
 
 pub token-bounded : (v : List ℕ) {g : Graph} → Sound g → (frames : List ℕ) (n t u s : ℕ) {h : Hit} → h ∈ tokens v g frames n t u s → Bounded g t u h

@@ -1,7 +1,6 @@
 -- The call: it answers as checking does where that refuses, and else by its own rows; then the hits are found. Assumes nothing.
 use Prim.Native.Nat.{ℕ, zero, suc, _*_, _≤_}
 use mathlib.Core.Path.{_≡_, refl, sym, ap, _∙_}
-use mathlib.Core.Bool.{true}
 use mathlib.Core.List.{List, [], _∷_, _++_, append-assoc}
 use native.Mathlib.Omega.{arith}
 use native.Mathlib.Nat.{mul-le-mul}
@@ -12,7 +11,7 @@ use borrow.Author.Tests.{ltb-false, not-false}
 use Rattle.endian.proofs.Ranges.{bounds}
 use Rattle.call.specs.declared.Refusal.{Refusal}
 use Rattle.call.specs.declared.Refusal.the-variants.{Count, Output}
-use Rattle.call.specs.Table.{value, refused, on, noneApplies, unless}
+use Rattle.call.specs.Table.{value, refused, on, unless}
 use Rattle.call.specs.Limits.{badCount}
 use Rattle.call.specs.Buffers.{zeroed, cleared}
 use Rattle.call.proofs.Table.{none-parts, none-says, unless-past, value-passed, refused-before}
@@ -22,12 +21,14 @@ use Rattle.graph.specs.Graph.{graphOf, wordCount}
 use Rattle.graph.specs.Conditions.{placeCount}
 use Rattle.graph.specs.Checking.{firstRows, checkAnswer}
 use Rattle.graph.proofs.Accepted.{Passed, accepted, places-limit}
-use Rattle.checking.specs.Tables.{TableOf, Tables}
+use Rattle.checking.specs.Tables.{Vertices}
+use Rattle.checking.proofs.Tables.{entry}
+use Rattle.checking.proofs.Columns.{column-at}
 use Rattle.decoder.specs.Decoding.{AcceptedFrames, frameRows, hits, decodeRows}
 use Rattle.search.specs.Held.{held}
 use Rattle.search.specs.Found.{searchAnswer, found, searchTokens}
 use Rattle.search.specs.Calling.{callRows}
-use Rattle.search.specs.Places.{firstSlot}
+use Rattle.search.specs.Places.{SlotsPut}
 use Rattle.search.specs.Running.{Empty, Run}
 use Rattle.search.proofs.Held.{held-none}
 use Rattle.search.proofs.Whole.{zeros-empty}
@@ -86,8 +87,7 @@ module _ (v x work : List ℕ) where
 
     -- no row applies
     pub record Clear : Type 0 where
-      pub none : noneApplies (callRows v frames n out) ≡ true
-      pub heard : AcceptedFrames v frames
+      pub frames-accepted : AcceptedFrames v frames
       pub one : 1 ≤ n
       pub few : n ≤ 8
       pub room : 8 * n ≤ length out
@@ -99,16 +99,22 @@ module _ (v x work : List ℕ) where
         let q = none-parts (frameRows v frames) (on Count (badCount n) ∷ on Output (ltb (length out) (8 * n)) ∷ []) p in
         let s = none-says (on Count (badCount n) ∷ on Output (ltb (length out) (8 * n)) ∷ []) (q .1) in
         let b = bounds 1 8 n (not-false _ (s .0)) in
-        record { none = p; heard = q .0; one = b .0; few = b .1; room = ltb-false (length out) (8 * n) (s .1 .0) }
+        record { frames-accepted = q .0; one = b .0; few = b .1; room = ltb-false (length out) (8 * n) (s .1 .0) }
 
     -- a store of n tokens a place
-    pub call-run : {W : ℕ} {lists counts firsts b : List ℕ} → Passed v x work W → Clear → Tables x lists counts
-        → TableOf (sinkOf x) (firstSlot v (graphOf x) n) firsts → length b ≡ 8 * (n * placeCount v (graphOf x))
-        → Run v x frames n lists counts firsts b
-    call-run p c o t l = record {
-      ready = record { accepted = p .images; lists-of = o .listed; counts-of = o .counted; firsts-of = t };
-      roomy = record { one = c .one; few = c .few; room = omega (arith, l) };
-      heard = c .heard;
+    pub call-run : {W r : ℕ} {t t′ : List (List ℕ)} {b : List ℕ} → Passed v x work W → Clear → Vertices x t → SlotsPut v x n t t′ r
+        → length b ≡ 8 * r → Run v x frames n t′ b
+    unfolding sinkOf
+    call-run {t = t} p c o s l = record {
+      ready = record {
+        accepted = p .images;
+        arcs = λ {u} h. s .arcs u ∙ sym (column-at 0 u t) ∙ entry (o .tables .located) (omega arith);
+        paths = λ {u} h. s .paths u ∙ sym (column-at 1 u t) ∙ entry (o .tables .counted) (omega arith);
+        first = s .first;
+        sink = s .sink;
+      };
+      roomy = record { one = c .one; few = c .few; room = omega (arith, l, s .total) };
+      accepted = c .frames-accepted;
     }
 
     pub store-few : {W : ℕ} → Passed v x work W → Clear → 8 * (n * placeCount v (graphOf x)) ≤ 64000

@@ -1,6 +1,6 @@
 -- A place whose tokens move by a loop, and one to which tokens are offered, as candidates: what the calls ask and leave. And what a gain read
 -- from a table is worth. By the laws of the n best. Assumes nothing.
-use Prim.Native.Nat.{ℕ, zero, suc, _+_, _*_, _≤_, _<_}
+use Prim.Native.Nat.{ℕ, zero, suc, _+_, _-_, _*_, _≤_, _<_}
 use mathlib.Core.Path.{_≡_, refl, sym, ap, ap₂, _∙_}
 use mathlib.Core.Bool.{Bool, true, false, cond}
 use mathlib.Core.List.{List, [], _∷_, _++_, map, append-nil}
@@ -18,24 +18,19 @@ use Rattle.endian.proofs.Bytes.{i16-range}
 use Rattle.endian.proofs.Integers.{size-sum}
 use Rattle.voice.specs.Voice.{symbolCount, symbolsAt, impossible, emission}
 use Rattle.ranking.specs.Hits.{Hit, hit}
-use Rattle.decoder.specs.Score.{possible, plus}
+use Rattle.decoder.specs.Score.{bias, frameLimit, raised, numberOf, possible, plus}
 use Rattle.passing.specs.Best.{rowOf, best, byCode, shift}
 use Rattle.passing.specs.Tokens.{carried}
-use Rattle.search.specs.Slots.{tokenAt, slots, offered, shifted, Movable, Offer, Changed}
-use Rattle.search.specs.Held.{raised, tokenOf, held, pad, upOf, downOf}
-use Rattle.search.specs.Gains.{gainOf}
+use Rattle.search.specs.Slots.{tokenAt, slots, enter, offered, shifted, Movable, Offer, Changed}
+use Rattle.search.specs.Held.{tokenOf, held, pad, upOf, lift, downOf}
 use Rattle.search.specs.Stored.{source}
 use Rattle.search.specs.Carrying.{Worth, Movers, Staying, Offering, stayed, joined}
-use Rattle.search.proofs.Gaining.{gain-none}
+use Rattle.search.proofs.Gaining.{mag-size}
 use Rattle.search.proofs.Held.{held-none, length-held, Moves, held-movable}
 use Rattle.search.proofs.Lending.{take-slots}
 use Rattle.search.proofs.Kept.{shifted-best, offered-best, offer-ready}
 
 -- ---- gains
-
-mag-size : (a : ℤ) → mag a < 32768 → natAbs a ≤ 32768
-mag-size (pos n) h = omega arith
-mag-size (negsuc n) h = omega arith
 
 pub emission-range : (v : List ℕ) (s k : ℕ) → mag (emission v s k) < 32768
 unfolding emission impossible
@@ -49,41 +44,48 @@ sizeOf none = 0
 sizeOf (some a) = natAbs a
 
 -- a move of two stored scores
-pub move-small : (y z : ℤ) → mag y < 32768 → mag z < 32768 → {a : ℤ} → plus (possible y) (possible z) ≡ some a → natAbs a ≤ 65536
+pub move-small : (y z : ℤ) → mag y < 32768 → mag z < 32768 → {a : ℤ} → plus (possible y) (possible z) ≡ some a → natAbs a ≤ frameLimit
 unfolding possible plus sizeOf
 move-small y z h k q = rw q at size
   where
-    size : sizeOf (plus (possible y) (possible z)) ≤ 65536
+    size : sizeOf (plus (possible y) (possible z)) ≤ frameLimit
     size = go (eqZ y impossible) (eqZ z impossible)
       where
-        go : (b c : Bool) → sizeOf (plus (cond b none (some y)) (cond c none (some z))) ≤ 65536
+        go : (b c : Bool) → sizeOf (plus (cond b none (some y)) (cond c none (some z))) ≤ frameLimit
         go true c = omega arith
         go false true = omega arith
-        go false false = let s : natAbs (y +ℤ z) ≤ 65536 = omega (arith, size-sum y z, mag-size y h, mag-size z k) in s
+        go false false = let s : natAbs (y +ℤ z) ≤ frameLimit = omega (arith, size-sum y z, mag-size y h, mag-size z k) in s
 
 -- and its gain
-pub worth-of : {gain : ℕ} (y z : ℤ) → mag y < 32768 → mag z < 32768 → gain ≡ gainOf (plus (possible y) (possible z))
+pub worth-of : {gain : ℕ} (y z : ℤ) → mag y < 32768 → mag z < 32768 → gain ≡ numberOf (plus (possible y) (possible z))
     → Worth gain (plus (possible y) (possible z))
-worth-of y z h k e = record { gain-is = e; none-is = λ n. gain-none y z h k (sym e ∙ n); small = λ q. move-small y z h k q }
+worth-of y z h k e = record { gain-is = e; small = λ q. move-small y z h k q }
 
-pub worth-by : {gain : ℕ} {o : Option ℤ} (y z : ℤ) → o ≡ possible y → mag y < 32768 → mag z < 32768 → gain ≡ gainOf (plus o (possible z))
+pub worth-by : {gain : ℕ} {o : Option ℤ} (y z : ℤ) → o ≡ possible y → mag y < 32768 → mag z < 32768 → gain ≡ numberOf (plus o (possible z))
     → Worth gain (plus o (possible z))
 worth-by y z q h k e = rw q (worth-of y z h k (rw q at e))
 
-pub worth-few : {gain : ℕ} {o : Option ℤ} → Worth gain o → gain ≤ 131072
-unfolding gainOf raised
+pub worth-few : {gain : ℕ} {o : Option ℤ} → Worth gain o → gain ≤ bias + frameLimit
+unfolding numberOf raised
 worth-few {o = none} w = omega (arith, w .gain-is)
 worth-few {o = some (pos m)} w = omega (arith, w .gain-is, w .small refl)
 worth-few {o = some (negsuc m)} w = omega (arith, w .gain-is)
 
+-- a gain of 0 is that of an impossible move
+pub worth-none : {gain : ℕ} {o : Option ℤ} → Worth gain o → gain ≡ 0 → o ≡ none
+unfolding numberOf raised
+worth-none {o = none} w z = refl
+worth-none {o = some (pos m)} w z = absurd (omega (arith, w .gain-is))
+worth-none {o = some (negsuc m)} w z = absurd (omega (arith, w .gain-is, w .small refl))
+
 -- what is added where it is possible
 up-is : {gain : ℕ} {o : Option ℤ} {a : ℤ} → Worth gain o → o ≡ some a → gain * 4294967296 ≡ upOf a
-unfolding gainOf upOf
-up-is w e = ap (λ (g : ℕ). g * 4294967296) (w .gain-is ∙ ap gainOf e)
+unfolding numberOf upOf
+up-is w e = ap (λ (g : ℕ). g * 4294967296) (w .gain-is ∙ ap numberOf e)
 
 -- a gain that isn't 0 is that of a score
 possible-score : {gain : ℕ} {o : Option ℤ} → Worth gain o → ¬ (gain ≡ 0) → (a : ℤ) × (o ≡ some a)
-unfolding gainOf
+unfolding numberOf
 possible-score {o = none} w n = absurd (n (w .gain-is))
 possible-score {o = some a} w n = (a, refl)
 
@@ -96,7 +98,7 @@ module _ {n slot gain down : ℕ} {from b : List ℕ} (t : Offering n slot gain 
   pub pass-to-nothing : gain ≡ 0 → Changed slot n (held n (joined t)) b b
   unfolding joined carried
   pass-to-nothing z = record {
-    inside = rw (t .worth .none-is z, append-nil, t .best) (t .holds);
+    inside = rw (worth-none (t .worth) z, append-nil, t .best) (t .holds);
     outside = λ j h. refl;
   }
 
@@ -123,34 +125,31 @@ module _ {n slot gain down : ℕ} {from b : List ℕ} (t : Offering n slot gain 
 -- ---- tokens stay
 
 module _ {n slot gain : ℕ} {b : List ℕ} (t : Staying n slot gain b) where
-  pub stay-cleared : gain ≡ 0 → {b′ : List ℕ} → Changed slot n (replicate n 0) b b′ → Changed slot n (held n (stayed t)) b b′
+  pub stay-cleared : gain ≡ 0 → {l : List ℕ} → l ≡ replicate n 0 → l ≡ held n (stayed t)
   unfolding stayed carried rowOf
-  stay-cleared z c = record { inside = rw (t .worth .none-is z, take-nil) (c .inside ∙ held-none n); outside = c .outside }
+  stay-cleared z e = rw (worth-none (t .worth) z, take-nil) (e ∙ held-none n)
 
-  pub stay-ready : ¬ (gain ≡ 0) → Movable (gain * 4294967296) 281474976710656 (slots n slot b)
+  pub stay-few : gain ≤ bias + frameLimit
+  stay-few = worth-few (t .worth)
+
+  pub stay-ready : ¬ (gain ≡ 0) → Movable (gain * 4294967296) lift (slots n slot b)
   unfolding downOf
   stay-ready z =
       let a = possible-score (t .worth) z in
       rw (up-is (t .worth) (a .1), t .holds) (held-movable (a .0) 0 n (t .l) (rw (t .movers .best) at (moves-of (t .worth) (t .movers) (a .1))))
 
-  pub stay-done : ¬ (gain ≡ 0) → {b′ : List ℕ} → Changed slot n (shifted (gain * 4294967296) 281474976710656 (slots n slot b)) b b′
-      → Changed slot n (held n (stayed t)) b b′
+  pub stay-done : ¬ (gain ≡ 0) → {l : List ℕ} → l ≡ shifted (gain * 4294967296) lift (slots n slot b) → l ≡ held n (stayed t)
   unfolding stayed carried downOf
-  stay-done z {b′} c =
+  stay-done z e =
       let a = possible-score (t .worth) z in
       let sum : shifted (upOf (a .0)) (downOf 0) (held n (t .l)) ≡ held n (best byCode n (map (shift (a .0) 0) (t .l))) =
       ap (λ p. shifted (upOf (a .0)) (downOf 0) (held n p)) (sym (t .movers .best))
       ∙ shifted-best n (a .0) 0 (t .l) (moves-of (t .worth) (t .movers) (a .1)) in
-      record { inside = rw (a .1) (c .inside ∙ rw (up-is (t .worth) (a .1), t .holds) sum); outside = c .outside }
+      rw (a .1) (e ∙ rw (up-is (t .worth) (a .1), t .holds) sum)
 
 -- ---- lists of tokens
 
--- the root has a token, and a node's first is that of its first slot
-pub root-some : (n k : ℕ) (b : List ℕ) → 0 < n → eqb (getD (source true n k b) 0 0) 0 ≡ false
-unfolding source raised tokenOf pad
-root-some zero k b h = absurd (omega arith)
-root-some (suc n) k b h = refl
-
+-- a node's first token is that of its first slot
 pub node-first : (n k : ℕ) (b : List ℕ) → 0 < n → getD (source false n k b) 0 0 ≡ tokenAt b k
 unfolding source slots
 node-first zero k b l = absurd (omega arith)
@@ -173,36 +172,48 @@ module _ {n m : ℕ} (l : List Hit) {from : List ℕ} (e : from ≡ held m l) (f
 
 -- ---- what a vertex passes on
 
-root-list : 576460756598390783 ∷ 0 ∷ 0 ∷ 0 ∷ 0 ∷ 0 ∷ 0 ∷ 0 ∷ [] ≡ held 8 (hit (pos 0) 0 ∷ [])
-unfolding raised tokenOf pad
-root-list = refl
+-- no token after the first
+offered-none : (up down n : ℕ) (l : List ℕ) → offered up down (held n []) l ≡ l
+unfolding offered pad
+offered-none up down zero l = refl
+offered-none up down (suc n) l = refl
 
-module _ {n slot gain down : ℕ} {root : Bool} (k : ℕ) {b : List ℕ} (t : Offering n slot gain down (source root n k b) b) (z : ¬ (gain ≡ 0)) where
-  -- the root's token, as a list of 8
-  module _ (e : root ≡ true) where
-    same-tokens : take n (576460756598390783 ∷ 0 ∷ 0 ∷ 0 ∷ 0 ∷ 0 ∷ 0 ∷ 0 ∷ []) ≡ take n (source root n k b)
-    unfolding source
-    same-tokens = passed-take (hit (pos 0) 0 ∷ []) root-list (t .room .few) ∙ rw e (sym (held-take-more n n (hit (pos 0) 0 ∷ []) (omega arith)))
+root-source : (n : ℕ) (b : List ℕ) → take n (source true n 0 b) ≡ held n (hit (pos 0) 0 ∷ [])
+unfolding source
+root-source n b = held-take-more n n (hit (pos 0) 0 ∷ []) (omega arith)
 
-    pub root-ready : Offer n slot (gain * 4294967296) down (576460756598390783 ∷ 0 ∷ 0 ∷ 0 ∷ 0 ∷ 0 ∷ 0 ∷ 0 ∷ []) b
-    root-ready =
-        let o = pass-to-ready t z in
-        record { room = o .room; long = t .room .few; bears = rw same-tokens (o .bears); source = rw same-tokens (o .source); target = o .target }
+module _ {n slot gain : ℕ} (d : ℕ) {b : List ℕ} (t : Offering n slot gain (lift + d) (source true n 0 b) b) (z : ¬ (gain ≡ 0)) where
+  -- the root's token is moved to one of the gain and the increment
+  root-moved : d < 4294967296 → tokenOf (hit (pos 0) 0) + gain * 4294967296 - (lift + d) ≡ gain * 4294967296 + (4294967295 - d)
+  unfolding tokenOf raised
+  root-moved h = omega arith
 
-    pub root-done : {b′ : List ℕ}
-        → Changed slot n (offered (gain * 4294967296) down (take n (576460756598390783 ∷ 0 ∷ 0 ∷ 0 ∷ 0 ∷ 0 ∷ 0 ∷ 0 ∷ [])) (slots n slot b)) b b′
-        → Changed slot n (held n (joined t)) b b′
-    root-done c = pass-to-done t z (rw same-tokens at c)
+  root-enters : (m : ℕ) (l : List ℕ) → 0 < m → d < 4294967296
+      → offered (gain * 4294967296) (lift + d) (held m (hit (pos 0) 0 ∷ [])) l ≡ enter (gain * 4294967296 + (4294967295 - d)) l
+  unfolding offered pad
+  root-enters zero l h k = absurd (omega arith)
+  root-enters (suc m) l h k = rw (first-some, root-moved k) (offered-none (gain * 4294967296) (lift + d) m _)
+    where
+      first-some : eqb (tokenOf (hit (pos 0) 0)) 0 ≡ false
+      first-some = unfold tokenOf raised in refl
 
-  -- the tokens of a node
-  module _ (e : root ≡ false) where
-    own-tokens : source root n k b ≡ slots n k b
-    unfolding source
-    own-tokens = rw e
+  pub root-done : d < 4294967296 → {b′ : List ℕ} → Changed slot n (enter (gain * 4294967296 + (4294967295 - d)) (slots n slot b)) b b′
+      → Changed slot n (held n (joined t)) b b′
+  root-done k c =
+      pass-to-done t z (record {
+        inside = c .inside ∙ sym (rw (root-source n b) (root-enters n (slots n slot b) (t .room .one) k));
+        outside = c .outside;
+      })
 
-    pub node-ready : Offer n slot (gain * 4294967296) down (slots n k b) b
-    node-ready = rw own-tokens at (pass-to-ready t z)
+-- the tokens of a node
+module _ {n slot gain down : ℕ} (k : ℕ) {b : List ℕ} (t : Offering n slot gain down (source false n k b) b) (z : ¬ (gain ≡ 0)) where
+  own-tokens : source false n k b ≡ slots n k b
+  unfolding source
+  own-tokens = refl
 
-    pub node-done : {b′ : List ℕ} → Changed slot n (offered (gain * 4294967296) down (slots n k b) (slots n slot b)) b b′
-        → Changed slot n (held n (joined t)) b b′
-    node-done c = pass-to-done t z (rw (own-tokens, take-slots) c)
+  pub node-ready : Offer n slot (gain * 4294967296) down (slots n k b) b
+  node-ready = rw own-tokens at (pass-to-ready t z)
+
+  pub node-done : {b′ : List ℕ} → Changed slot n (offered (gain * 4294967296) down (slots n k b) (slots n slot b)) b b′
+      → Changed slot n (held n (joined t)) b b′
+  node-done c = pass-to-done t z (rw (own-tokens, take-slots) c)

@@ -9,7 +9,7 @@ use native.Mathlib.Nat.{mul-add}
 use borrow.Author.Tests.{ne-eqb}
 use lib.Dec.{eqb}
 use lib.IntN.{pos}
-use lib.ListN.{length, getD, take, replicate}
+use lib.ListN.{length, getD}
 use Rattle.endian.specs.Bytes.{u16}
 use Rattle.endian.specs.Lists.{sum, has}
 use Rattle.endian.proofs.Integers.{size-sum}
@@ -24,22 +24,23 @@ use Rattle.graph.specs.Graph.{graphOf, sink, pathCount, increment}
 use Rattle.graph.proofs.Sound.{Sound}
 use Rattle.graph.proofs.Accepted.{AcceptedImages, accepted, sound-images, words-limit}
 use Rattle.graph.proofs.Codes.{pathCount-sink, pathCount-below, arc-count}
-use Rattle.checking.proofs.Tables.{entry}
 use Rattle.checking.specs.Tables.{WellFormed}
-use Rattle.checking.proofs.Arcs.{shape-of, sound-of, nodes-there, list-entry, ArcNext, arc-next, arcs-done}
+use Rattle.checking.proofs.Arcs.{shape-of, sound-of, nodes-there, ArcNext, arc-next, arcs-done}
 use Rattle.checking.proofs.Increments.{CountsPassed, counts-start, split-here, increment-here, counts-below, counts-next}
 use Rattle.checking.proofs.Reached.{count-within-words}
 use Rattle.ranking.specs.Hits.{Hit}
+use Rattle.decoder.specs.Score.{raised}
 use Rattle.passing.specs.Best.{shift}
 use Rattle.passing.specs.Tokens.{bestTokens, lastState, finalScore, carried, ending}
-use Rattle.search.specs.Slots.{slots, offered, PlaceRoom, Falling, Offer}
-use Rattle.search.specs.Held.{raised, held, Storable, upOf, downOf}
-use Rattle.search.specs.Places.{firstPlace}
+use Rattle.search.specs.Slots.{slots, offered, PlaceRoom, Offer}
+use Rattle.search.specs.Held.{held, Storable, upOf, lift, downOf}
+use Rattle.search.specs.Places.{firstPlace, arcsIn, pathsIn, firstIn}
 use Rattle.search.specs.Stored.{VertexTable, StoreRoom, Place}
 use Rattle.search.specs.Running.{Arcs, LastArc, Ending, Ended}
-use Rattle.search.proofs.Lending.{copied, length-copied}
+use Rattle.search.proofs.Slots.{length-slots}
+use Rattle.search.proofs.Lending.{take-slots}
 use Rattle.search.proofs.Held.{Moves}
-use Rattle.search.proofs.Kept.{best-falling, offered-best, offer-ready}
+use Rattle.search.proofs.Kept.{offered-best, offer-ready}
 use Rattle.search.proofs.Storing.{place-there, place-room, slot-small}
 
 -- ---- the arc to the sink
@@ -58,24 +59,24 @@ has-more a (z ∷ l) y h n = go (eqb a z) h (has-more a l y)
     go true e ih = e
     go false e ih = ih e n
 
-module _ {x lists counts : List ℕ} (a : Arcs x lists counts) {w : ℕ} (h : w ≤ nodeCount x) where
+module _ {x : List ℕ} {vertices : List (List ℕ)} (a : Arcs x vertices) {w : ℕ} (h : w ≤ nodeCount x) where
   formed : WellFormed x
-  formed = a .listed .well-formed
+  formed = a .well-formed
 
   below : w < sink (graphOf x)
   unfolding sink
   below = omega arith
 
-  pub count-entry : {s : ℕ} → s ≤ sinkOf x → getD counts s 0 ≡ pathCount (graphOf x) s
-  count-entry {s} l = entry (a .counted) {u = s} (omega arith)
+  pub count-entry : {s : ℕ} → s ≤ sinkOf x → pathsIn vertices s ≡ pathCount (graphOf x) s
+  count-entry {s} l = a .paths l
 
-  pub count-own : getD counts w 0 ≡ pathCount (graphOf x) w
+  pub count-own : pathsIn vertices w ≡ pathCount (graphOf x) w
   unfolding sinkOf
   count-own = count-entry (omega arith)
 
-  pub ahead-start : EndAhead x w (getD lists w 0 + 2) (getD lists w 0 + 2 + 2 * u16 x (getD lists w 0)) 0
+  pub ahead-start : EndAhead x w (arcsIn vertices w + 2) (arcsIn vertices w + 2 + 2 * u16 x (arcsIn vertices w)) 0
   unfolding has counts-start
-  ahead-start = record { counts = counts-start formed h (list-entry (a .listed) h); none-yet = refl }
+  ahead-start = record { counts = counts-start formed h (a .begin h); none-yet = refl }
 
   module _ {at stop total : ℕ} (p : EndAhead x w at stop total) where
     module _ (l : at < stop) where
@@ -112,15 +113,16 @@ module _ {x lists counts : List ℕ} (a : Arcs x lists counts) {w : ℕ} (h : w 
 
 -- ---- a node's last state
 
-module _ {v x : List ℕ} {n : ℕ} {lists counts firsts : List ℕ} (r : VertexTable v x n lists counts firsts) where
+module _ {v x : List ℕ} {n : ℕ} {vertices : List (List ℕ)} (r : VertexTable v x n vertices) where
   pub images : AcceptedImages v x
   images = accepted (r .accepted)
 
-  pub arcs-of : Arcs x lists counts
+  pub arcs-of : Arcs x vertices
   unfolding sink
   arcs-of = record {
-    listed = record { well-formed = record { letters = letterCount v; judged = images .lexicon }; table = r .lists-of };
-    counted = r .counts-of;
+    well-formed = record { letters = letterCount v; judged = images .lexicon };
+    begin = r .arcs;
+    paths = r .paths;
     few = λ {u} h. omega (arith, count-within-words (sound-images images) (images .all-reached) {u = u} (omega arith), words-limit images);
   }
 
@@ -128,35 +130,35 @@ module _ {v x : List ℕ} {n : ℕ} {lists counts firsts : List ℕ} (r : Vertex
 abbrev pub lastAt : List ℕ → List ℕ → ℕ → ℕ
 lastAt v x w = getD v (2 + 2 * getD x (1 + w) 0) 0 - 1
 
-pub record EndPlace (v x : List ℕ) (n : ℕ) (firsts : List ℕ) (w : ℕ) (b : List ℕ) : Type 0 where
+pub record EndPlace (v x : List ℕ) (n : ℕ) (vertices : List (List ℕ)) (w : ℕ) (b : List ℕ) : Type 0 where
   pub vertex : w < 401
   pub node-there : 1 + w < length x
   pub letter-there : 2 + 2 * getD x (1 + w) 0 < length v
   pub letter-small : getD x (1 + w) 0 < 64
   pub one : 1 ≤ getD v (2 + 2 * getD x (1 + w) 0) 0
   pub few : getD v (2 + 2 * getD x (1 + w) 0) 0 ≤ 4
-  pub slot-small : getD firsts w 0 + n * lastAt v x w ≤ 8000
-  pub room : PlaceRoom n (getD firsts w 0 + n * lastAt v x w) b
+  pub slot-small : firstIn vertices w + n * lastAt v x w ≤ 8000
+  pub room : PlaceRoom n (firstIn vertices w + n * lastAt v x w) b
   pub place : Place v (graphOf x) w (lastState v (graphOf x) w)
-  pub slot : slots n (getD firsts w 0 + n * lastAt v x w) b ≡ slots n (n * (firstPlace v (graphOf x) w + lastState v (graphOf x) w)) b
+  pub slot : slots n (firstIn vertices w + n * lastAt v x w) b ≡ slots n (n * (firstPlace v (graphOf x) w + lastState v (graphOf x) w)) b
 
-module _ {v x : List ℕ} {n : ℕ} {lists counts firsts : List ℕ} {w : ℕ} {b : List ℕ} (r : VertexTable v x n lists counts firsts) (m : StoreRoom v x n b)
+module _ {v x : List ℕ} {n : ℕ} {vertices : List (List ℕ)} {w : ℕ} {b : List ℕ} (r : VertexTable v x n vertices) (m : StoreRoom v x n b)
     (low : 1 ≤ w) (high : w ≤ nodeCount x) where
   known : nodeLetter x w < letterCount v
   known = letter-known (letterCount v) x (images r .lexicon) w low high
 
-  slot-is : getD firsts w 0 + n * lastAt v x w ≡ n * (firstPlace v (graphOf x) w + lastAt v x w)
+  slot-is : firstIn vertices w + n * lastAt v x w ≡ n * (firstPlace v (graphOf x) w + lastAt v x w)
   unfolding sinkOf
-  slot-is = ap (λ (a : ℕ). a + n * lastAt v x w) (entry (r .firsts-of) {u = w} (omega arith)) ∙ sym (mul-add n _ _)
+  slot-is = ap (λ (a : ℕ). a + n * lastAt v x w) (r .first low high) ∙ sym (mul-add n _ _)
 
-  pub end-place : EndPlace v x n firsts w b
+  pub end-place : EndPlace v x n vertices w b
   unfolding nodeLetter states lastState sink
   end-place =
       let s = states-range v (images r .voice) known in
       let p : Place v (graphOf x) w (lastAt v x w) = record { low = low; high = omega arith; state = omega (arith, s) } in
       record {
-        vertex = omega (arith, shape-of (arcs-of r .listed .well-formed) .few);
-        node-there = omega (arith, nodes-there (arcs-of r .listed .well-formed));
+        vertex = omega (arith, shape-of (arcs-of r .well-formed) .few);
+        node-there = omega (arith, nodes-there (arcs-of r .well-formed));
         letter-there = states-there v (images r .voice) known;
         letter-small = omega (arith, known, letters-few v (images r .voice));
         one = s .0;
@@ -169,16 +171,16 @@ module _ {v x : List ℕ} {n : ℕ} {lists counts firsts : List ℕ} {w : ℕ} {
 
 -- ---- its tokens are candidates for the list
 
-pub level-up : upOf (pos 0) ≡ 281474976710656
+pub level-up : upOf (pos 0) ≡ lift
 unfolding upOf raised
 level-up = refl
 
-pub level-down : (d : ℕ) → downOf d ≡ 281474976710656 + d
+pub level-down : (d : ℕ) → downOf d ≡ lift + d
 unfolding downOf
 level-down d = omega arith
 
-module _ {v x : List ℕ} {n : ℕ} {lists counts firsts : List ℕ} {w : ℕ} {b list : List ℕ} (e : Ending v x n lists counts firsts w b list) where
-  end-at : EndPlace v x n firsts w b
+module _ {v x : List ℕ} {n : ℕ} {vertices : List (List ℕ)} {w : ℕ} {b list : List ℕ} (e : Ending v x n vertices w b list) where
+  end-at : EndPlace v x n vertices w b
   end-at = end-place (e .ready) (e .roomy) (e .low) (e .high)
 
   graph-ok : Sound (graphOf x)
@@ -191,17 +193,17 @@ module _ {v x : List ℕ} {n : ℕ} {lists counts firsts : List ℕ} {w : ℕ} {
   abbrev last-tokens : List Hit
   last-tokens = e .P w (lastState v (graphOf x) w)
 
-  own : getD counts w 0 ≡ pathCount (graphOf x) w
+  own : pathsIn vertices w ≡ pathCount (graphOf x) w
   own = count-own (arcs-of (e .ready)) (e .high)
 
-  pub end-none : {d : ℕ} → LastArc (graphOf x) w d → d ≡ getD counts w 0 → has (sink (graphOf x)) (successors x w) ≡ false
+  pub end-none : {d : ℕ} → LastArc (graphOf x) w d → d ≡ pathsIn vertices w → has (sink (graphOf x)) (successors x w) ≡ false
   end-none {d} a q = go (has (sink (graphOf x)) (successors x w)) refl
     where
       go : (t : Bool) → has (sink (graphOf x)) (successors x w) ≡ t → has (sink (graphOf x)) (successors x w) ≡ false
       go false p = p
       go true p = absurd (omega (arith, a .there p, own, arc-count graph-ok under (has-mem (successors x w) p), pathCount-sink graph-ok))
 
-  pub end-there : {d : ℕ} → LastArc (graphOf x) w d → ¬ (d ≡ getD counts w 0) → has (sink (graphOf x)) (successors x w) ≡ true
+  pub end-there : {d : ℕ} → LastArc (graphOf x) w d → ¬ (d ≡ pathsIn vertices w) → has (sink (graphOf x)) (successors x w) ≡ true
   end-there {d} a q = go (has (sink (graphOf x)) (successors x w)) refl
     where
       go : (t : Bool) → has (sink (graphOf x)) (successors x w) ≡ t → has (sink (graphOf x)) (successors x w) ≡ true
@@ -219,9 +221,6 @@ module _ {v x : List ℕ} {n : ℕ} {lists counts firsts : List ℕ} {w : ℕ} {
 
   keeps : bestTokens n last-tokens ≡ last-tokens
   keeps = e .stored .kept (end-at .place)
-
-  pub end-falls : Falling (slots n (getD firsts w 0 + n * lastAt v x w) b)
-  end-falls = rw (end-at .slot ∙ e .stored .holds (end-at .place)) (rw keeps at (best-falling n last-tokens end-from))
 
   module _ (t : has (sink (graphOf x)) (successors x w) ≡ true) {d : ℕ} (q : d ≡ increment (graphOf x) w (sink (graphOf x))) where
     end-to : (h : Hit) → List·Memᴰ h last-tokens → Storable (shift (pos 0) d h)
@@ -241,23 +240,24 @@ module _ {v x : List ℕ} {n : ℕ} {lists counts firsts : List ℕ} {w : ℕ} {
     unfolding ending carried finalScore
     ends-so = rw (t, q) refl
 
-    module _ {tokens : List ℕ} (c : tokens ≡ slots n (getD firsts w 0 + n * lastAt v x w) b ++ replicate (8 - n) 0) where
-      copied-tokens : take n tokens ≡ held n (bestTokens n last-tokens)
-      copied-tokens = rw (c, keeps) (copied n _ b ∙ end-at .slot ∙ e .stored .holds (end-at .place))
+    last-slots : slots n (firstIn vertices w + n * lastAt v x w) b ≡ held n (bestTokens n last-tokens)
+    last-slots = rw keeps (end-at .slot ∙ e .stored .holds (end-at .place))
 
-      pub end-offer : Offer n 0 281474976710656 (281474976710656 + d) tokens list
-      end-offer =
-          rw (level-up, level-down d) at
-          (offer-ready n (pos 0) d last-tokens end-moves {k = 0} {from = tokens} {b = list} {s = e .s}
-          (record { one = e .roomy .one; few = e .roomy .few; room = omega (arith, e .long, e .roomy .few) })
-          (rw (c, length-copied n (getD firsts w 0 + n * lastAt v x w) b (e .roomy .few)) (e .roomy .few))
-          copied-tokens (e .holds) (e .storable))
+    pub end-offer : Offer n 0 lift (lift + d) (slots n (firstIn vertices w + n * lastAt v x w) b) list
+    end-offer =
+        rw (level-up, level-down d) at
+        (offer-ready n (pos 0) d last-tokens end-moves {k = 0} {b = list} {s = e .s}
+        (record { one = e .roomy .one; few = e .roomy .few; room = omega (arith, e .long, e .roomy .few) })
+        (omega (arith, length-slots n (firstIn vertices w + n * lastAt v x w) b))
+        (take-slots n (firstIn vertices w + n * lastAt v x w) b ∙ last-slots) (e .holds) (e .storable))
 
-      pub end-offered : {list′ : List ℕ} → slots n 0 list′ ≡ offered 281474976710656 (281474976710656 + d) (take n tokens) (slots n 0 list)
-          → Ended e list′
-      end-offered o =
-          let f : offered (upOf (pos 0)) (downOf d) (held n (bestTokens n last-tokens)) (held n (bestTokens n (e .s))) ≡ held n (bestTokens n (e .s ++ map (shift (pos 0) d) last-tokens)) = offered-best n (pos 0) d last-tokens end-moves (e .s) (e .storable) in
-          record { holds = o ∙ rw (copied-tokens, e .holds, ends-so) (rw (level-up, level-down d) at f) }
+    pub end-offered : {list′ : List ℕ} → slots n 0 list′ ≡ offered lift (lift + d) (slots n (firstIn vertices w + n * lastAt v x w) b) (slots n 0 list)
+        → Ended e list′
+    end-offered o =
+        let f : offered (upOf (pos 0)) (downOf d) (held n (bestTokens n last-tokens)) (held n (bestTokens n (e .s)))
+            ≡ held n (bestTokens n (e .s ++ map (shift (pos 0) d) last-tokens)) =
+        offered-best n (pos 0) d last-tokens end-moves (e .s) (e .storable) in
+        record { holds = o ∙ rw (last-slots, e .holds, ends-so) (rw (level-up, level-down d) at f) }
 
   -- what arrives from this node can be stored
   pub end-storable : (h : Hit) → List·Memᴰ h (ending v (graphOf x) (e .P) w) → Storable h

@@ -1,15 +1,15 @@
--- Laws of gains: of raised scores and their sum; of one letter's pairs; and of its states. Assumes nothing.
+-- Laws of gains: of the numbers of scores and their sums; of one letter's pairs; and of its states. Assumes nothing.
 use Prim.Native.Nat.{ℕ, zero, suc, _+_, _-_, _*_, _≤_, _<_}
 use mathlib.Core.Path.{_≡_, refl, sym, ap, ap₂, _∙_}
-use mathlib.Core.Bool.{Bool, true, false, cond, false≢true}
+use mathlib.Core.Bool.{Bool, true, false, cond}
 use mathlib.Core.List.{List, [], _∷_}
 use mathlib.Core.Option.{none, some}
 use native.Mathlib.Omega.{arith}
 use native.Mathlib.Nat.{add-zero}
 use native.Mathlib.Numerals.{add-one}
-use borrow.Author.Tests.{lt-ltb, le-ltb, ltb-true, ltb-false}
-use lib.Dec.{ltb, eqb}
-use lib.IntN.{ℤ, pos, negsuc, subℕ, _+ℤ_}
+use borrow.Author.Tests.{lt-ltb}
+use lib.Dec.{ltb}
+use lib.IntN.{ℤ, pos, negsuc, _+ℤ_, natAbs}
 use lib.Signed.{mag}
 use mir.Syntax.{w16}
 use mir.Val.{toZ, ofZ}
@@ -18,145 +18,74 @@ use lib.ListN.{length, getD}
 use Rattle.endian.specs.Integers.{eqZ}
 use Rattle.endian.specs.Bytes.{i16}
 use Rattle.endian.specs.Lists.{from, sum}
-use Rattle.endian.proofs.Differences.{sub-add, movedUp, moved-below, moved-back}
+use Rattle.endian.proofs.Integers.{up, down, size, size-sum, sum as parts}
 use Rattle.endian.proofs.Bytes.{i16-range}
 use Rattle.voice.specs.Fields.{wellFormed}
 use Rattle.voice.specs.Voice.{letterCount, states, firstState, loopScore, stepScore, stateCount, statesAt, impossible, voiceVerdict}
 use Rattle.voice.proofs.Tiling.{firstState-suc}
 use Rattle.voice.proofs.Letters.{states-range, states-there}
 use Rattle.voice.proofs.Scores.{letters-few, state-known, pair-there}
-use Rattle.decoder.specs.declared.score.Score.{Score}
-use Rattle.decoder.specs.Score.{meaning, possible, plus}
-use Rattle.search.specs.Held.{raised}
-use Rattle.search.specs.Gains.{raisedOf, gainOf, raisedGain, letterPairs, pairOf, pairScore, StoredPairs, loopRaised, stepRaised, AtLetter}
+use Rattle.decoder.specs.Score.{bias, raised, numberOf, possible, plus}
+use Rattle.decoder.proofs.Biased.{raised-is}
+use Rattle.search.specs.Gains.{NearBias, numberSum, letterPairs, pairOf, pairScore, StoredPairs, loopNumber, stepNumber, AtLetter}
 
--- ---- the sum of two scores
+-- ---- numbers of scores
 
--- a biased score that stands for a stored one, which is possible
-pub stored-some : (s : Score) (z : ℤ) → meaning s ≡ some z → subℕ (s .0) 134217728 ≡ z
-unfolding meaning
-stored-some s z e = go (eqb (s .0) 0) e
-  where
-    go : (b : Bool) → cond b none (some (subℕ (s .0) 134217728)) ≡ some z → subℕ (s .0) 134217728 ≡ z
-    go true q = let n : _≡_ {A = ℕ} 0 1 = cc in absurd (omega arith)
-    go false q = cc
+pub mag-size : (a : ℤ) → mag a < 32768 → natAbs a ≤ 32768
+mag-size (pos n) h = omega arith
+mag-size (negsuc n) h = omega arith
 
--- a number whose difference to k is small
-near : (n k h : ℕ) (z : ℤ) → subℕ n k ≡ z → mag z < h → (k ≤ n + h) × (n < k + h)
-near n k h z e m = go (ltb n k) refl
-  where
-    go : (b : Bool) → ltb n k ≡ b → (k ≤ n + h) × (n < k + h)
-    go true p =
-        let l = ltb-true n k p in
-        let q : subℕ n k ≡ negsuc (k - suc n) = rw (lt-ltb n k l) in
-        let r : k - suc n ≡ mag z = ap mag (sym q ∙ e) in
-        (omega arith, omega arith)
-    go false p =
-        let l = ltb-false n k p in
-        let q : subℕ n k ≡ pos (n - k) = rw (le-ltb n k l) in
-        let r : n - k ≡ mag z = ap mag (sym q ∙ e) in
-        (omega arith, omega arith)
-
--- a difference raised
-raised-sub : (k n m : ℕ) → m ≤ n + k → raised k (subℕ n m) ≡ n + k - m
-unfolding raised
-raised-sub k n m h = go (ltb n m) refl
-  where
-    go : (b : Bool) → ltb n m ≡ b → raised k (subℕ n m) ≡ n + k - m
-    go true p = let l = ltb-true n m p in rw (lt-ltb n m l) (omega arith)
-    go false p = let l = ltb-false n m p in rw (le-ltb n m l) (omega arith)
-
--- a biased score that is raised only
-module _ (a : ℕ) (y : ℤ) (p : subℕ a 134217728 ≡ y) (h : mag y < 32768) where
-  pub raise-room : 134184960 ≤ a
-  raise-room = omega (arith, near a 134217728 32768 y p h .0)
-
-  pub raise-is : a - 134184960 ≡ raisedOf (some y)
-  unfolding raisedOf
-  raise-is =
-      let low : 134217728 ≤ a + 32768 = near a 134217728 32768 y p h .0 in
-      rw (sym p, raised-sub 32768 a 134217728 low) (omega arith)
-
--- ---- what a gain is, for two stored scores
-
-module _ (y z : ℤ) (h : mag y < 32768) (k : mag z < 32768) where
-  -- each of the two raised by 2^15, and added
-  gain-is : raised 65536 (y +ℤ z) ≡ movedUp 32768 y + movedUp 32768 z
-  gain-is =
-      let e : y +ℤ z ≡ subℕ (movedUp 32768 y + movedUp 32768 z) 65536 =
-      ap₂ _+ℤ_ (sym (moved-back 32768 y h)) (sym (moved-back 32768 z k)) ∙ sub-add (movedUp 32768 y) 32768 (movedUp 32768 z) 32768 in
-      rw (e, raised-sub 65536 (movedUp 32768 y + movedUp 32768 z) 65536 (omega arith)) (omega arith)
-
-  -- 0 only where one of them is impossible
-  pub gain-none : gainOf (plus (possible y) (possible z)) ≡ 0 → plus (possible y) (possible z) ≡ none
-  unfolding possible plus gainOf eqZ impossible
-  gain-none = go (eqZ y impossible) (eqZ z impossible) refl
-    where
-      go : (b c : Bool) → eqZ y impossible ≡ b → gainOf (plus (cond b none (some y)) (cond c none (some z))) ≡ 0
-          → plus (cond b none (some y)) (cond c none (some z)) ≡ none
-      go true c p e = refl
-      go false true p e = refl
-      go false false p e =
-          let n : movedUp 32768 y ≡ 0 = omega (arith, rw gain-is at e) in
-          let q : y ≡ negsuc 32767 = sym (moved-back 32768 y h) ∙ ap (λ (m : ℕ). subℕ m 32768) n in
-          absurd (false≢true (sym p ∙ ap (λ (w : ℤ). eqZ w impossible) q))
-
--- one raised score
 module _ (y : ℤ) (h : mag y < 32768) where
-  up-is : raised 32768 y ≡ movedUp 32768 y
-  unfolding raised
-  up-is = go y
+  stored-is : raised bias y + down y ≡ bias + up y
+  stored-is = raised-is bias y (omega (arith, mag-size y h))
+
+  -- the number of a stored score is 0 or near the bias
+  pub number-near : NearBias (numberOf (possible y))
+  unfolding numberOf possible
+  number-near = go (eqZ y impossible)
     where
-      go : (z : ℤ) → raised 32768 z ≡ movedUp 32768 z
-      go (pos n) = refl
-      go (negsuc n) = refl
+      go : (b : Bool) → NearBias (numberOf (cond b none (some y)))
+      go true = record { low = λ z. omega arith; high = omega arith }
+      go false = record { low = λ z. omega (arith, stored-is, size y, mag-size y h); high = omega (arith, stored-is, size y, mag-size y h) }
 
-  pub raised-below : raisedOf (possible y) < 65536
-  unfolding raisedOf possible
-  raised-below = go (eqZ y impossible)
-    where
-      go : (b : Bool) → raisedOf (cond b none (some y)) < 65536
-      go true = omega arith
-      go false = rw up-is (omega (arith, moved-below 32768 y h))
+  -- a possible one has a number above 0
+  number-some : 0 < raised bias y
+  number-some = omega (arith, stored-is, size y, mag-size y h)
 
-  -- a possible score is never raised to 0
-  raised-some : eqZ y impossible ≡ false → 0 < raised 32768 y
-  unfolding eqZ impossible
-  raised-some p = rw up-is (go (movedUp 32768 y) refl)
-    where
-      go : (n : ℕ) → movedUp 32768 y ≡ n → 0 < n
-      go zero e =
-          let q : y ≡ negsuc 32767 = sym (moved-back 32768 y h) ∙ ap (λ (m : ℕ). subℕ m 32768) e in
-          absurd (false≢true (sym p ∙ ap (λ (w : ℤ). eqZ w impossible) q))
-      go (suc n) e = omega arith
+pub sum-first : (b : ℕ) → numberSum 0 b ≡ 0
+unfolding numberSum
+sum-first b = refl
 
-pub gain-zero : (b : ℕ) → raisedGain 0 b ≡ 0
-unfolding raisedGain
-gain-zero b = refl
+pub sum-second : (a : ℕ) → numberSum a 0 ≡ 0
+unfolding numberSum
+sum-second zero = refl
+sum-second (suc a) = refl
 
-pub gain-silent : (a : ℕ) → raisedGain a 0 ≡ 0
-unfolding raisedGain
-gain-silent zero = refl
-gain-silent (suc a) = refl
+pub sum-some : (a b : ℕ) → 0 < a → 0 < b → numberSum a b ≡ a + b - bias
+unfolding numberSum
+sum-some zero b h k = absurd (omega arith)
+sum-some (suc a) zero h k = absurd (omega arith)
+sum-some (suc a) (suc b) h k = refl
 
-pub gain-some : (a b : ℕ) → 0 < a → 0 < b → raisedGain a b ≡ a + b
-unfolding raisedGain
-gain-some zero b h k = absurd (omega arith)
-gain-some (suc a) zero h k = absurd (omega arith)
-gain-some (suc a) (suc b) h k = refl
-
--- the gain of two raised scores is that of the two stored ones
-pub gain-both : (y z : ℤ) → mag y < 32768 → mag z < 32768
-    → raisedGain (raisedOf (possible y)) (raisedOf (possible z)) ≡ gainOf (plus (possible y) (possible z))
-unfolding possible plus gainOf raisedOf
-gain-both y z h k = go (eqZ y impossible) (eqZ z impossible) refl refl
+-- the sum of two numbers is that of the two stored scores
+pub sum-both : (y z : ℤ) → mag y < 32768 → mag z < 32768
+    → numberSum (numberOf (possible y)) (numberOf (possible z)) ≡ numberOf (plus (possible y) (possible z))
+unfolding possible plus numberOf
+sum-both y z h k = go (eqZ y impossible) (eqZ z impossible)
   where
-    go : (b c : Bool) → eqZ y impossible ≡ b → eqZ z impossible ≡ c
-        → raisedGain (raisedOf (cond b none (some y))) (raisedOf (cond c none (some z))) ≡ gainOf (plus (cond b none (some y)) (cond c none (some z)))
-    go true c p q = gain-zero (raisedOf (cond c none (some z)))
-    go false true p q = gain-silent (raised 32768 y)
-    go false false p q =
-        gain-some (raised 32768 y) (raised 32768 z) (raised-some y h p) (raised-some z k q) ∙ rw (up-is y h, up-is z k) (sym (gain-is y z h k))
+    go : (b c : Bool)
+        → numberSum (numberOf (cond b none (some y))) (numberOf (cond c none (some z))) ≡ numberOf (plus (cond b none (some y)) (cond c none (some z)))
+    go true c = sum-first (numberOf (cond c none (some z)))
+    go false true = sum-second (raised bias y)
+    go false false =
+        sum-some (raised bias y) (raised bias z) (number-some y h) (number-some z k)
+        ∙ omega (arith, stored-is y h, stored-is z k, parts y z, total)
+      where
+        small : natAbs (y +ℤ z) ≤ bias
+        small = omega (arith, size-sum y z, mag-size y h, mag-size z k)
+
+        total : raised bias (y +ℤ z) + down (y +ℤ z) ≡ bias + up (y +ℤ z)
+        total = raised-is bias (y +ℤ z) small
 
 -- a score that a call answers
 pub back : (z : ℤ) → mag z < 32768 → toZ w16 (ofZ w16 z) ≡ z
@@ -251,12 +180,12 @@ module _ {v : List ℕ} {l first : ℕ} (a : AtLetter v l first) where
       last zero e h = absurd (omega arith)
       last (suc n) e h = omega (arith, state-there {s = n} (omega arith))
 
-  pub loop-score : (s : ℕ) → s < states v l → pairScore (letterPairs v first (states v l)) s 0 ≡ loopRaised v l s
-  unfolding pairScore loopRaised
+  pub loop-score : (s : ℕ) → s < states v l → pairScore (letterPairs v first (states v l)) s 0 ≡ loopNumber v l s
+  unfolding pairScore loopNumber
   loop-score s h = rw (pair-is v first (states v l) s h letter-few, a .begins)
 
-  pub step-score : (s : ℕ) → suc s < states v l → pairScore (letterPairs v first (states v l)) s 1 ≡ stepRaised v l s
-  unfolding pairScore stepRaised
+  pub step-score : (s : ℕ) → suc s < states v l → pairScore (letterPairs v first (states v l)) s 1 ≡ stepNumber v l s
+  unfolding pairScore stepNumber
   step-score s h = rw (pair-is v first (states v l) s (omega arith) letter-few, a .begins)
 
 -- ---- letter by letter

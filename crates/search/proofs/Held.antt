@@ -13,13 +13,14 @@ use lib.ListN.{length, take, replicate}
 use Rattle.endian.proofs.Pairs.{none as no-pair, next as pairs}
 use Rattle.ranking.specs.Hits.{Hit}
 use Rattle.ranking.proofs.Hits.{outranks-is}
+use Rattle.decoder.specs.Score.{frameLimit}
 use Rattle.passing.specs.Best.{insert, best, byCode, shift}
 use Rattle.passing.proofs.Order.{_∈_, hits-strict}
 use Rattle.passing.proofs.Insertion.{Removed, nothing, found, kept, Inserted, alone, above, held as beaten, below, inserted, Ranked}
 use Rattle.passing.proofs.Best.{best-next, best-from}
 use Rattle.search.specs.Slots.{codePart, push, enter, offered, shifted, Movable, Falling, none, next}
 use Rattle.search.specs.Held.{tokenOf, pad, held, Storable, upOf, downOf}
-use Rattle.search.proofs.Numbers.{token-some, number-order, rank-test, code-test, token-moved, token-bears}
+use Rattle.search.proofs.Numbers.{token-some, number-order, rank-test, code-test, token-moved, token-fits}
 
 abbrev pub AllStorable : List Hit → Type 0
 AllStorable l = (h : Hit) → h ∈ l → Storable h
@@ -96,7 +97,7 @@ module _ (x : Hit) (p : Storable x) where
 
 -- each of them before and after the move
 pub record Moves (a : ℤ) (d : ℕ) (l : List Hit) : Type 0 where
-  pub small : natAbs a ≤ 65536
+  pub small : natAbs a ≤ frameLimit
   pub from : AllStorable l
   pub to : (h : Hit) → h ∈ l → Storable (shift a d h)
 
@@ -142,7 +143,7 @@ module _ (a : ℤ) (d : ℕ) where
   held-movable (suc n) [] m y i z = ⊎-elim (λ e. absurd (z e)) (λ j. held-movable n [] m y j z) (cases i)
   held-movable (suc n) (h ∷ l) m y i z =
       ⊎-elim
-      (λ e. rw e (token-bears a d (m .small) h (m .from h (here refl)) (m .to h (here refl))))
+      (λ e. rw e (token-fits a d (m .small) h (m .from h (here refl)) (m .to h (here refl))))
       (λ j. held-movable n l (later m) y j z)
       (cases i)
 

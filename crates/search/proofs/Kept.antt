@@ -39,7 +39,7 @@ module _ (n : ℕ) (a : ℤ) (d : ℕ) (l : List Hit) (m : Moves a d (best byCod
   offer-ready {s} room long e f t = record {
     room = room;
     long = long;
-    bears = rw e (held-movable a d n (best byCode n l) m);
+    fits = rw e (held-movable a d n (best byCode n l) m);
     source = rw e (held-falling n (best-ranked hits-strict n l) (m .from));
     target = rw f (best-falling n s t);
   }

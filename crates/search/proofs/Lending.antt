@@ -15,12 +15,6 @@ use Rattle.search.proofs.Moving.{from-holds, offered-ends, offered-goes
 
 -- ---- a copy
 
-pub copied : (n k : ℕ) (b : List ℕ) → take n (slots n k b ++ replicate (8 - n) 0) ≡ slots n k b
-copied n k b = take-at (slots n k b) (replicate (8 - n) 0) n (length-slots n k b)
-
-pub length-copied : (n k : ℕ) (b : List ℕ) → n ≤ 8 → length (slots n k b ++ replicate (8 - n) 0) ≡ 8
-length-copied n k b h = rw (length-append, length-slots, length-replicate) (omega arith)
-
 -- the first empty slot ends it
 pub copied-early : (n k : ℕ) (b : List ℕ) → k < n → n ≤ 8 → Falling (slots n 0 b) → tokenAt b k ≡ 0
     → slots k 0 b ++ replicate (8 - k) 0 ≡ slots n 0 b ++ replicate (8 - n) 0
@@ -66,16 +60,6 @@ part-slots b k n size e = slots-ext n 0 k (take size (drop (8 * k) b)) b (λ i l
 
 pub part-room : {n k : ℕ} {b : List ℕ} → PlaceRoom n k b → (size : ℕ) → size ≡ 8 * n → PlaceRoom n 0 (take size (drop (8 * k) b))
 part-room r size e = record { one = r .one; few = r .few; room = simp (length-take, length-drop) (omega (arith, r .room)) }
-
-pub part-offer : {n k up down : ℕ} {from b : List ℕ} → Offer n k up down from b → (size : ℕ) → size ≡ 8 * n
-    → Offer n 0 up down from (take size (drop (8 * k) b))
-part-offer {n} {k} {b} o size e = record {
-  room = part-room (o .room) size e;
-  long = o .long;
-  bears = o .bears;
-  source = o .source;
-  target = rw (part-slots b k n size e) (o .target);
-}
 
 -- the bytes with those of ys instead of as many from `at` on
 module _ (b ys : List ℕ) (at size : ℕ) (fits : at + size ≤ length b) (long : length ys ≡ size) where
@@ -160,8 +144,8 @@ module _ {n f k up down : ℕ} {b₀ : List ℕ} (below : f + n ≤ k) (o : Offe
       pub from-none : token ≡ 0 → Changed k n (offered up down (slots n f b₀) (slots n k b₀)) b₀ b
       from-none z = from-ends (offered-ends up down n i _ (slots n k b) h (o .long) (sym old ∙ z))
 
-      pub from-bears : ¬ (token ≡ 0) → MoveFits up down token
-      from-bears z = rw old (o .bears _ (from-holds n i _ h (o .long)) (λ e. z (old ∙ e)))
+      pub from-fits : ¬ (token ≡ 0) → MoveFits up down token
+      from-fits z = rw old (o .fits _ (from-holds n i _ h (o .long)) (λ e. z (old ∙ e)))
 
       pub from-late : token + up - down < tokenAt b (k + n - 1) → Changed k n (offered up down (slots n f b₀) (slots n k b₀)) b₀ b
       from-late l = from-ends (offered-late up down n i k (k + n - 1) _ b (omega arith) h (o .long) (o .source) (L .target) (rw old at l))

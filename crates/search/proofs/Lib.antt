@@ -1,3 +1,4 @@
+pub mod Told
 pub mod Slots
 pub mod Entering
 pub mod Falling

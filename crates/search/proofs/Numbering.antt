@@ -1,27 +1,23 @@
 -- The numbers of the places: each node's stretch begins where that of the node below it ends, so that no two places have the same number and
 -- all are below their count. And the table of the first slots while it is filled, node by node. Assumes nothing.
 use mathlib.Core.Path.{_≡_, refl, sym, ap, _∙_}
-use mathlib.Core.Bool.{cond}
-use mathlib.Core.List.{List, map, map-append}
+use mathlib.Core.List.{List, [], _∷_, map, map-append}
 use Prim.Native.Nat.{ℕ, zero, suc, _+_, _*_, _≤_, _<_}
 use native.Mathlib.Nat.{add-zero, mul-zero, mul-add, mul-le-mul}
 use native.Mathlib.Omega.{arith}
 use native.Mathlib.Numerals.{add-one}
-use native.Mathlib.Decide.{decLt}
-use lib.ListN.{getD, set, replicate}
-use lib.Dec.{ltb}
-use borrow.Author.Tests.{le-ltb}
+use native.Mathlib.Decide.{decLt, ℕ-discrete}
+use lib.ListN.{length, getD, set, length-set}
+use lib.Seq.{getD-set-same, getD-set-other}
 use Rattle.endian.specs.Lists.{from, sum}
 use Rattle.endian.proofs.Lists.{from-add, sum-append}
 use Rattle.voice.specs.Voice.{states}
 use Rattle.lexicon.specs.Lexicon.{nodeCount, nodeLetter, sinkOf}
 use Rattle.graph.specs.Graph.{Graph, graphOf, sink}
 use Rattle.graph.specs.Conditions.{placeCount}
-use Rattle.checking.specs.Tables.{TableOf}
-use Rattle.checking.proofs.Tables.{table-start, table-next}
 use Rattle.checking.proofs.Arcs.{shape-of}
 use Rattle.checking.proofs.Counting.{Images, well-formed, node-read}
-use Rattle.search.specs.Places.{firstPlace, firstSlot}
+use Rattle.search.specs.Places.{firstPlace, firstSlot, arcsIn, pathsIn, firstIn, noPlace, SlotsPut}
 
 module _ (v : List ℕ) (g : Graph) where
   -- after a node's places come those of the next
@@ -65,56 +61,96 @@ module _ (v : List ℕ) (g : Graph) where
 
 -- ---- the table
 
--- the nodes below this one have their entry, and its own is known
-pub record SlotsFound (v x : List ℕ) (n node slot : ℕ) (firsts : List ℕ) : Type 0 where
-  pub table : TableOf node (firstSlot v (graphOf x) n) firsts
+-- the nodes below this one have their first slot, and its own is known; nothing else of the table t has changed
+pub record SlotsFound (v x : List ℕ) (n node slot : ℕ) (t t′ : List (List ℕ)) : Type 0 where
+  pub long : length t′ ≡ 402
+  pub first : {u : ℕ} → 1 ≤ u → u < node → firstIn t′ u ≡ firstSlot v (graphOf x) n u
+  pub arcs : (u : ℕ) → arcsIn t′ u ≡ arcsIn t u
+  pub paths : (u : ℕ) → pathsIn t′ u ≡ pathsIn t u
   pub here : slot ≡ firstSlot v (graphOf x) n node
-  pub first : 1 ≤ node
-  pub last : node ≤ sinkOf x
+  pub low : 1 ≤ node
+  pub high : node ≤ sinkOf x
   pub few : slot ≤ 32 * node
 
-pub slots-start : (v x : List ℕ) (n : ℕ) {firsts : List ℕ} → firsts ≡ replicate 402 0 → SlotsFound v x n 1 0 firsts
+pub slots-start : (v x : List ℕ) (n : ℕ) {t : List (List ℕ)} → length t ≡ 402 → SlotsFound v x n 1 0 t t
 unfolding firstPlace sinkOf from sum
-slots-start v x n h = rw h (record {
-  table = record { long = refl; holds = λ u. table-start first .holds u ∙ root u };
+slots-start v x n h = record {
+  long = h;
+  first = λ l k. absurd (omega arith);
+  arcs = λ u. refl;
+  paths = λ u. refl;
   here = sym (mul-zero n);
-  first = omega arith;
-  last = omega arith;
+  low = omega arith;
+  high = omega arith;
   few = omega arith;
-})
-  where
-    first : ℕ → ℕ
-    first = firstSlot v (graphOf x) n
+}
 
-    -- the root has no place, and 0 stands there
-    root : (u : ℕ) → cond (ltb u 0) (first u) 0 ≡ cond (ltb u 1) (first u) 0
-    root zero = sym (mul-zero n)
-    root (suc u) = rw (le-ltb (suc u) 0 (omega arith), le-ltb (suc u) 1 (omega arith))
+-- a row with another first slot
+abbrev rowWith : List (List ℕ) → ℕ → ℕ → List ℕ
+rowWith t u slot = arcsIn t u ∷ pathsIn t u ∷ slot ∷ []
 
-pub slots-next : {v x : List ℕ} {n node slot : ℕ} {firsts : List ℕ} → Images v x → n ≤ 8 → SlotsFound v x n node slot firsts → node ≤ nodeCount x
-    → (n * getD v (2 + 2 * getD x (1 + node) 0) 0 ≤ 32) × SlotsFound v x n (node + 1) (slot + n * getD v (2 + 2 * getD x (1 + node) 0) 0) (set firsts node slot)
+module _ (t : List (List ℕ)) (w slot : ℕ) (h : w < length t) where
+  set-row : {u : ℕ} → u ≡ w → getD (set t w (rowWith t w slot)) u [] ≡ rowWith t w slot
+  set-row e = rw e (getD-set-same t w (rowWith t w slot) [] h)
+
+  kept-row : {u : ℕ} → ¬ (u ≡ w) → getD (set t w (rowWith t w slot)) u [] ≡ getD t u []
+  kept-row {u} d = getD-set-other t w u (rowWith t w slot) [] d
+
+  pub slot-put : firstIn (set t w (rowWith t w slot)) w ≡ slot
+  slot-put = rw (set-row refl)
+
+  pub slot-other : {u : ℕ} → ¬ (u ≡ w) → firstIn (set t w (rowWith t w slot)) u ≡ firstIn t u
+  slot-other d = ap (λ r. getD r 2 0) (kept-row d)
+
+  pub arcs-kept : (u : ℕ) → arcsIn (set t w (rowWith t w slot)) u ≡ arcsIn t u
+  arcs-kept u = elim (ℕ-discrete u w) [ yes e ↦ rw (set-row e, e) | no d ↦ ap (λ r. getD r 0 0) (kept-row d) ]
+
+  pub paths-kept : (u : ℕ) → pathsIn (set t w (rowWith t w slot)) u ≡ pathsIn t u
+  paths-kept u = elim (ℕ-discrete u w) [ yes e ↦ rw (set-row e, e) | no d ↦ ap (λ r. getD r 1 0) (kept-row d) ]
+
+pub slots-next : {v x : List ℕ} {n node slot : ℕ} {t t′ : List (List ℕ)} → Images v x → n ≤ 8 → SlotsFound v x n node slot t t′ → node ≤ nodeCount x
+    → (n * getD v (2 + 2 * getD x (1 + node) 0) 0 ≤ 32)
+    × SlotsFound v x n (node + 1) (slot + n * getD v (2 + 2 * getD x (1 + node) 0) 0) t (set t′ node (arcsIn t′ node ∷ pathsIn t′ node ∷ slot ∷ []))
 unfolding nodeLetter states sinkOf
-slots-next {v} {x} {n} {node} {slot} {firsts} i e p h = (
+slots-next {v} {x} {n} {node} {slot} {t} {t′} i e p h = (
   slots-few,
   rw add-one (record {
-    table = table-next (p .table) (omega (arith, shape-of (well-formed i) .few)) (p .here);
-    here = next node (p .first) (p .here);
-    first = omega arith;
-    last = omega arith;
+    long = length-set t′ node (rowWith t′ node slot) ∙ p .long;
+    first = λ {u} l k. first l k (ℕ-discrete u node);
+    arcs = λ u. arcs-kept t′ node slot room u ∙ p .arcs u;
+    paths = λ u. paths-kept t′ node slot room u ∙ p .paths u;
+    here = next node (p .low) (p .here);
+    low = omega arith;
+    high = omega arith;
     few = omega (arith, p .few, slots-few);
   }),
 )
   where
+    room : node < length t′
+    room = omega (arith, shape-of (well-formed i) .few, p .long)
+
     slots-few : n * states v (nodeLetter x node) ≤ 32
-    slots-few = mul-le-mul {n₂ = 8} {m₂ = 4} e (node-read i (p .first) h .few)
+    slots-few = mul-le-mul {n₂ = 8} {m₂ = 4} e (node-read i (p .low) h .few)
+
+    first : {u : ℕ} → 1 ≤ u → u < suc node → Dec (u ≡ node) → firstIn (set t′ node (rowWith t′ node slot)) u ≡ firstSlot v (graphOf x) n u
+    first l k (yes q) = rw q (slot-put t′ node slot room ∙ p .here)
+    first l k (no d) = slot-other t′ node slot room d ∙ p .first l (omega (arith, d))
 
     next : (u : ℕ) → 1 ≤ u → slot ≡ firstSlot v (graphOf x) n u → slot + n * states v (nodeLetter x u) ≡ firstSlot v (graphOf x) n (suc u)
     next zero l q = absurd (omega arith)
     next (suc m) l q = rw (q, place-next v (graphOf x) m) (sym (mul-add n _ _))
 
-pub slots-done : {v x : List ℕ} {n node slot : ℕ} {firsts : List ℕ} → SlotsFound v x n node slot firsts → nodeCount x < node
-    → TableOf (sinkOf x) (firstSlot v (graphOf x) n) firsts × (slot ≡ n * placeCount v (graphOf x))
+-- the sink's row comes last
+pub slots-done : {v x : List ℕ} {n node slot : ℕ} {t t′ : List (List ℕ)} → SlotsFound v x n node slot t t′ → nodeCount x < node → node < 402
+    → SlotsPut v x n t (set t′ node (arcsIn t′ node ∷ pathsIn t′ node ∷ noPlace ∷ [])) slot
 unfolding sinkOf sink
-slots-done {v} {x} {n} {node} p h =
-    let e : node ≡ suc (nodeCount x) = omega (arith, p .last) in
-    (rw e at (p .table), p .here ∙ ap (firstSlot v (graphOf x) n) e ∙ ap (λ (a : ℕ). n * a) (places-all v (graphOf x)))
+slots-done {v} {x} {n} {node} {t′ = t′} p h k =
+    let e : node ≡ suc (nodeCount x) = omega (arith, p .high) in
+    let room : node < length t′ = omega (arith, p .long) in
+    record {
+      first = λ {u} l m. slot-other t′ node noPlace room (λ q. omega arith) ∙ p .first l (omega arith);
+      sink = rw (sym e) (slot-put t′ node noPlace room);
+      arcs = λ u. arcs-kept t′ node noPlace room u ∙ p .arcs u;
+      paths = λ u. paths-kept t′ node noPlace room u ∙ p .paths u;
+      total = p .here ∙ ap (firstSlot v (graphOf x) n) e ∙ ap (λ (a : ℕ). n * a) (places-all v (graphOf x));
+    }

@@ -8,21 +8,18 @@ use native.Mathlib.Omega.{arith}
 use native.Mathlib.Decide.{decLt, ℕ-discrete}
 use borrow.Author.Tests.{lt-ltb, eq-eqb, ne-eqb, ltb-true}
 use lib.Dec.{ltb, eqb}
-use lib.IntN.{ℤ, pos, negsuc, _+ℤ_, natAbs}
+use lib.IntN.{ℤ, _+ℤ_, natAbs}
 use Rattle.endian.proofs.Integers.{up, down, ints, sum, size}
 use Rattle.ranking.specs.Hits.{Hit, _≻_, higher, tied, outranks}
 use Rattle.ranking.proofs.Hits.{outranks-is}
+use Rattle.decoder.specs.Score.{bias, frameLimit, raised}
+use Rattle.decoder.proofs.Biased.{raised-is}
 use Rattle.passing.specs.Best.{shift}
 use Rattle.search.specs.Slots.{codePart, sameCode, MoveFits}
-use Rattle.search.specs.Held.{raised, biased, tokenOf, Storable, upOf, downOf}
+use Rattle.search.specs.Held.{tokenOf, Storable, upOf, downOf}
 
-raised-is : (k : ℕ) (z : ℤ) → natAbs z ≤ k → raised k z + down z ≡ k + up z
-unfolding raised up down
-raised-is k (pos n) h = omega arith
-raised-is k (negsuc n) h = omega arith
-
-biased-is : (h : Hit) → Storable h → biased (h .score) + down (h .score) ≡ 134217728 + up (h .score)
-biased-is h s = raised-is 134217728 (h .score) (omega (arith, s .score))
+biased-is : (h : Hit) → Storable h → raised bias (h .score) + down (h .score) ≡ bias + up (h .score)
+biased-is h s = raised-is bias (h .score) (omega (arith, s .score))
 
 -- ---- the lower half
 
@@ -38,23 +35,23 @@ token-some h s = omega (arith, biased-is h s, size (h .score), s .score)
 -- ---- the order
 
 module _ (a b : Hit) (p : Storable a) (q : Storable b) where
-  scores : (biased (a .score) + down (a .score) ≡ 134217728 + up (a .score)) × (biased (b .score) + down (b .score) ≡ 134217728 + up (b .score))
+  scores : (raised bias (a .score) + down (a .score) ≡ bias + up (a .score)) × (raised bias (b .score) + down (b .score) ≡ bias + up (b .score))
   scores = (biased-is a p, biased-is b q)
 
   to-number : a ≻ b → tokenOf b < tokenOf a
   unfolding tokenOf
   to-number (higher h) =
-      let l : biased (b .score) < biased (a .score) = omega (arith, ints, scores) in
+      let l : raised bias (b .score) < raised bias (a .score) = omega (arith, ints, scores) in
       omega (arith, p .code, q .code)
   to-number (tied e l) =
-      let f : biased (a .score) ≡ biased (b .score) = ap biased e in
+      let f : raised bias (a .score) ≡ raised bias (b .score) = ap (raised bias) e in
       omega (arith, p .code, q .code)
 
   of-number : tokenOf b < tokenOf a → a ≻ b
   unfolding tokenOf
-  of-number h = elim (decLt (biased (b .score)) (biased (a .score))) [
+  of-number h = elim (decLt (raised bias (b .score)) (raised bias (a .score))) [
     | yes l ↦ higher (omega (arith, ints, scores))
-    | no n ↦ let e : biased (a .score) ≡ biased (b .score) = omega (arith, p .code, q .code) in
+    | no n ↦ let e : raised bias (a .score) ≡ raised bias (b .score) = omega (arith, p .code, q .code) in
         tied (omega (arith, ints, scores)) (omega (arith, p .code, q .code))
   ]
 
@@ -84,21 +81,23 @@ module _ (a b : Hit) (p : Storable a) (q : Storable b) where
 
 -- ---- a move
 
-module _ (a : ℤ) (d : ℕ) (small : natAbs a ≤ 65536) (h : Hit) (p : Storable h) (q : Storable (shift a d h)) where
+module _ (a : ℤ) (d : ℕ) (small : natAbs a ≤ frameLimit) (h : Hit) (p : Storable h) (q : Storable (shift a d h)) where
   pub moved-sum : tokenOf h + upOf a ≡ tokenOf (shift a d h) + downOf d
   unfolding tokenOf upOf downOf shift
   moved-sum =
-      let scores : biased (h .score) + raised 65536 a ≡ biased (h .score +ℤ a) + 65536 =
-      omega (arith, biased-is h p, biased-is (shift a d h) q, raised-is 65536 a small, sum (h .score) a) in
+      let score : raised bias a + down a ≡ bias + up a = raised-is bias a (omega arith) in
+      let scores : raised bias (h .score) + raised bias a ≡ raised bias (h .score +ℤ a) + bias =
+      omega (arith, biased-is h p, biased-is (shift a d h) q, score, sum (h .score) a) in
       omega (arith, p .code, q .code)
 
   -- the number of the candidate moved
   pub token-moved : tokenOf h + upOf a - downOf d ≡ tokenOf (shift a d h)
   token-moved = omega (arith, moved-sum)
 
-  pub token-bears : MoveFits (upOf a) (downOf d) (tokenOf h)
+  pub token-fits : MoveFits (upOf a) (downOf d) (tokenOf h)
   unfolding tokenOf upOf
-  token-bears = record {
-    fits = omega (arith, biased-is h p, size (h .score), p .score, raised-is 65536 a small, size a);
+  token-fits = record {
+    fits = let score : raised bias a + down a ≡ bias + up a = raised-is bias a (omega arith) in
+        omega (arith, biased-is h p, size (h .score), p .score, score, size a);
     covers = omega (arith, moved-sum);
   }

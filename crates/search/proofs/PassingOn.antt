@@ -7,6 +7,7 @@ use mathlib.Core.Logic.{inl, ⊎-elim}
 use mathlib.Core.List.{List, [], _∷_, _++_, Memᴰ·append-right, List·Memᴰ, List·Memᴰ·head as here, List·Memᴰ·tail as there, List·Memᴰ·append-cases as append-cases}
 use native.Mathlib.Omega.{arith}
 use native.Mathlib.Nat.{add-zero}
+use native.Mathlib.Decide.{decLt, ℕ-discrete}
 use lib.ListN.{length, getD}
 use Rattle.endian.specs.Bytes.{u16}
 use Rattle.voice.specs.Voice.{letterCount, states, firstState, emission}
@@ -17,32 +18,31 @@ use Rattle.lexicon.proofs.WellFormed.{letter-known}
 use Rattle.graph.specs.Graph.{Graph, graphOf, sink, pathCount, wordCount, increment}
 use Rattle.graph.proofs.Codes.{arc-count}
 use Rattle.graph.proofs.Accepted.{AcceptedImages, accepted}
-use Rattle.checking.specs.Tables.{WellFormed, Listed}
-use Rattle.checking.proofs.Tables.{entry}
-use Rattle.checking.proofs.Arcs.{shape-of, sound-of, nodes-there, has-entry, ListThere, list-entry, list-at, ArcNext, arc-next, arcs-done}
+use Rattle.checking.specs.Tables.{WellFormed}
+use Rattle.checking.proofs.Arcs.{shape-of, sound-of, nodes-there, has-entry, ListThere, list-there, ArcNext, arc-next, arcs-done}
 use Rattle.checking.proofs.Increments.{CountsPassed, counts-start, split-here, increment-here, counts-below, counts-next}
 use Rattle.ranking.specs.Hits.{Hit}
-use Rattle.decoder.specs.Score.{possible, plus}
+use Rattle.decoder.specs.Score.{bias, frameLimit, numberOf, possible, plus}
 use Rattle.passing.specs.Tokens.{Store, bestTokens, stateOf, heard, overArc}
 use Rattle.passing.specs.InPlace.{passOn}
 use Rattle.passing.proofs.Order.{hits-strict}
 use Rattle.passing.proofs.Best.{best-from, best-best}
 use Rattle.passing.proofs.InPlace.{put-node}
 use Rattle.search.specs.Slots.{Changed}
-use Rattle.search.specs.Held.{held, pad, downOf}
-use Rattle.search.specs.Gains.{raisedOf, raisedGain, gainOf, entryRaised}
-use Rattle.search.specs.Places.{firstPlace, firstSlot}
+use Rattle.search.specs.Held.{held, pad, lift, downOf}
+use Rattle.search.specs.Gains.{NearBias, numberSum, entryNumber}
+use Rattle.search.specs.Places.{firstPlace, firstSlot, arcsIn, pathsIn, firstIn, noPlace}
 use Rattle.search.specs.Stored.{VertexTable, Bound, Place, Stored, source, PassingOn, PassedOn, passedOn}
 use Rattle.search.specs.Carrying.{Worth, Offering, joined, Arc, overOne}
 use Rattle.search.proofs.Numbers.{token-some}
 use Rattle.search.proofs.Lending.{changed-apart}
 use Rattle.search.proofs.Storing.{PutAt, same, other, put-at, stored-put, stored-ext, pass-nothing, words-few, place-there, place-room, slot-small, carried-bound, bound-storable, movers}
-use Rattle.search.proofs.Gaining.{raised-below, gain-both}
+use Rattle.search.proofs.Gaining.{number-near, sum-both}
 use Rattle.search.proofs.Carrying.{emission-range, worth-by, passed-long, passed-take}
 
 -- ---- what is accepted
 
-module _ {v x : List ℕ} {n : ℕ} {lists counts firsts : List ℕ} (r : VertexTable v x n lists counts firsts) where
+module _ {v x : List ℕ} {n : ℕ} {vertices : List (List ℕ)} (r : VertexTable v x n vertices) where
   images : AcceptedImages v x
   images = accepted (r .accepted)
 
@@ -62,22 +62,23 @@ module _ {v x : List ℕ} {n : ℕ} {lists counts firsts : List ℕ} (r : Vertex
   unfolding sink
   place-of h k l = record { low = h; high = omega arith; state = l }
 
-  pub first-at : {u : ℕ} → u ≤ nodeCount x → getD firsts u 0 ≡ firstSlot v (graphOf x) n u
+  -- no node's first slot is the sink's
+  pub slot-there : {u : ℕ} → u ≤ sinkOf x → ¬ (firstIn vertices u ≡ noPlace) → u ≤ nodeCount x
   unfolding sinkOf
-  first-at h = entry (r .firsts-of) (omega arith)
+  slot-there {u} h z = elim (decLt u (suc (nodeCount x))) [
+    | yes l ↦ omega arith
+    | no n ↦ let q : u ≡ suc (nodeCount x) = omega arith in absurd (z (ap (firstIn vertices) q ∙ r .sink))
+  ]
 
 -- ---- one arc
 
 -- the bytes and entries that are read for it
-pub record ArcRead (x firsts : List ℕ) (gains : List (List ℕ)) (link u : ℕ) : Type 0 where
+pub record ArcRead (x : List ℕ) (gains : List (List ℕ)) (link u : ℕ) : Type 0 where
   pub there : 1 + u < length x
   pub letter : getD x (1 + u) 0 < 64
   pub long-gains : length gains ≡ 64
-  pub link-small : link < 65536
-  pub entry-small : getD (getD gains (getD x (1 + u) 0) []) 4 0 < 65536
-  pub long-firsts : length firsts ≡ 402
-  pub few : u ≤ 400
-  pub slot : getD firsts u 0 ≤ 8000
+  pub link-near : NearBias link
+  pub entry-near : NearBias (getD (getD gains (getD x (1 + u) 0) []) 4 0)
 
 -- what is passed on stays where another place changes
 source-apart : (root : Bool) (n k : ℕ) {slot : ℕ} {l b b′ : List ℕ} → (root ≡ false → k + n ≤ slot) → Changed slot n l b b′
@@ -86,12 +87,12 @@ unfolding source
 source-apart true n k a c = refl
 source-apart false n k a c = changed-apart c n k (inl (a refl))
 
-module _ {x : List ℕ} {n nodes : ℕ} {firsts : List ℕ} {gains : List (List ℕ)} {link : ℕ} {root : Bool} {from u down : ℕ} {b : List ℕ}
-    (t : Arc x n nodes firsts gains link root from u down b) where
+module _ {x : List ℕ} {n : ℕ} {vertices gains : List (List ℕ)} {link : ℕ} {root : Bool} {from u down : ℕ} {b : List ℕ}
+    (t : Arc x n vertices gains link root from u down b) where
   abbrev w : ℕ
   w = t .w
 
-  abbrev h : PassingOn x n (t .lists) (t .counts) firsts gains link w root from b
+  abbrev h : PassingOn x n vertices gains link w root from b
   h = t .passing-on
 
   abbrev g : Graph
@@ -114,17 +115,17 @@ module _ {x : List ℕ} {n nodes : ℕ} {firsts : List ℕ} {gains : List (List 
   abbrev entered : ℕ
   entered = getD (getD gains (getD x (1 + u) 0) []) 4 0
 
-  entered-is : u ≤ nodeCount x → entered ≡ raisedOf (possible (emission (h .v) (firstState (h .v) (nodeLetter x u) + 0) (h .k)))
-  unfolding nodeLetter entryRaised
+  entered-is : u ≤ nodeCount x → entered ≡ numberOf (possible (emission (h .v) (firstState (h .v) (nodeLetter x u) + 0) (h .k)))
+  unfolding nodeLetter entryNumber
   entered-is k = h .entry-gains .entry u (omega (arith, rises .0)) k
 
-  worth : u ≤ nodeCount x → Worth (raisedGain link entered) (plus (h .score) (heard (h .v) g (h .k) u 0))
+  worth : u ≤ nodeCount x → Worth (numberSum link entered) (plus (h .score) (heard (h .v) g (h .k) u 0))
   unfolding nodeLetter heard stateOf
   worth k =
       let z = emission (h .v) (firstState (h .v) (nodeLetter x u) + 0) (h .k) in
       worth-by (h .moved) z (h .score-is) (h .small) (emission-range (h .v) _ (h .k))
-      (ap₂ raisedGain (h .link-is) (entered-is k) ∙ gain-both (h .moved) z (h .small) (emission-range (h .v) _ (h .k))
-      ∙ ap (λ o. gainOf (plus o (possible z))) (sym (h .score-is)))
+      (ap₂ numberSum (h .link-is) (entered-is k) ∙ sum-both (h .moved) z (h .small) (emission-range (h .v) _ (h .k))
+      ∙ ap (λ o. numberOf (plus o (possible z))) (sym (h .score-is)))
 
   module _ (k : u ≤ nodeCount x) where
     one : 1 ≤ u
@@ -133,23 +134,23 @@ module _ {x : List ℕ} {n nodes : ℕ} {firsts : List ℕ} {gains : List (List 
     place : Place (h .v) g u 0
     place = place-of (h .ready) one k (state-range (h .ready) one k .0)
 
-    slot-is : getD firsts u 0 ≡ n * (firstPlace (h .v) g u + 0)
-    slot-is = rw add-zero (first-at (h .ready) k)
+    slot-is : firstIn vertices u ≡ n * (firstPlace (h .v) g u + 0)
+    slot-is = rw add-zero (h .ready .first one k)
 
-    pub arc-read : ArcRead x firsts gains link u
+    pub arc-read : ArcRead x gains link u
     unfolding nodeLetter
     arc-read = record {
       there = omega (arith, nodes-there (lexicon-formed (h .ready)));
       letter = letter-few (h .ready) one k;
       long-gains = h .entry-gains .long;
-      link-small = rw (h .link-is) (raised-below (h .moved) (h .small));
-      entry-small = rw (entered-is k) (raised-below _ (emission-range (h .v) _ (h .k)));
-      long-firsts = h .ready .firsts-of .long;
-      few = omega (arith, shape-of (lexicon-formed (h .ready)) .few);
-      slot = rw slot-is (slot-small (h .v) x (h .ready .accepted) (h .roomy) (omega (arith, place-there (h .v) x place)));
+      link-near = rw (h .link-is) (number-near (h .moved) (h .small));
+      entry-near = rw (entered-is k) (number-near _ (emission-range (h .v) _ (h .k)));
     }
 
-    pub arc-offering : {gain : ℕ} → gain ≡ raisedGain link entered → Offering n (getD firsts u 0) gain down (source root n from b) b
+    pub arc-slot : firstIn vertices u ≤ 8000
+    arc-slot = rw slot-is (slot-small (h .v) x (h .ready .accepted) (h .roomy) (omega (arith, place-there (h .v) x place)))
+
+    pub arc-offering : {gain : ℕ} → gain ≡ numberSum link entered → Offering n (firstIn vertices u) gain down (source root n from b) b
     arc-offering q = record {
       score = plus (h .score) (heard (h .v) g (h .k) u 0);
       d = increment g (w) u;
@@ -166,29 +167,44 @@ module _ {x : List ℕ} {n nodes : ℕ} {firsts : List ℕ} {gains : List (List 
       storable = λ z i. bound-storable words (h .fits) (h .above place (rises .0) i);
     }
 
-    pub arc-apart : root ≡ false → from + n ≤ getD firsts u 0
-    arc-apart z = rw (first-at (h .ready) k) (h .apart z (rises .0) k)
+    pub arc-apart : root ≡ false → from + n ≤ firstIn vertices u
+    arc-apart z = rw (h .ready .first one k) (h .apart z (rises .0) k)
 
-    pub arc-source : {l b′ : List ℕ} → Changed (getD firsts u 0) n l b b′ → source root n from b′ ≡ source root n from b
+    pub arc-source : {l b′ : List ℕ} → Changed (firstIn vertices u) n l b b′ → source root n from b′ ≡ source root n from b
     arc-source c = source-apart root n from arc-apart c
 
-    pub arc-done : {gain : ℕ} (q : gain ≡ raisedGain link entered) {b′ : List ℕ} → Changed (getD firsts u 0) n (held n (joined (arc-offering q))) b b′ → Stored (h .v) g n (overOne t) b′
+    pub arc-done : {gain : ℕ} (q : gain ≡ numberSum link entered) {b′ : List ℕ} → Changed (firstIn vertices u) n (held n (joined (arc-offering q))) b b′ → Stored (h .v) g n (overOne t) b′
     unfolding joined overOne arc-offering
     arc-done q c = stored-put place (h .stored) (rw slot-is at c) (best-best hits-strict n _)
 
-  -- the sink has no place
-  pub arc-sink : nodes < u → Stored (h .v) g n (overOne t) b
-  unfolding overOne sink
-  arc-sink k = stored-ext (h .stored) (λ z s p. put-node (h .Q) u 0 _ (λ e. omega (arith, p .high, t .nodes-is)))
+  -- it leads to the sink at most, which has an entry of the table
+  pub arc-bounded : u ≤ sinkOf x
+  unfolding sinkOf sink
+  arc-bounded = rises .1
 
-  pub arc-above : {z s : ℕ} {y : Hit} → Place (h .v) g z s → w < z → List·Memᴰ y (overOne t z s) → Bound g (h .M + 65536) z y
+  pub arc-few : u ≤ 401
+  unfolding sinkOf
+  arc-few = omega (arith, arc-bounded, shape-of (lexicon-formed (h .ready)) .few)
+
+  pub arc-node : ¬ (firstIn vertices u ≡ noPlace) → u ≤ nodeCount x
+  arc-node z = slot-there (h .ready) arc-bounded z
+
+  -- the sink has no place
+  pub arc-sink : firstIn vertices u ≡ noPlace → Stored (h .v) g n (overOne t) b
+  unfolding overOne sink
+  arc-sink k = stored-ext (h .stored) (λ z s p. put-node (h .Q) u 0 _ (λ e. not-node (rw e at p)))
+    where
+      not-node : {s : ℕ} → Place (h .v) g u s → ⊥
+      not-node p = omega (arith, arc-slot (omega (arith, p .high)), k)
+
+  pub arc-above : {z s : ℕ} {y : Hit} → Place (h .v) g z s → w < z → List·Memᴰ y (overOne t z s) → Bound g (h .M + frameLimit) z y
   unfolding overOne sink
   arc-above {z} {s} {y} p l i = go (put-at (h .Q) u 0 _ z s)
     where
       new : List Hit
       new = overArc (h .v) g (h .k) (h .score) (w) u (h .l)
 
-      go : PutAt (h .Q) u 0 (bestTokens n (h .Q u 0 ++ new)) z s → Bound g (h .M + 65536) z y
+      go : PutAt (h .Q) u 0 (bestTokens n (h .Q u 0 ++ new)) z s → Bound g (h .M + frameLimit) z y
       go (other d q) = h .above p l (rw q at i)
       go (same e f q) =
           let k : u ≤ nodeCount x = omega (arith, p .high) in
@@ -197,10 +213,46 @@ module _ {x : List ℕ} {n nodes : ℕ} {firsts : List ℕ} {gains : List (List 
           (λ j. carried-bound (h .M) (w) u _ _ (h .l) (λ a e. worth k .small e) (λ y i. h .bound i) gap j)
           (append-cases (h .Q u 0) (best-from hits-strict n (h .Q u 0 ++ new) y (rw q at i))))
 
+-- ---- an arc of the root
+
+module _ {x : List ℕ} {n : ℕ} {vertices gains : List (List ℕ)} {u down : ℕ} {b : List ℕ} (t : Arc x n vertices gains bias true 0 u down b) where
+  abbrev p : PassingOn x n vertices gains bias (t .w) true 0 b
+  p = t .passing-on
+
+  from-root : List·Memᴰ u (successors x 0)
+  from-root = rw (p .root-is refl) at (t .arc)
+
+  low : 0 < sink (graphOf x)
+  unfolding sink
+  low = omega arith
+
+  -- the root does not lead to the sink
+  pub root-node : u ≤ nodeCount x
+  unfolding sink
+  root-node =
+      let s = sound-of (lexicon-formed (p .ready)) in
+      let r : u ≤ suc (nodeCount x) = s .rises low from-root .1 in
+      elim (ℕ-discrete u (suc (nodeCount x))) [
+        | yes e ↦ absurd (s .worded (rw e at from-root))
+        | no d ↦ omega (arith, r, d)
+      ]
+
+  pub root-increment : (d : ℕ) → down ≡ lift + d → d < 4294967296
+  unfolding downOf wordCount
+  root-increment d e =
+      let q : down ≡ lift + increment (graphOf x) 0 u = rw (p .root-is refl) at (t .down-is) in
+      let c = arc-count (sound-of (lexicon-formed (p .ready))) low from-root in
+      omega (arith, e, q, c, words-few (p .v) x (p .ready .accepted))
+
+pub root-sum : {e : ℕ} → NearBias e → e ≡ numberSum bias e
+unfolding numberSum
+root-sum {e = zero} n = refl
+root-sum {e = suc e} n = omega arith
+
 -- ---- all arcs
 
-module _ {x : List ℕ} {n : ℕ} {lists counts firsts : List ℕ} {gains : List (List ℕ)} {link w : ℕ} {root : Bool} {from : ℕ} {b₀ : List ℕ}
-    (t : PassingOn x n lists counts firsts gains link w root from b₀) where
+module _ {x : List ℕ} {n : ℕ} {vertices gains : List (List ℕ)} {link w : ℕ} {root : Bool} {from : ℕ} {b₀ : List ℕ}
+    (t : PassingOn x n vertices gains link w root from b₀) where
   -- Q is the store when the arcs to the earlier successors are done
   pub record PassingLeft (at stop down : ℕ) (b : List ℕ) : Type 0 where
     pub Q : Store
@@ -208,7 +260,7 @@ module _ {x : List ℕ} {n : ℕ} {lists counts firsts : List ℕ} {gains : List
     pub sums : CountsPassed x w at stop total
     pub down-is : down ≡ downOf total
     pub stored : Stored (t .v) (graphOf x) n Q b
-    pub above : {u s : ℕ} {y : Hit} → Place (t .v) (graphOf x) u s → w < u → List·Memᴰ y (Q u s) → Bound (graphOf x) (t .M + 65536) u y
+    pub above : {u s : ℕ} {y : Hit} → Place (t .v) (graphOf x) u s → w < u → List·Memᴰ y (Q u s) → Bound (graphOf x) (t .M + frameLimit) u y
     pub long : length b ≡ length b₀
     pub source-kept : source root n from b ≡ source root n from b₀
     pub passed : passOn (t .v) (graphOf x) n (t .k) (λ u. t .score) w (t .l) (sums .later) Q ≡ passedOn t
@@ -231,21 +283,18 @@ module _ {x : List ℕ} {n : ℕ} {lists counts firsts : List ℕ} {gains : List
   abbrev formed : WellFormed x
   formed = lexicon-formed (t .ready)
 
-  listed : Listed x lists
-  listed = record { well-formed = formed; table = t .ready .lists-of }
-
   pub vertex-few : w ≤ 400
   vertex-few = omega (arith, t .vertex, shape-of formed .few)
 
-  pub list-of : ListThere x (getD lists w 0)
-  list-of = list-at listed (t .vertex)
+  pub list-of : ListThere x (arcsIn vertices w)
+  list-of = list-there formed (t .vertex) (t .ready .arcs (t .vertex))
 
-  pub passing-start : PassingLeft (getD lists w 0 + 2) (getD lists w 0 + 2 + 2 * u16 x (getD lists w 0)) 281474976710656 b₀
+  pub passing-start : PassingLeft (arcsIn vertices w + 2) (arcsIn vertices w + 2 + 2 * u16 x (arcsIn vertices w)) lift b₀
   unfolding downOf passedOn counts-start
   passing-start = record {
     Q = t .Q;
     total = 0;
-    sums = counts-start formed (t .vertex) (list-entry listed (t .vertex));
+    sums = counts-start formed (t .vertex) (t .ready .arcs (t .vertex));
     down-is = refl;
     stored = t .stored;
     above = t .above;
@@ -255,7 +304,7 @@ module _ {x : List ℕ} {n : ℕ} {lists counts firsts : List ℕ} {gains : List
   }
 
   module _ {at stop down : ℕ} {b : List ℕ} (L : PassingLeft at stop down b) where
-    so-far : PassingOn x n lists counts firsts gains link w root from b
+    so-far : PassingOn x n vertices gains link w root from b
     so-far = record {
       v = t .v;
       k = t .k;
@@ -274,6 +323,7 @@ module _ {x : List ℕ} {n : ℕ} {lists counts firsts : List ℕ} {gains : List
       given = L .source-kept ∙ t .given;
       inside = λ z. let r = t .inside z in record { one = r .one; few = r .few; room = rw (L .long) (r .room) };
       apart = t .apart;
+      root-is = t .root-is;
       best = t .best;
       bound = t .bound;
       fits = t .fits;
@@ -291,13 +341,10 @@ module _ {x : List ℕ} {n : ℕ} {lists counts firsts : List ℕ} {gains : List
       in-list : List·Memᴰ u (successors x w)
       in-list = rw (e, split-here formed (t .vertex) (L .sums) next) (Memᴰ·append-right (L .sums .earlier) (here refl))
 
-      pub left-arc : {nodes : ℕ} → nodes ≡ nodeCount x → Arc x n nodes firsts gains link root from u down b
-      left-arc q = record {
+      pub left-arc : Arc x n vertices gains link root from u down b
+      left-arc = record {
         w = w;
-        lists = lists;
-        counts = counts;
         passing-on = so-far;
-        nodes-is = q;
         arc = in-list;
         down-is = rw e (L .down-is ∙ ap downOf (increment-here formed (t .vertex) (L .sums) next));
       }
@@ -306,27 +353,34 @@ module _ {x : List ℕ} {n : ℕ} {lists counts firsts : List ℕ} {gains : List
       unfolding sinkOf
       successor-few = omega (arith, e, has-entry formed (next .bounded))
 
-      count-is : getD counts u 0 ≡ pathCount (graphOf x) (u16 x at)
-      count-is = rw e (entry (t .ready .counts-of) (omega (arith, next .bounded)))
+      count-is : pathsIn vertices u ≡ pathCount (graphOf x) (u16 x at)
+      count-is = rw e (t .ready .paths (next .bounded))
 
       -- the counts don't overflow where there are tokens
-      pub down-few : ¬ (getD (source root n from b₀) 0 0 ≡ 0) → down + getD counts u 0 < 281474976710656 + 4294967296
+      pub down-few : ¬ (getD (source root n from b₀) 0 0 ≡ 0) → down + pathsIn vertices u < lift + 4294967296
       unfolding downOf
       down-few z =
           omega (arith, L .down-is, count-is, counts-below formed (t .vertex) (L .sums) next, some-words z, words-few (t .v) x (t .ready .accepted))
 
-      pub passing-next : {nodes : ℕ} → nodes ≡ nodeCount x → {b′ : List ℕ}
-          → ((a : Arc x n nodes firsts gains link root from u down b) → Stored (a .passing-on .v) (graphOf x) n (overOne a) b′)
+      -- and never from the root
+      pub root-few : (d : ℕ) → root ≡ true → down ≡ lift + d → d + pathsIn vertices u < 4294967296
+      unfolding downOf wordCount
+      root-few d z q =
+          let e : pathCount (graphOf x) w ≡ pathCount (graphOf x) 0 = ap (pathCount (graphOf x)) (t .root-is z) in
+          omega (arith, e, L .down-is, q, count-is, counts-below formed (t .vertex) (L .sums) next, words-few (t .v) x (t .ready .accepted))
+
+      pub passing-next : {b′ : List ℕ}
+          → ((a : Arc x n vertices gains link root from u down b) → Stored (a .passing-on .v) (graphOf x) n (overOne a) b′)
           → source root n from b′ ≡ source root n from b → length b′ ≡ length b
-          → PassingLeft (at + 2) stop (down + getD counts u 0) b′
+          → PassingLeft (at + 2) stop (down + pathsIn vertices u) b′
       unfolding passOn overOne downOf left-arc so-far counts-next
-      passing-next q S f l = record {
-        Q = overOne (left-arc q);
+      passing-next S f l = record {
+        Q = overOne left-arc;
         total = L .total + pathCount (graphOf x) (u16 x at);
         sums = counts-next formed (t .vertex) (L .sums) next;
         down-is = omega (arith, L .down-is, count-is);
-        stored = S (left-arc q);
-        above = arc-above (left-arc q);
+        stored = S left-arc;
+        above = arc-above left-arc;
         long = l ∙ L .long;
         source-kept = f ∙ L .source-kept;
         passed = rw (next .split, ← e) at (L .passed);

@@ -19,20 +19,20 @@ use Rattle.lexicon.proofs.WellFormed.{letter-known}
 use Rattle.graph.specs.Graph.{Graph, graphOf, wordCount}
 use Rattle.graph.proofs.Accepted.{AcceptedImages, accepted}
 use Rattle.ranking.specs.Hits.{Hit}
-use Rattle.decoder.specs.Score.{possible, plus}
+use Rattle.decoder.specs.Score.{bias, frameLimit, possible, plus}
 use Rattle.passing.specs.Tokens.{Store, bestTokens, carried, stateOf, heard, renewed}
 use Rattle.passing.specs.InPlace.{put, renewDown}
 use Rattle.passing.proofs.Order.{hits-strict}
 use Rattle.passing.proofs.Best.{best-from, best-best, best-left}
 use Rattle.passing.proofs.InPlace.{put-state}
 use Rattle.search.specs.Slots.{slots, offered, PlaceRoom, Offer, Changed}
-use Rattle.search.specs.Held.{held, downOf}
+use Rattle.search.specs.Held.{held, lift, downOf}
 use Rattle.search.specs.Gains.{loopGain, stepGain}
 use Rattle.search.specs.Carrying.{Worth, Staying, Offering, stayed, joined, Own, Renewing, renewedOne, renewedAll}
 use Rattle.search.proofs.Slots.{length-slots}
 use Rattle.search.proofs.Lending.{changed-apart, take-slots}
 use Rattle.search.proofs.Storing.{PutAt, same, other, put-at, block, words-few, carried-bound, bound-storable, movers}
-use Rattle.search.proofs.Carrying.{emission-range, worth-of, worth-few, pass-to-ready, pass-to-done}
+use Rattle.search.proofs.Carrying.{emission-range, worth-of, worth-none, worth-few, pass-to-ready, pass-to-done}
 
 mul-next : (n a : ℕ) → n * suc a ≡ n * a + n
 mul-next n a = mul-comm n (suc a) ∙ suc-mul a n ∙ ap (λ (m : ℕ). m + n) (mul-comm a n)
@@ -129,6 +129,23 @@ module _ {n s : ℕ} {row b : List ℕ} (t : Renewing n (suc s) row b) where
     movers = movers n (t .M) (t .node) (t .node) 0 _ _ words (t .fits) (t .stored .kept (inside here)) (λ a e. loop-worth .small e) (λ h i. t .bound here i) (omega arith);
   }
 
+  -- the place as it is lent
+  pub lent-staying : (b′ : List ℕ) → slots n 0 b′ ≡ slots n (n * s) b → 8 * n ≤ length b′ → Staying n 0 (getD row s 0) b′
+  unfolding staying
+  lent-staying b′ e l = record {
+    score = staying .score;
+    l = staying .l;
+    worth = loop-worth;
+    room = record { one = t .one; few = t .eight; room = omega arith };
+    holds = e ∙ staying .holds;
+    movers = staying .movers;
+  }
+
+  -- it comes back with what the state is renewed with by its loop
+  pub lent-stayed : (b′ : List ℕ) (e : slots n 0 b′ ≡ slots n (n * s) b) (l : 8 * n ≤ length b′) → stayed (lent-staying b′ e l) ≡ stayed staying
+  unfolding stayed lent-staying staying
+  lent-stayed b′ e l = refl
+
   -- the place holds what the state is renewed with
   done : {b′ : List ℕ} {l : List Hit} → Changed (n * s) n (held n (bestTokens n l)) b b′ → renewed (t .v) g (t .P) (t .k) (t .node) s ≡ l
       → Own n (t .S) (renewedOne t (t .node)) b′
@@ -159,9 +176,9 @@ module _ {n s : ℕ} {row b : List ℕ} (t : Renewing n (suc s) row b) where
     pub loop-done : getD row (4 + s) 0 ≡ 0 → {b′ : List ℕ} → Changed (n * s) n (held n (stayed staying)) b b′
         → Own n (t .S) (renewedOne t (t .node)) b′
     unfolding stayed staying carried
-    loop-done z c = done c (renewed-is ∙ rw (step-worth .none-is z) (append-nil _))
+    loop-done z c = done c (renewed-is ∙ rw (worth-none step-worth z) (append-nil _))
 
-    pub step-few : getD row (4 + s) 0 ≤ 131072
+    pub step-few : getD row (4 + s) 0 ≤ bias + frameLimit
     step-few = worth-few step-worth
 
     slot-next : n * s ≡ n * r + n
@@ -180,7 +197,7 @@ module _ {n s : ℕ} {row b : List ℕ} (t : Renewing n (suc s) row b) where
           changed-apart c n (n * s - n) (inl (omega (arith, slot-covers)))
           ∙ rw slot-before (t .stored .holds (inside before))
 
-      step-offering : Offering n (n * s) (getD row (4 + s) 0) 281474976710656 (slots n (n * s - n) b′) b′
+      step-offering : Offering n (n * s) (getD row (4 + s) 0) lift (slots n (n * s - n) b′) b′
       unfolding downOf stayed staying
       step-offering = record {
         score = stepMove (t .v) g (t .P) (t .k) (t .node) r;
@@ -204,10 +221,10 @@ module _ {n s : ℕ} {row b : List ℕ} (t : Renewing n (suc s) row b) where
         abbrev up : ℕ
         up = getD row (4 + s) 0 * 4294967296
 
-        pub step-ready : Offer n (n * s) up 281474976710656 (slots n (n * s - n) b′) b′
+        pub step-ready : Offer n (n * s) up lift (slots n (n * s - n) b′) b′
         step-ready = pass-to-ready step-offering z
 
-        pub step-done : {b″ : List ℕ} → Changed (n * s) n (offered up 281474976710656 (slots n (n * s - n) b′) (slots n (n * s) b′)) b′ b″
+        pub step-done : {b″ : List ℕ} → Changed (n * s) n (offered up lift (slots n (n * s - n) b′) (slots n (n * s) b′)) b′ b″
             → Own n (t .S) (renewedOne t (t .node)) b″
         unfolding joined step-offering stayed staying
         step-done {b″} d =

@@ -23,8 +23,7 @@ use Rattle.graph.specs.Graph.{graphOf, sink, wordCount}
 use Rattle.graph.proofs.Sound.{Sound, sound}
 use Rattle.graph.proofs.Accepted.{accepted}
 use Rattle.ranking.specs.Hits.{Hit, hit}
-use Rattle.endian.specs.Integers.{eqZ}
-use Rattle.decoder.specs.Score.{possible}
+use Rattle.decoder.specs.Score.{bias, frameLimit, raised, numberOf, possible}
 use Rattle.decoder.specs.Decoding.{AcceptedFrames, frameRows}
 use Rattle.passing.specs.Best.{insert, rowOf}
 use Rattle.passing.specs.Tokens.{Store, bestTokens, tokens, initialScore}
@@ -32,8 +31,7 @@ use Rattle.passing.specs.InPlace.{passNode, passDown, passRoot}
 use Rattle.passing.proofs.InPlace.{first-frame, next-frame}
 use Rattle.passing.proofs.Bounds.{token-bounded}
 use Rattle.search.specs.Slots.{slots}
-use Rattle.search.specs.Held.{raised}
-use Rattle.search.specs.Gains.{raisedOf, MoveGains, EntryGains, KnownSymbol}
+use Rattle.search.specs.Gains.{MoveGains, EntryGains, KnownSymbol}
 use Rattle.search.specs.Stored.{StoreRoom, Bound, Stored, Within, source, PassingOn, passedOn, PassedOn, Turn, turned, TurnDone}
 use Rattle.search.specs.Running.{Empty, Run, StoredAt}
 use Rattle.search.proofs.Held.{held-none}
@@ -73,12 +71,12 @@ module _ (v frames : List ℕ) (h : AcceptedFrames v frames) where
       go (y ∷ l) e zero k = leb-false (symbolCount v) y (or-none (leb (symbolCount v) y) (any (λ k. leb (symbolCount v) k) l) e .0)
       go (y ∷ l) e (suc i) k = go l (or-none (leb (symbolCount v) y) (any (λ k. leb (symbolCount v) k) l) e .1) i (omega arith)
 
-module _ {v x frames : List ℕ} {n : ℕ} {lists counts firsts b : List ℕ} (r : Run v x frames n lists counts firsts b) where
+module _ {v x frames : List ℕ} {n : ℕ} {vertices : List (List ℕ)} {b : List ℕ} (r : Run v x frames n vertices b) where
   pub sound-run : Sound (graphOf x)
   sound-run = sound (letterCount v) x (accepted (r .ready .accepted) .lexicon)
 
-  pub hearing : (i : ℕ) → i < length frames → KnownSymbol v (getD frames i 0)
-  hearing i l = record { well-formed = accepted (r .ready .accepted) .voice; known = symbol-known v frames (r .heard) i l }
+  pub known-symbol : (i : ℕ) → i < length frames → KnownSymbol v (getD frames i 0)
+  known-symbol i l = record { well-formed = accepted (r .ready .accepted) .voice; known = symbol-known v frames (r .accepted) i l }
 
   -- ---- the first frame
 
@@ -92,8 +90,8 @@ module _ {v x frames : List ℕ} {n : ℕ} {lists counts firsts b : List ℕ} (r
     unfolding wordCount
     root-bound i = rw (only i) (record { score = omega arith; code = omega arith })
 
-    unfoldable pub root-passing : PassingOn x n lists counts firsts gains 32768 0 true 0 b
-    unfolding possible impossible eqZ source raisedOf raised
+    unfoldable pub root-passing : PassingOn x n vertices gains bias 0 true 0 b
+    unfolding possible impossible eqZ source numberOf raised
     root-passing = record {
       v = v;
       k = getD frames 0 0;
@@ -104,6 +102,7 @@ module _ {v x frames : List ℕ} {n : ℕ} {lists counts firsts b : List ℕ} (r
       ready = r .ready;
       roomy = r .roomy;
       vertex = omega arith;
+      root-is = λ e. refl;
       moved = pos 0;
       score-is = refl;
       small = omega arith;
@@ -129,14 +128,14 @@ module _ {v x frames : List ℕ} {n : ℕ} {lists counts firsts b : List ℕ} (r
 pub record TurnsLeft (v x frames : List ℕ) (n t m : ℕ) (b₀ b : List ℕ) : Type 0 where
   pub Q : Store
   pub stored : Stored v (graphOf x) n Q b
-  pub within : Within v (graphOf x) m (65536 * suc t) Q
+  pub within : Within v (graphOf x) m (frameLimit * suc t) Q
   -- the turns left give what all turns give
   pub left : passDown v (graphOf x) n (getD frames (suc t) 0) m Q
       ≡ passDown v (graphOf x) n (getD frames (suc t) 0) (nodeCount x) (tokens v (graphOf x) frames n t)
   pub low : m ≤ nodeCount x
   pub long : length b ≡ length b₀
 
-module _ {v x frames : List ℕ} {n : ℕ} {lists counts firsts b₀ : List ℕ} (r : Run v x frames n lists counts firsts b₀) (t : ℕ) where
+module _ {v x frames : List ℕ} {n : ℕ} {vertices : List (List ℕ)} {b₀ : List ℕ} (r : Run v x frames n vertices b₀) (t : ℕ) where
   pub turns-start : {m : ℕ} → m ≡ nodeCount x → StoredAt v x frames n t b₀ → TurnsLeft v x frames n t m b₀ b₀
   unfolding sink
   turns-start e s = rw e (record {
@@ -152,11 +151,11 @@ module _ {v x frames : List ℕ} {n : ℕ} {lists counts firsts b₀ : List ℕ}
   })
 
   module _ (h : suc t < length frames) {gains : List (List ℕ)} (moves : MoveGains v x (getD frames (suc t) 0) gains)
-      (links : EntryGains v x (getD frames (suc t) 0) gains) {link : ℕ} (is : link ≡ raisedOf (possible (linkScore v 0))) {m : ℕ} {b : List ℕ} (k : 1 ≤ m) (d : TurnsLeft v x frames n t m b₀ b) where
-    unfoldable pub turn-next : Turn v x n lists counts firsts gains link m b
+      (links : EntryGains v x (getD frames (suc t) 0) gains) {link : ℕ} (is : link ≡ numberOf (possible (linkScore v 0))) {m : ℕ} {b : List ℕ} (k : 1 ≤ m) (d : TurnsLeft v x frames n t m b₀ b) where
+    unfoldable pub turn-next : Turn v x n vertices gains link m b
     turn-next = record {
       k = getD frames (suc t) 0;
-      M = 65536 * suc t;
+      M = frameLimit * suc t;
       P = d .Q;
       ready = r .ready;
       roomy = roomy-same (d .long) (r .roomy);
@@ -167,7 +166,7 @@ module _ {v x frames : List ℕ} {n : ℕ} {lists counts firsts b₀ : List ℕ}
       link-is = is;
       stored = d .stored;
       within = d .within;
-      fits = omega (arith, frame-count v frames (r .heard));
+      fits = omega (arith, frame-count v frames (r .accepted));
     }
 
     one-turn : (m : ℕ) (Q : Store) → 1 ≤ m
@@ -177,7 +176,7 @@ module _ {v x frames : List ℕ} {n : ℕ} {lists counts firsts b₀ : List ℕ}
     one-turn zero Q h = absurd (omega arith)
     one-turn (suc m) Q h = let e : suc m - 1 ≡ m = omega arith in rw e
 
-    pub turns-next : {b′ : List ℕ} → ((T : Turn v x n lists counts firsts gains link m b) → TurnDone T b′)
+    pub turns-next : {b′ : List ℕ} → ((T : Turn v x n vertices gains link m b) → TurnDone T b′)
         → TurnsLeft v x frames n t (m - 1) b₀ b′
     unfolding turn-next turned
     turns-next f = let e = f turn-next in record {
@@ -199,16 +198,10 @@ module _ {v x frames : List ℕ} {n : ℕ} {lists counts firsts b₀ : List ℕ}
 
 -- ---- all frames
 
--- frames 0 to t are done
-pub record FramesDone (v x frames : List ℕ) (n t : ℕ) (b₀ b : List ℕ) : Type 0 where
-  pub stored : StoredAt v x frames n t b
-  pub low : t < length frames
-  pub long : length b ≡ length b₀
+pub run-same : {v x frames : List ℕ} {n : ℕ} {vertices : List (List ℕ)} {b b′ : List ℕ} → length b′ ≡ length b → Run v x frames n vertices b
+    → Run v x frames n vertices b′
+run-same e r = record { ready = r .ready; roomy = roomy-same e (r .roomy); accepted = r .accepted }
 
-pub run-same : {v x frames : List ℕ} {n : ℕ} {lists counts firsts b b′ : List ℕ} → length b′ ≡ length b → Run v x frames n lists counts firsts b
-    → Run v x frames n lists counts firsts b′
-run-same e r = record { ready = r .ready; roomy = roomy-same e (r .roomy); heard = r .heard }
-
-pub frames-end : {v x frames : List ℕ} {n t : ℕ} {b₀ b : List ℕ} → length frames ≤ t + 1 → FramesDone v x frames n t b₀ b
+pub frames-end : (v x frames : List ℕ) (n t : ℕ) (b : List ℕ) → length frames ≤ t + 1 → t < length frames → StoredAt v x frames n t b
     → StoredAt v x frames n (length frames - 1) b
-frames-end {frames} {t} h d = let e : length frames - 1 ≡ t = omega (arith, d .low) in rw e (d .stored)
+frames-end v x frames n t b h l s = let e : length frames - 1 ≡ t = omega arith in rw e s

@@ -15,7 +15,7 @@ use Rattle.graph.specs.Conditions.{placeCount}
 use Rattle.graph.specs.Checking.{Accepted}
 use Rattle.graph.proofs.Accepted.{accepted, places-limit, words-limit}
 use Rattle.ranking.specs.Hits.{Hit}
-use Rattle.decoder.specs.Score.{plus}
+use Rattle.decoder.specs.Score.{frameLimit, reach, plus}
 use Rattle.passing.specs.Best.{shift}
 use Rattle.passing.specs.Tokens.{Store, bestTokens, carried, heard}
 use Rattle.passing.specs.InPlace.{put, passOn}
@@ -123,28 +123,28 @@ module _ (v x : List ℕ) where
 -- ---- bounds
 
 module _ {g : Graph} where
-  pub shift-bound : {M w u : ℕ} (d : ℕ) (a : ℤ) {h : Hit} → Bound g M w h → natAbs a ≤ 65536 → d + pathCount g u ≤ pathCount g w
-      → Bound g (M + 65536) u (shift a d h)
+  pub shift-bound : {M w u : ℕ} (d : ℕ) (a : ℤ) {h : Hit} → Bound g M w h → natAbs a ≤ frameLimit → d + pathCount g u ≤ pathCount g w
+      → Bound g (M + frameLimit) u (shift a d h)
   unfolding shift
   shift-bound d a {h} b s c = record {
     score = omega (arith, size-sum (h .score) a, b .score);
     code = omega (arith, b .code);
   }
 
-  pub carried-bound : (M w u d : ℕ) (o : Option ℤ) (l : List Hit) → ((a : ℤ) → o ≡ some a → natAbs a ≤ 65536)
+  pub carried-bound : (M w u d : ℕ) (o : Option ℤ) (l : List Hit) → ((a : ℤ) → o ≡ some a → natAbs a ≤ frameLimit)
       → ((h : Hit) → List·Memᴰ h l → Bound g M w h)
-      → d + pathCount g u ≤ pathCount g w → {h : Hit} → List·Memᴰ h (carried o d l) → Bound g (M + 65536) u h
+      → d + pathCount g u ≤ pathCount g w → {h : Hit} → List·Memᴰ h (carried o d l) → Bound g (M + frameLimit) u h
   unfolding carried
   carried-bound M w u d none l s f c i = absurd (not-nil i)
   carried-bound M w u d (some a) l s f c i =
       let r = Memᴰ·of-map (shift a d) l i in
       rw (← r .2) (shift-bound d a (f (r .0) (r .1)) (s a refl) c)
 
-  pub bound-storable : {M u : ℕ} {h : Hit} → wordCount g < 2 ^ 32 → M ≤ 67108864 → Bound g M u h → Storable h
+  pub bound-storable : {M u : ℕ} {h : Hit} → wordCount g < 2 ^ 32 → M ≤ reach → Bound g M u h → Storable h
   bound-storable f m b = record { score = omega (arith, b .score); code = omega (arith, b .code) }
 
-  pub movers : (n M w u d : ℕ) (o : Option ℤ) (l : List Hit) → wordCount g < 2 ^ 32 → M + 65536 ≤ 67108864 → bestTokens n l ≡ l
-      → ((a : ℤ) → o ≡ some a → natAbs a ≤ 65536) → ((h : Hit) → List·Memᴰ h l → Bound g M w h) → d + pathCount g u ≤ pathCount g w → Movers n o d l
+  pub movers : (n M w u d : ℕ) (o : Option ℤ) (l : List Hit) → wordCount g < 2 ^ 32 → M + frameLimit ≤ reach → bestTokens n l ≡ l
+      → ((a : ℤ) → o ≡ some a → natAbs a ≤ frameLimit) → ((h : Hit) → List·Memᴰ h l → Bound g M w h) → d + pathCount g u ≤ pathCount g w → Movers n o d l
   movers n M w u d o l W m k s f c = record {
     best = k;
     before = λ h i. bound-storable W (omega arith) (f h i);

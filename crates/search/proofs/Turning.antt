@@ -2,7 +2,7 @@
 -- those of the definitions: renewed tokens moved once, and nodes below hold what they held. Assumes nothing.
 use Prim.Native.Nat.{ℕ, zero, suc, _+_, _-_, _*_, _≤_, _<_}
 use mathlib.Core.Path.{_≡_, refl, sym, ap, _∙_}
-use mathlib.Core.Bool.{false}
+use mathlib.Core.Bool.{false, false≢true}
 use mathlib.Core.Logic.{⊎-elim}
 use mathlib.Core.List.{List, [], List·Memᴰ, List·Memᴰ·append-cases as append-cases}
 use mathlib.Core.Option.{some}
@@ -19,7 +19,7 @@ use Rattle.graph.specs.Graph.{Graph, graphOf, sink}
 use Rattle.graph.proofs.Accepted.{accepted}
 use Rattle.checking.proofs.Arcs.{shape-of, sound-of, nodes-there}
 use Rattle.ranking.specs.Hits.{Hit}
-use Rattle.decoder.specs.Score.{possible, plus}
+use Rattle.decoder.specs.Score.{frameLimit, possible, plus}
 use Rattle.passing.specs.Tokens.{Store, bestTokens, stateOf, heard, lastState, entryScore, renewed}
 use Rattle.passing.specs.InPlace.{passNode}
 use Rattle.passing.proofs.Order.{hits-strict}
@@ -27,27 +27,27 @@ use Rattle.passing.proofs.Best.{best-from}
 use Rattle.passing.proofs.InPlace.{renew-apart, pass-other, node-own, node-other}
 use Rattle.search.specs.Slots.{slots}
 use Rattle.search.specs.Held.{held}
-use Rattle.search.specs.Places.{firstPlace, firstSlot}
+use Rattle.search.specs.Places.{firstPlace, firstSlot, firstIn}
 use Rattle.search.specs.Stored.{Bound, Place, Stored, source, PassingOn, PassedOn, passedOn, Turn, TurnDone, turned}
 use Rattle.search.specs.Carrying.{Renewal, renewal}
 use Rattle.search.proofs.Numbering.{place-end}
 use Rattle.search.proofs.Storing.{block, place-there, place-room, slot-small, carried-bound}
 use Rattle.search.proofs.Carrying.{emission-range, move-small}
-use Rattle.search.proofs.PassingOn.{lexicon-formed, known, letter-few, state-range, place-of, first-at}
+use Rattle.search.proofs.PassingOn.{lexicon-formed, known, letter-few, state-range, place-of}
 
 -- ---- bounds of a renewed state
 
 module _ (v : List ℕ) (g : Graph) (P : Store) (k u M : ℕ) where
-  loop-small : (s : ℕ) (a : ℤ) → plus (possible (loopScore v (stateOf v g u s))) (heard v g k u s) ≡ some a → natAbs a ≤ 65536
+  loop-small : (s : ℕ) (a : ℤ) → plus (possible (loopScore v (stateOf v g u s))) (heard v g k u s) ≡ some a → natAbs a ≤ frameLimit
   unfolding heard loopScore
   loop-small s a e = move-small _ _ (i16-range v _) (emission-range v _ k) e
 
-  step-small : (s : ℕ) (a : ℤ) → plus (possible (stepScore v (stateOf v g u s))) (heard v g k u (suc s)) ≡ some a → natAbs a ≤ 65536
+  step-small : (s : ℕ) (a : ℤ) → plus (possible (stepScore v (stateOf v g u s))) (heard v g k u (suc s)) ≡ some a → natAbs a ≤ frameLimit
   unfolding heard stepScore
   step-small s a e = move-small _ _ (i16-range v _) (emission-range v _ k) e
 
   renewed-bound : (s : ℕ) → ((r : ℕ) (h : Hit) → r ≤ s → List·Memᴰ h (P u r) → Bound g M u h) → {h : Hit} → List·Memᴰ h (renewed v g P k u s)
-      → Bound g (M + 65536) u h
+      → Bound g (M + frameLimit) u h
   unfolding renewed
   renewed-bound zero f i = carried-bound M u u 0 _ (P u 0) (loop-small 0) (λ h j. f 0 h (omega arith) j) (omega arith) i
   renewed-bound (suc s) f i = ⊎-elim
@@ -55,8 +55,8 @@ module _ (v : List ℕ) (g : Graph) (P : Store) (k u M : ℕ) where
       (λ j. carried-bound M u u 0 _ (P u s) (step-small s) (λ h j. f s h (omega arith) j) (omega arith) j)
       (append-cases _ i)
 
-module _ {v x : List ℕ} {n : ℕ} {lists counts firsts : List ℕ} {gains : List (List ℕ)} {link w : ℕ} {b : List ℕ}
-    (t : Turn v x n lists counts firsts gains link w b) where
+module _ {v x : List ℕ} {n : ℕ} {vertices gains : List (List ℕ)} {link w : ℕ} {b : List ℕ}
+    (t : Turn v x n vertices gains link w b) where
   abbrev g : Graph
   g = graphOf x
 
@@ -90,8 +90,8 @@ module _ {v x : List ℕ} {n : ℕ} {lists counts firsts : List ℕ} {gains : Li
   unfolding nodeLetter states
   count-range = state-range (t .ready) (t .low) (t .high)
 
-  first-is : getD firsts w 0 ≡ firstSlot v g n w
-  first-is = first-at (t .ready) (t .high)
+  first-is : firstIn vertices w ≡ firstSlot v g n w
+  first-is = t .ready .first (t .low) (t .high)
 
   place : {s : ℕ} → s < count → Place v g w s
   place {s} h = place-of (t .ready) (t .low) (t .high) (omega (arith, count-is))
@@ -99,10 +99,10 @@ module _ {v x : List ℕ} {n : ℕ} {lists counts firsts : List ℕ} {gains : Li
   last : Place v g w (count - 1)
   last = place (omega (arith, count-range))
 
-  slot-is : getD firsts w 0 + n * (count - 1) ≡ n * (firstPlace v g w + (count - 1))
+  slot-is : firstIn vertices w + n * (count - 1) ≡ n * (firstPlace v g w + (count - 1))
   slot-is = ap (λ (a : ℕ). a + n * (count - 1)) first-is ∙ sym (mul-add n _ _)
 
-  pub slot-few : getD firsts w 0 + n * (count - 1) ≤ 8000
+  pub slot-few : firstIn vertices w + n * (count - 1) ≤ 8000
   slot-few = rw slot-is (slot-small v x (t .ready .accepted) (t .roomy) (omega (arith, place-there v x last)))
 
   -- ---- passing on
@@ -114,7 +114,7 @@ module _ {v x : List ℕ} {n : ℕ} {lists counts firsts : List ℕ} {gains : Li
   unfolding lastState
   last-is = ap (λ (c : ℕ). c - 1) count-is
 
-  old-slots : slots n (getD firsts w 0 + n * (count - 1)) b ≡ held n old
+  old-slots : slots n (firstIn vertices w + n * (count - 1)) b ≡ held n old
   old-slots =
       let p : Place v g w (lastState v g w) = rw last-is at last in
       ap (λ (k : ℕ). slots n k b) (slot-is ∙ ap (λ (s : ℕ). n * (firstPlace v g w + s)) last-is) ∙ t .stored .holds p
@@ -124,10 +124,10 @@ module _ {v x : List ℕ} {n : ℕ} {lists counts firsts : List ℕ} {gains : Li
   below = omega (arith, t .high)
 
   -- a node's places end before those of a later one begin
-  last-apart : {u : ℕ} → w < u → u ≤ nodeCount x → getD firsts w 0 + n * (count - 1) + n ≤ firstSlot v g n u
+  last-apart : {u : ℕ} → w < u → u ≤ nodeCount x → firstIn vertices w + n * (count - 1) + n ≤ firstSlot v g n u
   last-apart {u} l h = rw slot-is (block n (omega (arith, count-is, count-range, place-end v g {u = w} {w = u} (t .low) l)))
 
-  pub passing-on : PassingOn x n lists counts firsts gains link w false (getD firsts w 0 + n * (count - 1)) b
+  pub passing-on : PassingOn x n vertices gains link w false (firstIn vertices w + n * (count - 1)) b
   unfolding linkScore source
   passing-on = record {
     v = v;
@@ -139,6 +139,7 @@ module _ {v x : List ℕ} {n : ℕ} {lists counts firsts : List ℕ} {gains : Li
     ready = t .ready;
     roomy = t .roomy;
     vertex = t .high;
+    root-is = λ e. absurd (false≢true e);
     entry-gains = t .links;
     moved = linkScore v 0;
     score-is = refl;
@@ -163,7 +164,7 @@ module _ {v x : List ℕ} {n : ℕ} {lists counts firsts : List ℕ} {gains : Li
     own-kept {s} =
         pass-other v g n (t .k) _ w old (g .successors w) (t .P) w s (λ i. omega (arith, sound-of (lexicon-formed (t .ready)) .rises below i))
 
-    pub renewing : Renewal n (getD firsts w 0) count (getD gains letter []) b′
+    pub renewing : Renewal n (firstIn vertices w) count (getD gains letter []) b′
     unfolding nodeLetter states passing-on
     renewing = record {
       v = v;
@@ -199,7 +200,7 @@ module _ {v x : List ℕ} {n : ℕ} {lists counts firsts : List ℕ} {gains : Li
     unfolding turned
     turned-own {s} l = node-own v (sound-of (lexicon-formed (t .ready))) n (t .k) w below (t .P) s l
 
-    own-bound : {s : ℕ} {h : Hit} → s < states v (g .letter w) → List·Memᴰ h (turned t w s) → Bound g (t .M + 65536) w h
+    own-bound : {s : ℕ} {h : Hit} → s < states v (g .letter w) → List·Memᴰ h (turned t w s) → Bound g (t .M + frameLimit) w h
     own-bound {s} {h} l i = renewed-bound v g (t .P) (t .k) w (t .M) s
         (λ r y m j. t .within .old (place (omega (arith, count-is))) (omega arith) j)
         (best-from hits-strict n _ h (rw (turned-own l) at i))
@@ -208,7 +209,7 @@ module _ {v x : List ℕ} {n : ℕ} {lists counts firsts : List ℕ} {gains : Li
     unfolding turned passNode passedOn passing-on entryScore linkScore
     turned-above {u} s l = renew-apart v g n (t .k) w _ _ {w = u} {r = s} (λ q. omega arith)
 
-    pub turn-done : {b″ : List ℕ} → ((r : Renewal n (getD firsts w 0) count (getD gains letter []) b′) → Stored (r .v) (graphOf (r .x)) n (renewal r) b″)
+    pub turn-done : {b″ : List ℕ} → ((r : Renewal n (firstIn vertices w) count (getD gains letter []) b′) → Stored (r .v) (graphOf (r .x)) n (renewal r) b″)
         → length b″ ≡ length b′
         → TurnDone t b″
     unfolding passing-on renewing

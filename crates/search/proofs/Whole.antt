@@ -11,6 +11,7 @@ use Rattle.endian.proofs.Lists.{getD-copies}
 use Rattle.lexicon.specs.Lexicon.{nodeCount}
 use Rattle.graph.specs.Graph.{graphOf}
 use Rattle.ranking.specs.Hits.{Hit}
+use Rattle.decoder.specs.Score.{reach}
 use Rattle.decoder.specs.Decoding.{row, hits}
 use Rattle.passing.specs.Tokens.{bestTokens, downFrom, tokens, ending, arrived, decoded}
 use Rattle.passing.proofs.Bounds.{token-bounded}
@@ -53,16 +54,16 @@ ends-start v x frames n m e = rw e (record {
   long = refl;
 })
 
-module _ {v x frames : List ℕ} {n : ℕ} {lists counts firsts b : List ℕ} (r : Run v x frames n lists counts firsts b)
+module _ {v x frames : List ℕ} {n : ℕ} {vertices : List (List ℕ)} {b : List ℕ} (r : Run v x frames n vertices b)
     (h : StoredAt v x frames n (length frames - 1) b) where
   pub last-bound : {u s : ℕ} {i : Hit} → Place v (graphOf x) u s → List·Memᴰ i (tokens v (graphOf x) frames n (length frames - 1) u s)
-      → Bound (graphOf x) 67108864 u i
+      → Bound (graphOf x) reach u i
   last-bound {u} {s} p j =
       let B = token-bounded v (sound-run r) frames n (length frames - 1) u s j in
-      record { score = omega (arith, B .score, frame-count v frames (r .heard)); code = B .code }
+      record { score = omega (arith, B .score, frame-count v frames (r .accepted)); code = B .code }
 
   module _ {m : ℕ} {list : List ℕ} (k : 1 ≤ m) (d : EndsLeft v x frames n m list) where
-    unfoldable pub next-end : Ending v x n lists counts firsts m b list
+    unfoldable pub next-end : Ending v x n vertices m b list
     next-end = record {
       P = tokens v (graphOf x) frames n (length frames - 1);
       s = d .s;
@@ -117,7 +118,7 @@ module _ {v x frames : List ℕ} {n : ℕ} {lists counts firsts b : List ℕ} (r
         let none : m ≡ 0 = omega arith in
         let all : d .s ≡ arrived v (graphOf x) P =
         sym (append-nil (d .s)) ∙ ap (λ j. d .s ++ flatMap (ending v (graphOf x) P) (downFrom j)) (sym none) ∙ d .left in
-        ap (bestTokens n) all ∙ decoded-so frames (frame-count v frames (r .heard) .0) ∙ decoded-hits v (sound-run r) frames n
+        ap (bestTokens n) all ∙ decoded-so frames (frame-count v frames (r .accepted) .0) ∙ decoded-hits v (sound-run r) frames n
 
     pub ends-done : {best : List ℕ} → best ≡ slots n 0 list ++ replicate (8 - n) 0 → best ≡ held 8 (hits v (graphOf x) frames n)
     ends-done c =

@@ -92,6 +92,6 @@ pub data Falling : List ℕ → Type 0 where
 pub record Offer (n k up down : ℕ) (from b : List ℕ) : Type 0 where
   pub room : PlaceRoom n k b
   pub long : n ≤ length from
-  pub bears : Movable up down (take n from)
+  pub fits : Movable up down (take n from)
   pub source : Falling (take n from)
   pub target : Falling (slots n k b)

@@ -75,6 +75,7 @@ pub record PassingOn (x : List ℕ) (n : ℕ) (vertices gains : List (List ℕ))
   pub ready : VertexTable v x n vertices
   pub roomy : StoreRoom v x n b
   pub vertex : w ≤ nodeCount x
+  pub root-is : root ≡ true → w ≡ 0
   pub entry-gains : EntryGains v x k gains
   -- the score is a stored one
   pub moved : ℤ

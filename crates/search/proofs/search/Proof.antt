@@ -12,6 +12,8 @@ use Rattle.call.proofs.Buffers.{cleared-length}
 use Rattle.graph.specs.Graph.{graphOf}
 use Rattle.graph.specs.Conditions.{placeCount}
 use Rattle.graph.proofs.Accepted.{accepted, Passed, passed}
+use Rattle.checking.specs.Tables.{Vertices}
+use Rattle.checking.proofs.VertexRows.{opened-vertices}
 use Rattle.search.proofs.Calling.{search-refused, call-judged, found-some, found-none, Clear, call-clear, call-run, store-few, part-empty, part-zeroed}
 use Rattle.search.proofs.search.Statement.{statement}
 use Rattle.search.proofs.search.Tie as tie
@@ -25,7 +27,7 @@ returns c =
 
 -- where the call began
 abbrev begin : tie.After-enum-told → tie.Start
-begin c = c .before .before .before .before .before .before .before .before .before .before .before .before .before
+begin c = c .before .before .before .before .before .before .before .before .before .before .before .before
 
 -- checking has answered W
 passes : (c : tie.After-enum-told) →
@@ -54,13 +56,21 @@ clear-call c =
 room : (c : tie.After-enum-told) → 64000 ≤ length (c .before .before .before .before .«open» .last .1 .1 .0)
 room c =
     let o = c .before .before .before .before in
-    let w = o .before .before .before .before .before .before .before .before .before .args .work .now in
+    let w = begin c .args .work .now in
     omega (arith, ap length (o .«open» .ensures .1 .0), cleared-length w, passes c .room)
+
+-- the table that checking leaves
+table : (c : tie.After-enum-told) → Vertices (begin c .args .lexicon .now) (c .before .before .before .before .«open» .last .1 .1 .1 .0)
+table c =
+    let i = accepted (passes c .images) in
+    opened-vertices (record { letters = _; judged = i .lexicon }) _ (ap answerOf (c .enum-told .given .1)) (c .before .before .before .before .«open» .ensures .1 .1)
 
 find-slots-requires : tie.Need-find-slots-requires
 find-slots-requires c κs =
-    let i = accepted (passes (c .before .before .before .before) .images) in
-    ((i .voice, i .lexicon), (clear-call (c .before) .few, refl))
+    let t = c .before in
+    let k = t .before .before .before in
+    let i = accepted (passes k .images) in
+    ((i .voice, i .lexicon), (clear-call t .few, table k .long))
 
 -- ---- the store
 
@@ -75,7 +85,7 @@ start c = begin (checked c)
 
 counted : (c : tie.After-find-slots)
     → c .find-slots .result ≡ start c .args .n * placeCount (start c .args .voice .now) (graphOf (start c .args .lexicon .now))
-counted c = c .find-slots .ensures .1
+counted c = c .find-slots .ensures .total
 
 -- it lies in the work space
 inside : (c : tie.After-find-slots) → 8 * c .find-slots .result ≤ 64000
@@ -91,21 +101,18 @@ small c = omega (arith, inside c)
 fits : (c : tie.After-find-slots) → size c ≤ length (checked c .before .before .before .before .«open» .last .1 .1 .0)
 fits c = omega (arith, inside c, room (checked c))
 
-abbrev found : tie.After-firsts2 → tie.After-find-slots
-found c = c .before .before .before
+abbrev found : tie.After-vertices3 → tie.After-find-slots
+found c = c .before
 
 best-words-requires : tie.Need-best-words-requires
 best-words-requires c κs =
-    let f = c .before .before .before .before in
-    let t = told f in
+    let f = found (c .before) in
     let k = checked f in
     let o = k .before .before .before .before in
-    let a = o .before .before .before .before .before .before .before .before .before .args in
     let part = o .«open» .last .1 .1 .0 in
     let long = length-take-le (size f) part (fits f) in (
-      call-run _ _ _ _ _ _ (passes k) (clear-call t) (o .«open» .ensures .1 .1 .filled _ (ap answerOf (k .enum-told .given .1))) (f .find-slots .ensures .0)
-          (long ∙ ap (λ (p : ℕ). 8 * p - 0) (counted f) ∙ omega arith),
-      part-empty (size f) part (a .work .now) (o .«open» .ensures .1 .0) (small f) (passes k .room),
+      call-run _ _ _ _ _ _ (passes k) (clear-call (told f)) (table k) (f .find-slots .ensures) (long ∙ omega arith),
+      part-empty (size f) part (start f .args .work .now) (o .«open» .ensures .1 .0) (small f) (passes k .room),
     )
 
 -- ---- after it
@@ -118,14 +125,14 @@ wiped : (c : tie.After-zero) →
     let b = listed c in
     let f = found (b .before .before) in
     let o = checked f .before .before .before .before in
-    c .zero .last .0 ++ drop (size f) (b .best-words .last .1 .1 .1 .1 .1 .1 .1 .0 ++ drop (size f) (o .«open» .last .1 .1 .0)) ≡ cleared (start f .args .work .now)
+    c .zero .last .0 ++ drop (size f) (b .best-words .last .1 .1 .1 .1 .1 .0 ++ drop (size f) (o .«open» .last .1 .1 .0)) ≡ cleared (start f .args .work .now)
 wiped c =
     let b = listed c in
     let f = found (b .before .before) in
     let o = checked f .before .before .before .before in
-    part-zeroed (size f) (o .«open» .last .1 .1 .0) (start f .args .work .now) (b .best-words .last .1 .1 .1 .1 .1 .1 .1 .0) (c .zero .last .0)
+    part-zeroed (size f) (o .«open» .last .1 .1 .0) (start f .args .work .now) (b .best-words .last .1 .1 .1 .1 .1 .0) (c .zero .last .0)
     (o .«open» .ensures .1 .0) (small f)
-    (passes (checked f) .room) (b .best-words .kept .1 .1 .1 .1 .1 .1 .1 .0 ∙ length-take-le (size f) (o .«open» .last .1 .1 .0) (fits f))
+    (passes (checked f) .room) (b .best-words .kept .1 .1 .1 .1 .1 .0 ∙ length-take-le (size f) (o .«open» .last .1 .1 .0) (fits f))
     (c .zero .ensures)
 
 returns-3 : tie.Need-returns-3

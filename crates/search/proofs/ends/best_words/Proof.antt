@@ -11,10 +11,10 @@ use Rattle.search.proofs.ends.best_words.Statement.{statement}
 use Rattle.search.proofs.ends.best_words.Tie as tie
 
 abbrev Inv-loop : tie.InvT-loop
-Inv-loop voice lexicon frames n lists counts firsts store list₀ node₀ list node = EndsLeft voice lexicon frames n node list
+Inv-loop voice lexicon frames n vertices store list₀ node₀ list node = EndsLeft voice lexicon frames n node list
 
 abbrev μ-loop : tie.MeasureT-loop
-μ-loop voice lexicon frames n lists counts firsts store list₀ node₀ list node = node
+μ-loop voice lexicon frames n vertices store list₀ node₀ list node = node
 
 all-frames-requires : tie.Need-all-frames-requires Inv-loop μ-loop
 all-frames-requires c κs = c .before .before .before .before .before .pre
@@ -22,9 +22,9 @@ all-frames-requires c κs = c .before .before .before .before .before .pre
 -- after all frames
 run : (c : tie.After-all-frames Inv-loop μ-loop) →
     let a = c .before .before .before .before .before .before .args in
-    Run (a .voice .now) (a .lexicon .now) (a .frames .now) (a .n) (a .lists .now) (a .counts .now) (a .firsts .now)
-    (c .all-frames .last .1 .1 .1 .1 .1 .1 .1 .0)
-run c = run-same (c .all-frames .kept .1 .1 .1 .1 .1 .1 .1 .0) (c .before .before .before .before .before .before .pre .0)
+    Run (a .voice .now) (a .lexicon .now) (a .frames .now) (a .n) (a .vertices .now)
+    (c .all-frames .last .1 .1 .1 .1 .1 .0)
+run c = run-same (c .all-frames .kept .1 .1 .1 .1 .1 .0) (c .before .before .before .before .before .before .pre .0)
 
 loop-holds : tie.Need-loop-holds Inv-loop μ-loop
 unfolding nodeCount
@@ -41,7 +41,7 @@ loop-again c =
     let o = c .before in
     let l = o .before .before .before in
     let f = l .before .before .before .before .before in
-    ends-next (run f) (f .all-frames .ensures) (l .loop-test .taken) (l .before .loop .inv) (o .offer-end .kept .1 .1 .1 .1 .1 .1 .1 .1 .0)
+    ends-next (run f) (f .all-frames .ensures) (l .loop-test .taken) (l .before .loop .inv) (o .offer-end .kept .1 .1 .1 .1 .1 .1 .0)
     (o .offer-end .ensures (next-end (run f) (f .all-frames .ensures) (l .loop-test .taken) (l .before .loop .inv)))
 
 copy-place-requires : tie.Need-copy-place-requires Inv-loop μ-loop
@@ -75,7 +75,7 @@ slice-aggregate-copy-place : tie.Need-slice-aggregate-copy-place Inv-loop μ-loo
 slice-aggregate-copy-place c = search needs
 
 same-length : tie.Need-same-length Inv-loop μ-loop
-same-length c = c .before .before .before .before .before .before .before .before .all-frames .kept .1 .1 .1 .1 .1 .1 .1 .0
+same-length c = c .before .before .before .before .before .before .before .before .all-frames .kept .1 .1 .1 .1 .1 .0
 
 pub best-words-spec : {M : Type 1} → statement M
 best-words-spec =

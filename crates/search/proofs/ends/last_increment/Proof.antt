@@ -2,35 +2,35 @@
 -- left of the list. Assumes nothing.
 use Prim.Native.Nat.{_+_, _-_, _*_, _≤_, _<_}
 use mathlib.Core.Path.{_≡_, sym, _∙_}
-use lib.ListN.{getD}
 use native.Mathlib.Omega.{arith}
 use borrow.Author.Needs.{needs}
 use Rattle.endian.specs.Bytes.{u16}
 use Rattle.lexicon.specs.Lexicon.{nodeCount, sinkOf}
 use Rattle.graph.specs.Graph.{graphOf, pathCount}
-use Rattle.checking.proofs.Arcs.{ArcNext, has-entry, list-at}
+use Rattle.checking.proofs.Arcs.{ArcNext, has-entry, list-there}
+use Rattle.search.specs.Places.{arcsIn, pathsIn}
 use Rattle.search.proofs.Closing.{EndAhead, count-entry, ahead-start, ahead-arc, ahead-here, ahead-below, ahead-next, ahead-done}
 use Rattle.search.proofs.ends.last_increment.Statement.{statement}
 use Rattle.search.proofs.ends.last_increment.Tie as tie
 
 abbrev Inv-loop : tie.InvT-loop
-Inv-loop lexicon lists counts node sink start stop at₀ increment₀ at increment = EndAhead lexicon node at stop increment
+Inv-loop lexicon vertices node sink start stop at₀ increment₀ at increment = EndAhead lexicon node at stop increment
 
 abbrev μ-loop : tie.MeasureT-loop
-μ-loop lexicon lists counts node sink start stop at₀ increment₀ at increment = stop - at
+μ-loop lexicon vertices node sink start stop at₀ increment₀ at increment = stop - at
 
 low : (c : tie.After-u16-at Inv-loop μ-loop) → c .before .before .args .node < 402
 unfolding sinkOf
-low c = let p = c .before .before .pre in has-entry (p .0 .listed .well-formed) (omega (arith, p .1))
+low c = let p = c .before .before .pre in has-entry (p .0 .well-formed) (omega (arith, p .1))
 
 small : (c : tie.After-start Inv-loop μ-loop) →
     let a = c .before .before .before .args in
-    getD (a .lists .now) (a .node) 0 + 2 + 2 * u16 (a .lexicon .now) (getD (a .lists .now) (a .node) 0) ≤ 9204
-small c = let p = c .before .before .before .pre in list-at (p .0 .listed) (p .1) .small
+    arcsIn (a .vertices .now) (a .node) + 2 + 2 * u16 (a .lexicon .now) (arcsIn (a .vertices .now) (a .node)) ≤ 9204
+small c = let p = c .before .before .before .pre in list-there (p .0 .well-formed) (p .1) (p .0 .begin (p .1)) .small
 
 size : (c : tie.After-u16-at2 Inv-loop μ-loop) →
     let a = c .before .before .before .before .args in
-    getD (a .lists .now) (a .node) 0 + 2 + 2 * c .u16-at2 .result ≤ 9204
+    arcsIn (a .vertices .now) (a .node) + 2 + 2 * c .u16-at2 .result ≤ 9204
 size c = rw (c .u16-at2 .ensures) (small (c .before))
 
 loop-holds : tie.Need-loop-holds Inv-loop μ-loop
@@ -40,14 +40,14 @@ loop-holds c = let p = c .before .before .before .before .pre in rw (c .u16-at2 
 next : (c : tie.In-loop Inv-loop μ-loop) →
     let l = c .before in
     let a = l .before .before .before .before .before .args in
-    ArcNext (a .lexicon .now) (a .node) (l .loop .at) (getD (a .lists .now) (a .node) 0 + 2 + 2 * l .before .u16-at2 .result)
+    ArcNext (a .lexicon .now) (a .node) (l .loop .at) (arcsIn (a .vertices .now) (a .node) + 2 + 2 * l .before .u16-at2 .result)
     (l .loop .inv .counts .later)
 next c = let p = c .before .before .before .before .before .before .pre in ahead-arc (p .0) (p .1) (c .before .loop .inv) (c .loop-test .taken)
 
 leads : (c : tie.After-u16-at3 Inv-loop μ-loop) → c .u16-at3 .result < 402
 leads c =
     let p = c .before .before .before .before .before .before .before .pre in
-    rw (c .u16-at3 .ensures) (has-entry (p .0 .listed .well-formed) (next (c .before) .bounded))
+    rw (c .u16-at3 .ensures) (has-entry (p .0 .well-formed) (next (c .before) .bounded))
 
 -- the number of the sink
 to-sink : (c : tie.After-u16-at Inv-loop μ-loop) → c .u16-at .result + 1 ≡ sinkOf (c .before .before .args .lexicon .now)
@@ -67,7 +67,7 @@ count : (c : tie.After-increment Inv-loop μ-loop) →
     let n = c .before .before in
     let l = n .before in
     let a = l .before .before .before .before .before .before .args in
-    getD (a .counts .now) (n .u16-at3 .result) 0 ≡ pathCount (graphOf (a .lexicon .now)) (u16 (a .lexicon .now) (l .before .loop .at))
+    pathsIn (a .vertices .now) (n .u16-at3 .result) ≡ pathCount (graphOf (a .lexicon .now)) (u16 (a .lexicon .now) (l .before .loop .at))
 count c =
     let n = c .before .before in
     let p = n .before .before .before .before .before .before .before .pre in
@@ -108,7 +108,8 @@ last-increment-spec =
     (λ c. search needs)
     (λ c. search needs)
     (λ c. let h = low c in search needs)
-    low
+    (λ c. let h = low c in search needs)
+    (λ c. search needs)
     (λ c. let h = small c in search needs)
     (λ c. let h = small c in search needs)
     (λ c κs. search needs)
@@ -121,7 +122,8 @@ last-increment-spec =
     (λ c. let h = leads c in search needs)
     returns
     (λ c. let h = leads (c .before) in search needs)
-    (λ c. leads (c .before))
+    (λ c. let h = leads (c .before) in search needs)
+    (λ c. search needs)
     add-increment
     (λ c. let h = size (c .before .before .before .before .before) in search needs)
     (λ c. let h = c .before .before .before .loop-test .taken in omega arith)

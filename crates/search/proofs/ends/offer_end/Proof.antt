@@ -1,40 +1,37 @@
--- `ends::offer_end` meets its contract: without an arc to the sink the list stays, and with one it takes what the last state holds. Assumes nothing.
-use mathlib.Core.Path.{refl}
+-- `ends::offer_end` meets its contract: without an arc to the sink the list stays, and with one it takes what the last state
+-- holds. Assumes nothing.
 use native.Mathlib.Omega.{arith}
 use borrow.Author.Needs.{needs}
-use Rattle.search.proofs.Closing.{arcs-of, EndPlace, end-place, end-none, end-there, end-nothing, end-falls, end-offer, end-offered}
+use Rattle.search.proofs.Closing.{arcs-of, EndPlace, end-place, end-none, end-there, end-nothing, end-offer, end-offered}
 use Rattle.search.proofs.ends.offer_end.Statement.{statement}
 use Rattle.search.proofs.ends.offer_end.Tie as tie
 
 -- where the node's last state stands
 at : (c : tie.Start)
-    → EndPlace (c .args .voice .now) (c .args .lexicon .now) (c .args .n) (c .args .firsts .now) (c .args .node) (c .args .store .now)
+    → EndPlace (c .args .voice .now) (c .args .lexicon .now) (c .args .n) (c .args .vertices .now) (c .args .node) (c .args .store .now)
 at c = end-place (c .pre .ready) (c .pre .roomy) (c .pre .low) (c .pre .high)
 
 returns : tie.Need-returns
 returns c e = end-nothing e (end-none e (c .before .before .last-increment .ensures) (c .if1 .taken))
 
-copy-at-requires : tie.Need-copy-at-requires
-copy-at-requires c κs =
-    let s = c .before .before .before .before .before .before .before .before .before .before .before in
-    ((at s .room, end-falls (s .pre)), refl)
+abbrev start : tie.Else1 → tie.Start
+start c = c .before .before .before .before .before .before .before
 
 offer-requires : tie.Need-offer-requires
 offer-requires c κs =
-    let l = c .before .before .before .before .before .before .before in
+    let l = c .before .before .before .before in
     let i = l .before .before in
-    let e = i .before .before .before .before .before .pre in
+    let e = start l .pre in
     let t = end-there e (i .last-increment .ensures) (l .if1 .left) in
-    end-offer e t (i .last-increment .ensures .there t) (c .before .before .copy-at .ensures)
+    (at (start l) .room, end-offer e t (i .last-increment .ensures .there t))
 
 returns-2 : tie.Need-returns-2
 returns-2 c e =
     let o = c .before .before in
-    let k = o .before .before .before in
-    let l = k .before .before .before .before .before in
+    let l = o .before .before .before .before .before in
     let i = l .before .before in
     let t = end-there e (i .last-increment .ensures) (l .if1 .left) in
-    end-offered e t (i .last-increment .ensures .there t) (k .copy-at .ensures) (o .offer .ensures)
+    end-offered e t (i .last-increment .ensures .there t) (o .offer .ensures)
 
 pub offer-end-spec : {M : Type 1} → statement M
 offer-end-spec =
@@ -42,22 +39,23 @@ offer-end-spec =
     (tie.spec
     (λ c κs. let s = c .before .before .before .before in (arcs-of (s .pre .ready), s .pre .high))
     (λ c. let h = at (c .before .before .before .before .before) .vertex in search needs)
-    (λ c. let h = at (c .before .before .before .before .before) .vertex in omega arith)
+    (λ c. let h = at (c .before .before .before .before .before) .vertex in search needs)
+    (λ c. search needs)
     returns
-    (λ c. let h = at (c .before .before .before .before .before .before .before) .vertex in search needs)
-    (λ c. let h = at (c .before .before .before .before .before .before .before .before) .node-there in search needs)
-    (λ c. let h = at (c .before .before .before .before .before .before .before .before) .letter-small in search needs)
-    (λ c. let h = at (c .before .before .before .before .before .before .before .before) .letter-small in search needs)
-    (λ c. let h = at (c .before .before .before .before .before .before .before .before) .letter-small in search needs)
-    (λ c. let h = at (c .before .before .before .before .before .before .before .before .before) .letter-there in search needs)
-    (λ c. let h = at (c .before .before .before .before .before .before .before .before .before) .few in search needs)
-    (λ c. let h = at (c .before .before .before .before .before .before .before .before .before) .one in search needs)
-    (λ c. let h = at (c .before .before .before .before .before .before .before .before .before) .vertex in search needs)
-    (λ c. let h = at (c .before .before .before .before .before .before .before .before .before) .vertex in omega arith)
-    (λ c. let h = at (c .before .before .before .before .before .before .before .before .before .before) .slot-small in search needs)
-    (λ c. let h = at (c .before .before .before .before .before .before .before .before .before .before) .slot-small in search needs)
-    (λ c. let h = at (c .before .before .before .before .before .before .before .before .before .before) .slot-small in search needs)
-    copy-at-requires
+    (λ c. let h = at (start c) .vertex in search needs)
+    (λ c. let h = at (start (c .before)) .node-there in search needs)
+    (λ c. let h = at (start (c .before)) .letter-small in search needs)
+    (λ c. let h = at (start (c .before)) .letter-small in search needs)
+    (λ c. let h = at (start (c .before)) .letter-small in search needs)
+    (λ c. let h = at (start (c .before .before)) .letter-there in search needs)
+    (λ c. let h = at (start (c .before .before)) .few in search needs)
+    (λ c. let h = at (start (c .before .before)) .vertex in search needs)
+    (λ c. let h = at (start (c .before .before)) .vertex in search needs)
+    (λ c. search needs)
+    (λ c. let h = at (start (c .before .before .before)) .slot-small in search needs)
+    (λ c. let h = at (start (c .before .before .before)) .one in search needs)
+    (λ c. let h = at (start (c .before .before .before)) .slot-small in search needs)
+    (λ c. let h = at (start (c .before .before .before)) .slot-small in search needs)
     (λ c. search needs)
     (λ c. search needs)
     offer-requires

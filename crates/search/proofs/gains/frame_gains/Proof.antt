@@ -5,17 +5,17 @@ use mathlib.Core.List.{[]}
 use native.Mathlib.Omega.{arith}
 use borrow.Author.Needs.{needs}
 use lib.ListN.{getD}
-use Rattle.search.specs.Gains.{Gained, ScoreRow, letterAt}
+use Rattle.search.specs.Gains.{Gained, LetterRow, letterAt}
 use Rattle.search.proofs.Gaining.{letter-small}
 use Rattle.search.proofs.Filling.{gained-start, gained-next, gained-done, row-letter}
 use Rattle.search.proofs.gains.frame_gains.Statement.{statement}
 use Rattle.search.proofs.gains.frame_gains.Tie as tie
 
 abbrev Inv-loop : tie.InvT-loop
-Inv-loop voice at k scores used gains₀ i₀ gains i = Gained voice k scores i gains
+Inv-loop voice at k letters used gains₀ i₀ gains i = Gained voice k letters i gains
 
 abbrev μ-loop : tie.MeasureT-loop
-μ-loop voice at k scores used gains₀ i₀ gains i = used - i
+μ-loop voice at k letters used gains₀ i₀ gains i = used - i
 
 loop-holds : tie.Need-loop-holds Inv-loop μ-loop
 loop-holds c = gained-start (c .before .pre .1 .1)
@@ -24,10 +24,10 @@ abbrev start : tie.In-loop Inv-loop μ-loop → tie.Start Inv-loop μ-loop
 start c = c .before .before .before
 
 -- the row whose turn it is
-row : (c : tie.In-loop Inv-loop μ-loop) → ScoreRow (start c .args .voice .now) (getD (start c .args .scores .now) (c .before .loop .i) [])
+row : (c : tie.In-loop Inv-loop μ-loop) → LetterRow (start c .args .voice .now) (getD (start c .args .letters .now) (c .before .loop .i) [])
 row c = start c .pre .1 .0 .row (c .before .loop .i) (c .loop-test .taken)
 
-letter : (c : tie.In-loop Inv-loop μ-loop) → letterAt (start c .args .scores .now) (c .before .loop .i) < 64
+letter : (c : tie.In-loop Inv-loop μ-loop) → letterAt (start c .args .letters .now) (c .before .loop .i) < 64
 letter c = letter-small (row-letter (start c .pre .0 .0 .well-formed) (row c))
 
 few : (c : tie.In-loop Inv-loop μ-loop) → c .before .loop .i < 64

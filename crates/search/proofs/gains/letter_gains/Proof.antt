@@ -10,10 +10,10 @@ use lib.ListN.{length, getD, set}
 use Rattle.voice.specs.Voice.{states, firstState, symbolsAt, symbolCount, emission}
 use Rattle.voice.proofs.Letters.{states-range}
 use Rattle.voice.proofs.Scores.{symbols-there, symbols-few}
-use Rattle.decoder.specs.Score.{possible}
-use Rattle.search.specs.Gains.{raisedOf, loopGain, stepGain, entryRaised, AtLetter}
+use Rattle.decoder.specs.Score.{numberOf, possible}
+use Rattle.search.specs.Gains.{loopGain, stepGain, entryNumber, AtLetter}
 use Rattle.search.proofs.Gaining.{letter-small, letter-few, letter-byte, letter-there, first-small}
-use Rattle.search.proofs.Filling.{Filling, fill-done, loop-below, step-below, first-gained, next-gained, heard-is, heard-inside, heard-below, emission-next, row-letter}
+use Rattle.search.proofs.Filling.{Filling, fill-done, loop-near, step-near, first-gained, next-gained, emitted-is, emission-inside, emission-near, emission-next, row-letter}
 use Rattle.search.proofs.gains.letter_gains.Statement.{statement}
 use Rattle.search.proofs.gains.letter_gains.Tie as tie
 
@@ -22,20 +22,20 @@ record StatesDone (v : List ℕ) (k l first offset s : ℕ) (row : List ℕ) : T
   is : s ≡ suc last
   here : offset ≡ symbolsAt v + 1 + 2 * ((first + last) * symbolCount v + k)
   filled : Filling v (loopGain v k) (stepGain v k) l s row
-  entry : getD row 4 0 ≡ entryRaised v k l
+  entry : getD row 4 0 ≡ entryNumber v k l
 
 abbrev Inv-loop : tie.InvT-loop
-Inv-loop voice at k scores letter first symbols states offset₀ row₀ s₀ offset row s = StatesDone voice k letter first offset s row
+Inv-loop voice at k letter index first symbols states offset₀ row₀ s₀ offset row s = StatesDone voice k index first offset s row
 
 abbrev μ-loop : tie.MeasureT-loop
-μ-loop voice at k scores letter first symbols states offset₀ row₀ s₀ offset row s = states - s
+μ-loop voice at k letter index first symbols states offset₀ row₀ s₀ offset row s = states - s
 
 -- the letter, its first state, and where it is known
 abbrev l-of : tie.Start Inv-loop μ-loop → ℕ
-l-of c = getD (c .args .scores .now) 8 0
+l-of c = getD (c .args .letter .now) 8 0
 
 abbrev first-of : tie.Start Inv-loop μ-loop → ℕ
-first-of c = getD (c .args .scores .now) 9 0
+first-of c = getD (c .args .letter .now) 9 0
 
 letter : (c : tie.Start Inv-loop μ-loop) → AtLetter (c .args .voice .now) (l-of c) (first-of c)
 letter c = row-letter (c .pre .0 .0 .well-formed) (c .pre .1)
@@ -52,7 +52,7 @@ inside : (c : tie.Start Inv-loop μ-loop) →
     a .at + 1 + 2 * (first-of c * getD (a .voice .now) (a .at) 0 + a .k) + 2 ≤ length (a .voice .now)
 inside c =
     let a = letter c in
-    heard-inside (c .pre .0 .0) a (states-range _ (a .well-formed) (a .letter) .0) (begins c)
+    emission-inside (c .pre .0 .0) a (states-range _ (a .well-formed) (a .letter) .0) (begins c)
 
 there : (c : tie.Start Inv-loop μ-loop) → c .args .at < length (c .args .voice .now)
 there c = rw (c .pre .0 .1) (symbols-there _ (c .pre .0 .0 .well-formed))
@@ -61,37 +61,37 @@ few : (c : tie.Start Inv-loop μ-loop) → getD (c .args .voice .now) (c .args .
 unfolding symbolCount
 few c = rw (c .pre .0 .1) (symbols-few _ (c .pre .0 .0 .well-formed))
 
-abbrev begin : tie.After-raised-at Inv-loop μ-loop → tie.Start Inv-loop μ-loop
+abbrev begin : tie.After-emission-at Inv-loop μ-loop → tie.Start Inv-loop μ-loop
 begin c = c .before .before .before .before .before .before
 
 -- the first emission
-heard : (c : tie.After-raised-at Inv-loop μ-loop) →
+emitted : (c : tie.After-emission-at Inv-loop μ-loop) →
     let s = begin c in
-    c .raised-at .result ≡ raisedOf (possible (emission (s .args .voice .now) (first-of s + 0) (s .args .k)))
-heard c =
+    c .emission-at .result .0 ≡ numberOf (possible (emission (s .args .voice .now) (first-of s + 0) (s .args .k)))
+emitted c =
     let s = begin c in
-    heard-is (s .pre .0 .0) (first-of s + 0) (begins s) (c .raised-at .ensures)
+    emitted-is (s .pre .0 .0) (first-of s + 0) (begins s) (c .emission-at .ensures)
 
 first-gains-requires : tie.Need-first-gains-requires Inv-loop μ-loop
 first-gains-requires c κs =
     let s = begin c in
     let a = letter s in
-    (heard-below _ _ (c .raised-at .ensures), loop-below (s .pre .1 .scores) {s = 0} (states-range _ (a .well-formed) (a .letter) .0))
+    (emission-near _ _ (c .emission-at .ensures), loop-near (s .pre .1 .scores) {s = 0} (states-range _ (a .well-formed) (a .letter) .0))
 
 loop-holds : tie.Need-loop-holds Inv-loop μ-loop
-unfolding entryRaised
+unfolding entryNumber
 loop-holds c =
     let r = c .before in
     let s = begin r in
     let a = s .args in
     let b = letter s in
-    let e : r .raised-at .result ≡ raisedOf (possible (emission (a .voice .now) (firstState (a .voice .now) (l-of s) + 0) (a .k))) =
-    rw (b .begins) at (heard r) in
+    let e : r .emission-at .result .0 ≡ numberOf (possible (emission (a .voice .now) (firstState (a .voice .now) (l-of s) + 0) (a .k))) =
+    rw (b .begins) at (emitted r) in
     record {
       last = 0;
       is = refl;
       here = begins s;
-      filled = first-gained (s .pre .1 .scores) (a .k) b (heard r) (c .first-gains .ensures);
+      filled = first-gained (s .pre .1 .scores) (a .k) b (emitted r) (c .first-gains .ensures);
       entry = c .first-gains .ensures .entry ∙ e;
     }
 
@@ -122,7 +122,7 @@ next c =
 
 next-inside : (c : tie.In-loop Inv-loop μ-loop) →
     let a = start c .args in c .before .loop .offset + 2 * getD (a .voice .now) (a .at) 0 + 2 ≤ length (a .voice .now)
-next-inside c = heard-inside (start c .pre .0 .0) (letter (start c)) (state c) (next c)
+next-inside c = emission-inside (start c .pre .0 .0) (letter (start c)) (state c) (next c)
 
 state-gains-requires : tie.Need-state-gains-requires Inv-loop μ-loop
 state-gains-requires c κs =
@@ -131,7 +131,7 @@ state-gains-requires c κs =
     let i = l .before .loop .inv in
     let e = start l .pre .1 .scores in
     let h = state l in
-    ((small l, heard-below _ _ (r .raised-at2 .ensures), i .filled .long), (loop-below e h, step-below e (i .is) h))
+    ((small l, emission-near _ _ (r .emission-at2 .ensures), i .filled .long), (loop-near e h, step-near e (i .is) h))
 
 loop-again : tie.Need-loop-again Inv-loop μ-loop
 loop-again c =
@@ -145,7 +145,7 @@ loop-again c =
       is = omega arith;
       here = next l;
       filled = next-gained (s .pre .1 .scores) (s .args .k) (letter s) (i .is) (state l)
-          (heard-is (s .pre .0 .0) (first-of s + l .before .loop .s) (next l) (r .raised-at2 .ensures)) (i .filled) e;
+          (emitted-is (s .pre .0 .0) (first-of s + l .before .loop .s) (next l) (r .emission-at2 .ensures)) (i .filled) e;
       entry = e .others 4 (λ q. omega (arith, small l)) (λ q. omega (arith, i .is)) ∙ i .entry;
     }
 

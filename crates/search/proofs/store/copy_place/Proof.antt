@@ -9,6 +9,7 @@ use lib.ListN.{set, replicate}
 use lib.Seq.{set-at, append-snoc}
 use Rattle.search.specs.Slots.{tokenAt, slots}
 use Rattle.search.proofs.Slots.{length-slots, slots-snoc}
+use Rattle.search.proofs.Told.{same-told}
 use Rattle.search.proofs.Lending.{copied-early}
 use Rattle.search.proofs.store.copy_place.Statement.{statement}
 use Rattle.search.proofs.store.copy_place.Tie as tie
@@ -25,17 +26,17 @@ loop-holds c = (omega arith, c .before .pre .1)
 
 returns : tie.Need-returns Inv-loop μ-loop
 returns c =
-    let t = c .before in
+    let t = c .before .before in
     let e = t .before in
     let l = e .before .loop in
     let s = e .before .before .before in
     let p = s .pre .0 in
     l .inv .1
-    ∙ copied-early (s .args .n) (l .k) (s .args .part .now) (e .loop-test .taken) (p .0 .few) (p .1) (sym (t .token-at .ensures) ∙ c .if1 .taken)
+    ∙ copied-early (s .args .n) (l .k) (s .args .part .now) (e .loop-test .taken) (p .0 .few) (p .1) (sym (t .token-at .ensures) ∙ same-told (c .before .is-none .ensures) (c .if1 .taken))
 
 loop-again : tie.Need-loop-again Inv-loop μ-loop
 loop-again c =
-    let t = c .before in
+    let t = c .before .before in
     let l = t .before .before .loop in
     let a = t .before .before .before .before .args in
     let part = a .part .now in
@@ -43,8 +44,8 @@ loop-again c =
     let rest = replicate {A = ℕ} (8 - (l .k + 1)) 0 in
     let as-list : l .tokens ≡ slots (l .k) 0 part ++ 0 ∷ rest = rw room at (l .inv .1) in (
       omega arith,
-      ap (λ s. set s (l .k) (t .token-at .result)) as-list
-          ∙ set-at (slots (l .k) 0 part) 0 rest (t .token-at .result) (l .k) (length-slots (l .k) 0 part)
+      ap (λ s. set s (l .k) (t .token-at .result .0)) as-list
+          ∙ set-at (slots (l .k) 0 part) 0 rest (t .token-at .result .0) (l .k) (length-slots (l .k) 0 part)
           ∙ ap (λ s. slots (l .k) 0 part ++ s ∷ rest) (t .token-at .ensures)
           ∙ sym (append-snoc (slots (l .k) 0 part) (tokenAt part (l .k)) rest)
           ∙ ap (λ s. s ++ rest) (sym (slots-snoc (l .k) part)),
@@ -64,6 +65,7 @@ copy-place-spec =
     Inv-loop
     μ-loop
     loop-holds
+    (λ c κs. search needs)
     (λ c κs. search needs)
     returns
     (λ c. search needs)

@@ -12,13 +12,13 @@ push-down-requires : tie.Need-push-down-requires
 push-down-requires c κs =
     let a = c .before .before .before .before .args in
     let tokens = slots (a .n) 0 (a .part .now) in
-    (omega (arith, c .before .position .ensures, position-within (a .token) tokens, length-slots (a .n) 0 (a .part .now)), search needs)
+    (omega (arith, c .before .position .ensures, position-within (a .token .0) tokens, length-slots (a .n) 0 (a .part .now)), search needs)
 
 returns : tie.Need-returns
 returns c =
     let a = c .before .before .before .before .before .before .before .args in
     c .before .before .push-down .ensures
-    ∙ enter-at (a .token) (a .n) (a .part .now) _ (c .before .before .before .before .position .ensures)
+    ∙ enter-at (a .token .0) (a .n) (a .part .now) _ (c .before .before .before .before .position .ensures)
 
 pub insert-spec : {M : Type 1} → statement M
 insert-spec = tie.close (tie.spec (λ c κs. search needs) push-down-requires (λ c. search needs) returns)

@@ -1,78 +1,112 @@
--- `offer` lets the moved tokens enter one after another: before token i, to offer those from it on to what the slots hold makes the whole
--- offer. Both places are in the order of rank, so that nothing enters after the early exit. The measure is what is left of the tokens.
--- Assumes nothing.
-use Prim.Native.Nat.{_+_, _-_, _≤_}
+-- `offer` lets the moved tokens enter one after another: before token i, to offer those from it on to what the slots hold
+-- makes the whole offer. Both places are in the order of rank, so that nothing enters after the early exit. The measure is
+-- what is left of the tokens. Assumes nothing.
+use Prim.Native.Nat.{ℕ, _+_, _-_, _<_, _≤_}
 use mathlib.Core.Path.{_≡_, refl, ap, sym, _∙_}
+use mathlib.Core.List.{List}
 use native.Mathlib.Omega.{arith}
 use borrow.Author.Needs.{needs}
 use lib.ListN.{length, getD, take, drop}
-use Rattle.search.specs.Slots.{slots, offered, MoveFits, Falling}
+use Rattle.search.specs.Slots.{tokenAt, slots, offered, Falling}
+use Rattle.search.proofs.Told.{same-told, other-told, below-told}
+use Rattle.search.proofs.Slots.{slots-get}
 use Rattle.search.proofs.Falling.{falling-enter}
+use Rattle.search.proofs.Lending.{take-slots}
 use Rattle.search.proofs.Moving.{from-holds, offered-ends, offered-goes, offered-late, offered-done}
 use Rattle.search.proofs.store.offer.Statement.{statement}
 use Rattle.search.proofs.store.offer.Tie as tie
 
+record Left (list₀ : List ℕ) (n : ℕ) (tokens : List ℕ) (up down i : ℕ) (list : List ℕ) : Type 0 where
+  few : i ≤ n
+  long : length list ≡ length list₀
+  falling : Falling (slots n 0 list)
+  left : offered up down (drop i (take n tokens)) (slots n 0 list) ≡ offered up down tokens (slots n 0 list₀)
+
 abbrev Inv-loop : tie.InvT-loop
-Inv-loop part₀ n from up down i₀ part i =
-    (i ≤ n) × (length part ≡ length part₀) × Falling (slots n 0 part)
-    × (offered up down (drop i (take n from)) (slots n 0 part) ≡ offered up down (take n from) (slots n 0 part₀))
+Inv-loop list₀ n store from up down i₀ list i = Left list₀ n (slots n from store) up down i list
 
 abbrev μ-loop : tie.MeasureT-loop
-μ-loop part₀ n from up down i₀ part i = n - i
+μ-loop list₀ n store from up down i₀ list i = n - i
+
+abbrev tokens : tie.Start Inv-loop μ-loop → List ℕ
+tokens s = slots (s .args .n) (s .args .from) (s .args .store .now)
 
 loop-holds : tie.Need-loop-holds Inv-loop μ-loop
-loop-holds c = (omega arith, refl, c .before .pre .target, refl)
+loop-holds c =
+    let s = c .before .before in
+    record {
+      few = omega arith;
+      long = refl;
+      falling = s .pre .1 .target;
+      left = ap (λ l. offered (s .args .up) (s .args .down) l (slots (s .args .n) 0 (s .args .list .now))) (take-slots (s .args .n) (s .args .from) (s .args .store .now));
+    }
+
+abbrev start : tie.After-token-at Inv-loop μ-loop → tie.Start Inv-loop μ-loop
+start t = t .before .before .before .before .before
+
+-- the token that is read
+read : (t : tie.After-token-at Inv-loop μ-loop) → t .token-at .result .0 ≡ getD (tokens (start t)) (t .before .before .loop .i) 0
+read t = t .token-at .ensures ∙ sym (slots-get (start t .args .n) (start t .args .from) (t .before .before .loop .i) (start t .args .store .now) 0 (t .before .loop-test .taken))
+
+-- where it is there
+there : (c : tie.Else1 Inv-loop μ-loop) → ¬ (getD (tokens (start (c .before .before))) (c .before .before .before .before .loop .i) 0 ≡ 0)
+there c z = other-told (c .before .is-none .ensures) (c .if1 .left) (read (c .before .before) ∙ z)
 
 returns : tie.Need-returns Inv-loop μ-loop
 returns c =
-    let e = c .before .before in
-    let l = e .before .loop in
-    let s = e .before .before .before in
+    let t = c .before .before in
+    let l = t .before .before .loop in
+    let s = start t in
     let a = s .args in
-    sym (offered-ends (a .up) (a .down) (a .n) (l .i) (a .from .now) (slots (a .n) 0 (l .part)) (e .loop-test .taken) (s .pre .long) (c .if1 .taken))
-    ∙ l .inv .3
+    sym (offered-ends (a .up) (a .down) (a .n) (l .i) (tokens s) (slots (a .n) 0 (l .list)) (t .before .loop-test .taken) (s .pre .1 .long)
+    (sym (read t) ∙ same-told (c .before .is-none .ensures) (c .if1 .taken)))
+    ∙ l .inv .left
 
--- a token that is there bears the move
-bears : (c : tie.Else1 Inv-loop μ-loop)
-    → let a = c .before .before .before .before .before .args in MoveFits (a .up) (a .down) (getD (a .from .now) (c .before .before .before .loop .i) 0)
-bears c =
-    let e = c .before .before in
-    let s = e .before .before .before in
-    s .pre .bears _ (from-holds (s .args .n) (e .before .loop .i) (s .args .from .now) (e .loop-test .taken) (s .pre .long)) (c .if1 .left)
+moved-requires : tie.Need-moved-requires Inv-loop μ-loop
+moved-requires c κs =
+    let t = c .before .before in
+    let s = start t in
+    rw (read t) (s .pre .1 .fits _ (from-holds (s .args .n) (t .before .before .loop .i) (tokens s) (t .before .loop-test .taken) (s .pre .1 .long)) (there c))
 
 returns-2 : tie.Need-returns-2 Inv-loop μ-loop
 returns-2 c =
-    let e = c .before .before .before .before .before in
-    let l = e .before .loop in
-    let s = e .before .before .before in
+    let q = c .before .before in
+    let m = q .before .before in
+    let t = m .before .before .before in
+    let l = t .before .before .loop in
+    let s = start t in
     let a = s .args in
-    sym (offered-late (a .up) (a .down) (a .n) (l .i) 0 (a .n - 1) (a .from .now) (l .part) (omega arith) (e .loop-test .taken) (s .pre .long) (s .pre .source) (l .inv .2)
-    (rw (c .before .token-at .ensures) at (c .if2 .taken)))
-    ∙ l .inv .3
+    let late : getD (tokens s) (l .i) 0 + a .up - a .down < tokenAt (l .list) (a .n - 1) =
+    rw (m .moved .ensures, read t, q .token-at2 .ensures) at (below-told {a = m .moved .result .0} {b = q .token-at2 .result .0} (c .before .outranks .ensures) (c .if2 .taken)) in
+    sym (offered-late (a .up) (a .down) (a .n) (l .i) 0 (a .n - 1) (tokens s) (l .list) (omega arith) (t .before .loop-test .taken) (s .pre .1 .long)
+    (s .pre .1 .source) (l .inv .falling) late)
+    ∙ l .inv .left
 
 loop-again : tie.Need-loop-again Inv-loop μ-loop
 loop-again c =
     let w = c .before .before in
-    let t = w .before .before .before .before .before in
-    let e = t .before .before in
-    let l = e .before .loop in
-    let s = e .before .before .before in
+    let m = w .before .before .before .before .before .before in
+    let e = m .before in
+    let t = e .before .before in
+    let l = t .before .before .loop in
+    let s = start t in
     let a = s .args in
-    let x = getD (a .from .now) (l .i) 0 + a .up - a .down in
-    let tokens = slots (a .n) 0 (l .part) in (
-      omega arith,
-      w .insert .kept .0 ∙ l .inv .1,
-      rw (w .insert .ensures) (falling-enter (l .inv .2) x),
-      ap (offered (a .up) (a .down) (drop (l .i + 1) (take (a .n) (a .from .now)))) (w .insert .ensures)
-          ∙ sym (offered-goes (a .up) (a .down) (a .n) (l .i) (a .from .now) tokens (e .loop-test .taken) (s .pre .long) (t .if1 .left))
-          ∙ l .inv .3,
-    )
+    let entered = rw (m .moved .ensures, read t) at (w .insert .ensures) in
+    record {
+      few = let h = t .before .loop-test .taken in omega arith;
+      long = w .insert .kept .0 ∙ l .inv .long;
+      falling = rw entered (falling-enter (l .inv .falling) (getD (tokens s) (l .i) 0 + a .up - a .down));
+      left = ap (offered (a .up) (a .down) (drop (l .i + 1) (take (a .n) (tokens s)))) entered
+          ∙ sym (offered-goes (a .up) (a .down) (a .n) (l .i) (tokens s) (slots (a .n) 0 (l .list)) (t .before .loop-test .taken) (s .pre .1 .long) (there e))
+          ∙ l .inv .left;
+    }
 
 returns-3 : tie.Need-returns-3 Inv-loop μ-loop
 returns-3 c =
     let l = c .before .loop in
-    let a = c .before .before .before .args in
-    sym (offered-done (a .up) (a .down) (a .n) (l .i) (a .from .now) (slots (a .n) 0 (l .part)) (c .loop-test .left)) ∙ l .inv .3
+    let s = c .before .before .before .before in
+    let a = s .args in
+    sym (offered-done (a .up) (a .down) (a .n) (l .i) (tokens s) (slots (a .n) 0 (l .list)) (c .loop-test .left)) ∙ l .inv .left
 
 pub offer-spec : {M : Type 1} → statement M
 offer-spec =
@@ -81,19 +115,20 @@ offer-spec =
     Inv-loop
     μ-loop
     loop-holds
-    (λ c. search needs)
-    (λ c. search needs)
-    (λ c. search needs)
+    (λ c. let r = c .before .before .before .before .pre .0 in let h = c .loop-test .taken in let k = r .room in search needs)
+    (λ c κs. let r = c .before .before .before .before .pre .0 in omega (arith, c .loop-test .taken, r .room))
+    (λ c κs. search needs)
+    (λ c. c .before .before .before .before .loop .inv .long)
     returns
-    (λ c. omega (arith, bears c))
-    (λ c. omega (arith, bears c))
+    moved-requires
     (λ c. search needs)
     (λ c κs. search needs)
-    (λ c. search needs)
+    (λ c κs. search needs)
+    (λ c. c .before .before .before .before .before .before .before .before .before .loop .inv .long)
     returns-2
     (λ c κs. search needs)
     (λ c. search needs)
     (λ c. search needs)
     loop-again
-    (λ c. search needs)
+    (λ c. c .before .loop .inv .long)
     returns-3)

@@ -6,7 +6,8 @@ use mathlib.Core.List.{_++_}
 use native.Mathlib.Omega.{arith}
 use borrow.Author.Needs.{needs}
 use lib.ListN.{length}
-use Rattle.search.specs.Slots.{tokenAt, slots, shifted, MoveFits}
+use Rattle.search.specs.Slots.{tokenAt, slots, shifted}
+use Rattle.search.proofs.Told.{same-told, other-told}
 use Rattle.search.proofs.Moving.{slots-hold, shifted-start, shifted-ends, shifted-goes, shifted-done}
 use Rattle.search.proofs.store.shift.Statement.{statement}
 use Rattle.search.proofs.store.shift.Tie as tie
@@ -24,35 +25,39 @@ loop-holds c = let a = c .before .args in (omega arith, refl, λ j h. refl, shif
 
 returns : tie.Need-returns Inv-loop μ-loop
 returns c =
-    let t = c .before in
+    let t = c .before .before in
     let l = t .before .before .before .loop in
     let a = t .before .before .before .before .before .args in
-    shifted-ends (a .up) (a .down) (a .n) (l .k) (l .part) (t .before .before .loop-test .taken) (sym (t .token-at .ensures) ∙ c .if1 .taken)
+    shifted-ends (a .up) (a .down) (a .n) (l .k) (l .part) (t .before .before .loop-test .taken)
+    (sym (t .token-at .ensures) ∙ same-told (c .before .is-none .ensures) (c .if1 .taken))
     ∙ l .inv .3
 
--- a token that is there bears the move
-bears : (c : tie.Else1 Inv-loop μ-loop)
-    → let a = c .before .before .before .before .before .before .args in MoveFits (a .up) (a .down) (c .before .token-at .result)
-bears c =
-    let t = c .before in
+-- there is a token
+there : (c : tie.Else1 Inv-loop μ-loop) → ¬ (c .before .before .token-at .result .0 ≡ 0)
+there c = other-told (c .before .is-none .ensures) (c .if1 .left)
+
+moved-requires : tie.Need-moved-requires Inv-loop μ-loop
+moved-requires c κs =
+    let e = c .before in
+    let t = e .before .before in
     let l = t .before .before .before .loop in
     let s = t .before .before .before .before .before in
-    let was : t .token-at .result ≡ tokenAt (s .args .part .now) (l .k) = t .token-at .ensures ∙ l .inv .2 (l .k) (omega arith) in
-    rw was
-    (s .pre .1 _ (slots-hold (s .args .n) (l .k) (s .args .part .now) (t .before .before .loop-test .taken)) (λ z. c .if1 .left (was ∙ z)))
+    let was : t .token-at .result .0 ≡ tokenAt (s .args .part .now) (l .k) = t .token-at .ensures ∙ l .inv .2 (l .k) (omega arith) in
+    rw was (s .pre .1 _ (slots-hold (s .args .n) (l .k) (s .args .part .now) (t .before .before .loop-test .taken)) (λ z. there e (was ∙ z)))
 
 loop-again : tie.Need-loop-again Inv-loop μ-loop
 loop-again c =
     let w = c .before .before in
-    let t = w .before .before .before in
+    let e = w .before .before .before in
+    let t = e .before .before in
     let l = t .before .before .before .loop in
     let a = t .before .before .before .before .before .args in
-    let p = rw (t .token-at .ensures) at (w .put-token .ensures) in (
+    let p = rw (w .before .moved .ensures, t .token-at .ensures) at (w .put-token .ensures) in (
       omega arith,
       p .long ∙ l .inv .1,
       λ j h. p .others j (λ e. omega arith) ∙ l .inv .2 j (omega arith),
       shifted-goes (a .up) (a .down) (a .n) (l .k) (l .part) (t .before .before .loop-test .taken) p
-          (λ z. w .before .before .if1 .left (t .token-at .ensures ∙ z))
+          (λ z. there e (t .token-at .ensures ∙ z))
           ∙ l .inv .3,
     )
 
@@ -70,10 +75,10 @@ shift-spec =
     μ-loop
     loop-holds
     (λ c κs. search needs)
+    (λ c κs. search needs)
     (λ c. search needs)
     returns
-    (λ c. omega (arith, bears (c .before)))
-    (λ c. omega (arith, bears (c .before)))
+    moved-requires
     (λ c κs. search needs)
     (λ c. search needs)
     (λ c. search needs)

@@ -7,21 +7,21 @@ use Rattle.search.proofs.tokens.put_token.Tie as tie
 
 returns : tie.Need-returns
 returns c =
-    let s = c .before .before .before .before .before .before .before .before .before in
-    put-halves (s .args .part .now) (s .args .k) (s .args .token) _ _ (omega arith) (s .pre)
-    (c .before .before .before .before .before .before .put-u32 .ensures)
-    (c .before .before .put-u322 .ensures)
+    let q = c .before .before in
+    let p = q .before .before .before .before .before in
+    let s = p .before .before .before .before in
+    put-halves (s .args .part .now) (s .args .k) (s .args .token .0) _ _ (omega arith) (s .pre) (p .put-u32 .ensures) (q .put-u322 .ensures)
 
 pub put-token-spec : {M : Type 1} → statement M
 put-token-spec =
     tie.close
     (tie.spec
-    (search needs)
-    (search needs)
+    (λ c. search needs)
+    (λ c. search needs)
     (λ c κs. search needs)
-    (search needs)
-    (search needs)
-    (search needs)
+    (λ c. search needs)
+    (λ c. search needs)
+    (λ c. search needs)
     (λ c κs. search needs)
-    (search needs)
+    (λ c. search needs)
     returns)

@@ -1,94 +1,101 @@
--- `turns::pass_on` meets its contract: what is left to pass on from the store so far is what was to be passed on. The measure is what is left of
--- the list. Assumes nothing.
+-- `turns::pass_on` meets its contract: what is left to pass on from the store so far is what was to be passed on. The measure
+-- is what is left of the list. Assumes nothing.
 use Prim.Native.Nat.{_+_, _-_, _*_, _≤_, _<_}
-use mathlib.Core.Path.{_≡_, sym, _∙_}
+use mathlib.Core.Path.{_≡_, refl, sym, _∙_}
+use mathlib.Core.Bool.{false}
 use native.Mathlib.Omega.{arith}
 use borrow.Author.Needs.{needs}
-use borrow.Author.Tests.{eqb-true, eqb-false}
-use lib.Dec.{eqb}
 use lib.ListN.{getD}
 use Rattle.checking.proofs.Arcs.{arc-next}
+use Rattle.search.specs.Held.{lift}
+use Rattle.search.specs.Places.{arcsIn, pathsIn}
 use Rattle.search.specs.Stored.{source, PassingOn}
+use Rattle.search.proofs.Told.{same-told, other-told}
+use Rattle.search.proofs.Carrying.{node-first}
 use Rattle.search.proofs.PassingOn.{PassingLeft, source-room, vertex-few, list-of, passing-start, next-there, left-arc, successor-few, down-few, passing-next, passing-done, passing-nothing}
 use Rattle.search.proofs.turns.pass_on.Statement.{statement}
 use Rattle.search.proofs.turns.pass_on.Tie as tie
 
 abbrev Inv-loop : tie.InvT-loop
-Inv-loop lexicon n nodes lists counts firsts gains link vertex root from store₀ start stop at₀ down₀ store at down =
-    (t : PassingOn lexicon n lists counts firsts gains link vertex root from store₀) → PassingLeft t at stop down store
+Inv-loop lexicon n vertices gains link node from store₀ start stop at₀ down₀ store at down =
+    (t : PassingOn lexicon n vertices gains (link .0) node false from store₀) → PassingLeft t at stop down store
 
 abbrev μ-loop : tie.MeasureT-loop
-μ-loop lexicon n nodes lists counts firsts gains link vertex root from store₀ start stop at₀ down₀ store at down = stop - at
+μ-loop lexicon n vertices gains link node from store₀ start stop at₀ down₀ store at down = stop - at
 
-abbrev begin : tie.After-is-empty Inv-loop μ-loop → tie.Start Inv-loop μ-loop
+abbrev begin : tie.After-token-at Inv-loop μ-loop → tie.Start Inv-loop μ-loop
 begin c = c .before .before .before .before
 
--- whether the vertex has tokens
-tested : (c : tie.After-is-empty Inv-loop μ-loop) →
-    let a = begin c .args in c .is-empty .result ≡ eqb (getD (source (a .root) (a .n) (a .from) (a .store .now)) 0 0) 0
-tested c = c .is-empty .ensures (begin c .args .n) (begin c .pre .0 .roomy .one)
+-- the first token of the node
+first : (c : tie.After-token-at Inv-loop μ-loop) →
+    let a = begin c .args in getD (source false (a .n) (a .from) (a .store .now)) 0 0 ≡ c .token-at .result .0
+first c =
+    let a = begin c .args in
+    node-first (a .n) (a .from) (a .store .now) (begin c .pre .roomy .one) ∙ sym (c .token-at .ensures)
 
 returns : tie.Need-returns Inv-loop μ-loop
-returns c = λ t. passing-nothing t (eqb-true _ _ (sym (tested (c .before)) ∙ c .if1 .taken))
+returns c =
+    let t = c .before .before in
+    λ p. passing-nothing p (first t ∙ same-told (c .before .is-none .ensures) (c .if1 .taken))
+
+abbrev at-list : tie.After-number-at Inv-loop μ-loop → tie.Start Inv-loop μ-loop
+at-list c = begin (c .before .before .before .before)
 
 loop-holds : tie.Need-loop-holds Inv-loop μ-loop
 loop-holds c = λ t. rw (c .number-at .ensures) (passing-start t)
 
-abbrev at-list : tie.After-number-at Inv-loop μ-loop → tie.Start Inv-loop μ-loop
-at-list c = begin (c .before .before .before)
-
 -- where the list ends
-small : (c : tie.After-number-at Inv-loop μ-loop)
-    → getD (at-list c .args .lists .now) (at-list c .args .vertex) 0 + 2 + 2 * c .number-at .result ≤ 9204
-small c = rw (c .number-at .ensures) (list-of (at-list c .pre .0) .small)
+small : (c : tie.After-number-at Inv-loop μ-loop) →
+    let a = at-list c .args in arcsIn (a .vertices .now) (a .node) + 2 + 2 * c .number-at .result ≤ 9204
+small c = rw (c .number-at .ensures) (list-of (at-list c .pre) .small)
 
 abbrev start : tie.At-loop Inv-loop μ-loop → tie.Start Inv-loop μ-loop
 start l = at-list (l .before)
 
 number-at-requires-2 : tie.Need-number-at-requires-2 Inv-loop μ-loop
-number-at-requires-2 c κs = let t = start (c .before) .pre .0 in next-there t (c .before .loop .inv t) (c .loop-test .taken)
+number-at-requires-2 c κs = let t = start (c .before) .pre in next-there t (c .before .loop .inv t) (c .loop-test .taken)
 
 pass-over-requires : tie.Need-pass-over-requires Inv-loop μ-loop
 pass-over-requires c κs =
     let m = c .before in
     let l = m .before .before in
-    let t = start l .pre .0 in
-    left-arc t (l .loop .inv t) (m .before .loop-test .taken) (m .number-at2 .ensures) (start l .pre .1)
+    let t = start l .pre in
+    left-arc t (l .loop .inv t) (m .before .loop-test .taken) (m .number-at2 .ensures)
 
 -- the successor has an entry of the table
 entry : (c : tie.After-number-at2 Inv-loop μ-loop) → c .number-at2 .result ≤ 401
 entry c =
     let l = c .before .before in
-    let t = start l .pre .0 in
+    let t = start l .pre in
     successor-few t (l .loop .inv t) (c .before .loop-test .taken) (c .number-at2 .ensures)
 
 sum : (c : tie.After-number-at2 Inv-loop μ-loop) →
-    c .before .before .loop .down + getD (start (c .before .before) .args .counts .now) (c .number-at2 .result) 0 < 281474976710656 + 4294967296
+    c .before .before .loop .down + pathsIn (start (c .before .before) .args .vertices .now) (c .number-at2 .result) < lift + 4294967296
 sum c =
     let l = c .before .before in
-    let t = start l .pre .0 in
+    let t = start l .pre in
     let e = l .before .before .before in
-    let f = e .if1 .left in
-    let e = e .before in
-    down-few t (l .loop .inv t) (c .before .loop-test .taken) (c .number-at2 .ensures) (eqb-false _ _ (sym (tested e) ∙ f))
+    let i = e .before in
+    down-few t (l .loop .inv t) (c .before .loop-test .taken) (c .number-at2 .ensures)
+    (λ z. other-told (i .is-none .ensures) (e .if1 .left) (sym (first (i .before)) ∙ z))
 
 add-at-2 : tie.Need-add-at-2 Inv-loop μ-loop
 add-at-2 c =
     let i = c .before .before .before .before .before .before in
     let l = i .before in
-    omega (arith, arc-next (l .loop .inv (start l .pre .0) .sums .arcs) (i .loop-test .taken) .room, small (l .before))
+    omega (arith, arc-next (l .loop .inv (start l .pre) .sums .arcs) (i .loop-test .taken) .room, small (l .before))
 
 loop-again : tie.Need-loop-again Inv-loop μ-loop
+unfolding source
 loop-again c =
     let o = c .before .before .before in
     let m = o .before .before in
     let l = m .before .before in
-    λ t. passing-next t (l .loop .inv t) (m .before .loop-test .taken) (m .number-at2 .ensures) (start l .pre .1) (o .pass-over .ensures .0)
-    (o .pass-over .ensures .1)
-    (o .pass-over .kept .1 .1 .1 .1 .1 .1 .1 .1 .1 .1 .0)
+    λ t. passing-next t (l .loop .inv t) (m .before .loop-test .taken) (m .number-at2 .ensures) (o .pass-over .ensures .0) (o .pass-over .ensures .1)
+    (o .pass-over .kept .1 .1 .1 .1 .1 .1 .1 .1 .0)
 
 same-length-2 : tie.Need-same-length-2 Inv-loop μ-loop
-same-length-2 c = c .before .loop .inv (start (c .before) .pre .0) .long
+same-length-2 c = c .before .loop .inv (start (c .before) .pre) .long
 
 returns-2 : tie.Need-returns-2 Inv-loop μ-loop
 returns-2 c = λ t. passing-done t (c .before .loop .inv t) (c .loop-test .left)
@@ -99,14 +106,16 @@ pass-on-spec =
     (tie.spec
     Inv-loop
     μ-loop
-    (λ c κs z. source-room (c .before .before .before .pre .0) z)
+    (λ c κs. source-room (c .before .before .before .pre) refl)
+    (λ c κs. search needs)
     (λ c. search needs)
     returns
-    (λ c. let h = vertex-few (begin (c .before) .pre .0) in search needs)
-    (λ c. let h = vertex-few (begin (c .before) .pre .0) in search needs)
-    (λ c. let h = list-of (begin (c .before .before) .pre .0) .small in search needs)
-    (λ c. let h = list-of (begin (c .before .before) .pre .0) .small in search needs)
-    (λ c κs. let h = list-of (begin (c .before .before) .pre .0) .there in omega (arith, h))
+    (λ c. let h = vertex-few (begin (c .before .before) .pre) in search needs)
+    (λ c. let h = vertex-few (begin (c .before .before) .pre) in search needs)
+    (λ c. search needs)
+    (λ c. let h = list-of (begin (c .before .before .before) .pre) .small in search needs)
+    (λ c. let h = list-of (begin (c .before .before .before) .pre) .small in search needs)
+    (λ c κs. let h = list-of (begin (c .before .before .before) .pre) .there in omega (arith, h))
     (λ c. let h = small c in search needs)
     (λ c. let h = small c in search needs)
     (λ c. let h = small c in search needs)
@@ -115,6 +124,7 @@ pass-on-spec =
     pass-over-requires
     (λ c. let h = entry (c .before .before .before .before) in search needs)
     (λ c. let h = entry (c .before .before .before .before) in search needs)
+    (λ c. search needs)
     (λ c. let h = sum (c .before .before .before .before .before) in search needs)
     (λ c. let h = sum (c .before .before .before .before .before) in search needs)
     add-at-2

@@ -1,17 +1,43 @@
--- `turns::stay` meets its contract. Assumes nothing.
+-- `turns::stay` meets its contract: an impossible loop empties the place. Assumes nothing.
+use native.Mathlib.Omega.{arith}
 use borrow.Author.Needs.{needs}
-use Rattle.search.proofs.Carrying.{stay-cleared, stay-ready, stay-done}
+use Rattle.decoder.specs.Score.{numberOf}
+use Rattle.search.proofs.Told.{same-told, other-told}
+use Rattle.search.proofs.Carrying.{stay-cleared, stay-few, stay-ready, stay-done}
 use Rattle.search.proofs.turns.stay.Statement.{statement}
 use Rattle.search.proofs.turns.stay.Tie as tie
 
 returns : tie.Need-returns
-returns c = let o = c .before .before in λ t. stay-cleared t (o .before .before .if1 .taken) (o .clear-at .ensures)
+unfolding numberOf
+returns c =
+    let o = c .before .before in
+    let z = o .before .before in
+    λ t. stay-cleared t (same-told (z .before .is-impossible .ensures) (z .if1 .taken)) (o .clear-place .ensures)
 
-shift-at-requires : tie.Need-shift-at-requires
-shift-at-requires c κs = let p = c .before .before .before .pre in (p .room, stay-ready p (c .before .if1 .left))
+shift-requires : tie.Need-shift-requires
+unfolding numberOf
+shift-requires c κs =
+    let z = c .before .before in
+    let p = z .before .before .before .pre in
+    (omega (arith, p .room .room), stay-ready p (other-told (z .before .is-impossible .ensures) (z .if1 .left)))
 
 returns-2 : tie.Need-returns-2
-returns-2 c = let o = c .before .before in λ t. stay-done t (o .before .before .if1 .left) (o .shift-at .ensures)
+unfolding numberOf
+returns-2 c =
+    let o = c .before .before in
+    let z = o .before .before .before in
+    λ t. stay-done t (other-told (z .before .is-impossible .ensures) (z .if1 .left)) (o .shift .ensures)
 
 pub stay-spec : {M : Type 1} → statement M
-stay-spec = tie.close (tie.spec (search needs) (search needs) returns (search needs) shift-at-requires (search needs) returns-2)
+stay-spec =
+    tie.close
+    (tie.spec
+    (λ c κs. search needs)
+    (λ c κs. let p = c .before .before .before .before .pre in omega (arith, p .room .room))
+    (λ c. search needs)
+    returns
+    (λ c. search needs)
+    (λ c. let h = stay-few (c .before .before .before .before .before .pre) in search needs)
+    shift-requires
+    (λ c. search needs)
+    returns-2)

@@ -1,0 +1,101 @@
+-- `turns::enter_node` meets its contract: the root's token is moved to one of the emission and the increment, and that
+-- enters. Assumes nothing.
+use Prim.Native.Nat.{ℕ, _+_, _*_, _-_, _≤_}
+use mathlib.Core.Path.{_≡_, refl, ap, _∙_}
+use mathlib.Core.List.{[]}
+use native.Mathlib.Omega.{arith}
+use borrow.Author.Needs.{needs}
+use borrow.Rule.Slice.PartMut.{mid-len}
+use lib.ListN.{getD}
+use Rattle.lexicon.specs.Lexicon.{nodeCount}
+use Rattle.decoder.specs.Score.{bias, numberOf}
+use Rattle.search.specs.Slots.{enter, PlaceRoom}
+use Rattle.search.specs.Places.{firstIn}
+use Rattle.search.specs.Gains.{numberSum}
+use Rattle.search.proofs.Told.{same-told, other-told}
+use Rattle.search.proofs.Lending.{part-size, part-slots, part-room, part-back}
+use Rattle.search.proofs.Carrying.{pass-to-nothing, root-done}
+use Rattle.search.proofs.PassingOn.{ArcRead, arc-few, arc-read, arc-slot, arc-offering, arc-done, root-node, root-increment, root-sum}
+use Rattle.search.proofs.turns.enter_node.Statement.{statement}
+use Rattle.search.proofs.turns.enter_node.Tie as tie
+
+-- the root does not lead to the sink
+node : (c : tie.Start) → c .args .t ≤ nodeCount (c .args .lexicon .now)
+node c = root-node (c .pre)
+
+read : (c : tie.Start) → let a = c .args in ArcRead (a .lexicon .now) (a .gains .now) bias (a .t)
+read c = arc-read (c .pre) (node c)
+
+abbrev score : tie.Start → ℕ
+score c = getD (getD (c .args .gains .now) (getD (c .args .lexicon .now) (1 + c .args .t) 0) []) 4 0
+
+-- the emission alone is the gain
+gain : (c : tie.Start) → score c ≡ numberSum bias (score c)
+gain c = root-sum (read c .entry-near)
+
+returns : tie.Need-returns
+unfolding numberOf
+returns c =
+    let s = c .before .before .before .before .before .before in
+    let z = same-told (c .before .is-impossible .ensures) (c .if1 .taken) in
+    λ a. arc-done a (node s) (gain s) (pass-to-nothing (arc-offering a (node s) (gain s)) z)
+
+abbrev start : tie.Else1 → tie.Start
+start c = c .before .before .before .before .before .before
+
+possible : (c : tie.Else1) → ¬ (score (start c) ≡ 0)
+unfolding numberOf
+possible c = other-told (c .before .is-impossible .ensures) (c .if1 .left)
+
+-- its place
+room : (c : tie.Start) → PlaceRoom (c .args .n) (firstIn (c .args .vertices .now) (c .args .t)) (c .args .store .now)
+room c = arc-offering (c .pre) (node c) (gain c) .room
+
+insert-requires : tie.Need-insert-requires
+insert-requires c κs =
+    let s = start (c .before .before .before) in
+    let a = s .args in
+    let size = part-size (firstIn (a .vertices .now) (a .t)) (a .n) in
+    omega (arith, part-room (room s) _ size)
+
+returns-2 : tie.Need-returns-2
+returns-2 c =
+    let w = c .before .before in
+    let o = w .before in
+    let e = o .before .before .before in
+    let s = start e in
+    let a = s .args in
+    let slot = firstIn (a .vertices .now) (a .t) in
+    let size = part-size slot (a .n) in
+    let r = room s .room in
+    λ t. arc-done t (node s) (gain s) (root-done (a .increment) (arc-offering t (node s) (gain s)) (possible e) (root-increment (s .pre) (a .increment) refl)
+    (part-back (a .store .now) _ slot (a .n) _ _ size r
+    (w .insert .kept .0 ∙ mid-len (8 * slot) (8 * slot + 8 * a .n) (a .store .now) r)
+    (rw (o .of .ensures) at (w .insert .ensures) ∙ ap (enter (score s * 4294967296 + (4294967295 - a .increment))) (part-slots (a .store .now) slot (a .n) _ size))))
+
+pub enter-node-spec : {M : Type 1} → statement M
+enter-node-spec =
+    tie.close
+    (tie.spec
+    (λ c. let h = arc-few (c .before .before .pre) in search needs)
+    (λ c. let h = read (c .before .before .before) .there in search needs)
+    (λ c. let h = read (c .before .before .before) .letter in search needs)
+    (λ c. let h = read (c .before .before .before) .letter in search needs)
+    (λ c. let h = read (c .before .before .before) .letter in search needs)
+    (λ c. search needs)
+    (λ c κs. search needs)
+    returns
+    (λ c. let h = arc-few (start c .pre) in search needs)
+    (λ c. let h = arc-few (start c .pre) in search needs)
+    (λ c. search needs)
+    (λ c. let s = start (c .before) in let h = arc-slot (s .pre) (node s) in search needs)
+    (λ c. let s = start (c .before) in let h = arc-slot (s .pre) (node s) in search needs)
+    (λ c. let s = start (c .before) in let h = arc-slot (s .pre) (node s) in let r = room s in search needs)
+    (λ c. let s = start (c .before) in let h = arc-slot (s .pre) (node s) in let r = room s in search needs)
+    (λ c. search needs)
+    (λ c. search needs)
+    (λ c. let r = room (start (c .before)) .room in search needs)
+    (λ c κs. search needs)
+    insert-requires
+    (λ c. search needs)
+    returns-2)

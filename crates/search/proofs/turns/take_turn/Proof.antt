@@ -1,0 +1,55 @@
+-- `turns::take_turn` meets its contract: the node's last tokens are passed on, and then its states are renewed. Assumes nothing.
+use mathlib.Core.Path.{_∙_}
+use borrow.Author.Needs.{needs}
+use Rattle.search.proofs.Turning.{node-there, node-few, letter-small, letter-there, count-range, slot-few, renewing, passing-on, turn-done}
+use Rattle.search.proofs.turns.take_turn.Statement.{statement}
+use Rattle.search.proofs.turns.take_turn.Tie as tie
+
+abbrev begin : tie.After-shared-slice-known3 → tie.Start
+begin c = c .before .before .before .before
+
+abbrev at-last : tie.After-first → tie.Start
+at-last c = begin (c .before .before)
+
+pass-on-requires : tie.Need-pass-on-requires
+pass-on-requires c κs = passing-on (at-last (c .before) .pre)
+
+abbrev start : tie.After-pass-on → tie.Start
+start o = at-last (o .before .before)
+
+renew-node-requires : tie.Need-renew-node-requires
+renew-node-requires c κs =
+    let o = c .before .before .before .before in
+    let t = start o .pre in
+    renewing t (o .pass-on .ensures (passing-on t))
+
+returns : tie.Need-returns
+returns c =
+    let r = c .before .before in
+    let o = r .before .before .before .before .before in
+    λ t. turn-done t (o .pass-on .ensures (passing-on t)) (r .renew-node .ensures) (r .renew-node .kept .0)
+
+pub take-turn-spec : {M : Type 1} → statement M
+take-turn-spec =
+    tie.close
+    (tie.spec
+    (λ c. let h = node-few (c .before .before .before .pre) in search needs)
+    (λ c. let h = node-there (begin c .pre) in search needs)
+    (λ c. let h = letter-small (begin c .pre) in search needs)
+    (λ c. let h = letter-small (begin c .pre) in search needs)
+    (λ c. let h = letter-small (begin c .pre) in search needs)
+    (λ c. let h = letter-there (begin (c .before) .pre) in search needs)
+    (λ c. let h = count-range (begin (c .before) .pre) .1 in search needs)
+    (λ c. let h = node-few (begin (c .before) .pre) in search needs)
+    (λ c. let h = node-few (begin (c .before) .pre) in search needs)
+    (λ c. search needs)
+    (λ c. let h = slot-few (at-last c .pre) in search needs)
+    (λ c. let h = count-range (at-last c .pre) .0 in search needs)
+    (λ c. let h = slot-few (at-last c .pre) in search needs)
+    (λ c. let h = slot-few (at-last c .pre) in search needs)
+    pass-on-requires
+    (λ c. let h = letter-small (start (c .before .before .before) .pre) in search needs)
+    (λ c. let h = letter-small (start (c .before .before .before) .pre) in search needs)
+    renew-node-requires
+    (λ c. let r = c .before .before in r .renew-node .kept .0 ∙ r .before .before .before .before .before .pass-on .kept .1 .1 .1 .1 .1 .1 .1 .0)
+    returns)
