@@ -14,10 +14,11 @@ use borrow.Author.Tests.{le-ltb, ltb-true, ltb-false}
 use Rattle.endian.specs.Lists.{from}
 use Rattle.call.specs.declared.Refusal.{Refusal}
 use Rattle.call.specs.Table.{Answer, value, refused}
-use Rattle.lexicon.specs.Lexicon.{sinkOf, arcsAt}
+use Rattle.lexicon.specs.Lexicon.{nodeCount, sinkOf, arcsAt}
 use Rattle.graph.specs.Graph.{graphOf, pathCount}
-use Rattle.checking.specs.Tables.{vertexRow, verticesOf, openedVertices, column, slotsColumn, TableOf, Tables, Vertices, WellFormed}
-use Rattle.checking.proofs.Arcs.{has-entry}
+use Rattle.checking.specs.Tables.{vertexRow, verticesOf, openedVertices, column, arcsColumn, pathsColumn, slotsColumn, TableOf, Tables, Vertices, WellFormed, WithOffsets}
+use Rattle.checking.proofs.Tables.{entry}
+use Rattle.checking.proofs.Arcs.{has-entry, ListThere, list-there}
 use Rattle.checking.proofs.Filling.{sink-small}
 use Rattle.checking.proofs.Columns.{column-at, column-long}
 
@@ -143,3 +144,18 @@ module _ {x : List ℕ} (w : WellFormed x) where
   pub opened-vertices : {answer : Answer ℕ} (before : List (List ℕ)) {after : List (List ℕ)} {W : ℕ} → answer ≡ value W
       → after ≡ openedVertices answer x before → Vertices x after
   opened-vertices before e h = let q = h ∙ opened-value x before e in rw q vertices-hold
+
+-- ---- an entry of a row
+
+pub row-entry : (j : ℕ) (vertices : List (List ℕ)) {n : ℕ} {f : ℕ → ℕ} {u : ℕ} → TableOf n f (column j vertices) → u < n
+    → getD (getD vertices u []) j 0 ≡ f u
+row-entry j vertices {u = u} t h = sym (column-at j u vertices) ∙ entry t h
+
+-- the list of a vertex, by its row
+module _ {x : List ℕ} (vertices : List (List ℕ)) {u : ℕ} (l : WithOffsets x (arcsColumn vertices)) (h : u ≤ nodeCount x) where
+  pub arcs-entry : getD (getD vertices u []) 0 0 ≡ arcsAt x u
+  unfolding sinkOf
+  arcs-entry = row-entry 0 vertices (l .table) (omega arith)
+
+  pub arcs-there : ListThere x (getD (getD vertices u []) 0 0)
+  arcs-there = list-there (l .well-formed) h arcs-entry

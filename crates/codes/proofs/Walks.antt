@@ -21,15 +21,9 @@ use Rattle.graph.proofs.Sound.{Sound, below-sink}
 use Rattle.graph.proofs.Codes.{pathCount-sink, pathCount-below, increment-at}
 use Rattle.graph.proofs.Paths.{full-paths, at-code, wordOfCode-at}
 use Rattle.graph.proofs.Accepted.{AcceptedImages, accepted, sound-images}
-use Rattle.checking.proofs.Tables.{entry}
 use Rattle.checking.proofs.Arcs.{ArcsToRead, ArcNext, arcs-start, arc-next, sound-of}
 use Rattle.codes.specs.Steps.{Tabled, OpenedImages, Stepped, Spelled}
 use Rattle.codes.proofs.Words.{word-node, word-root, word-sink, word-short}
-
--- ---- the tables
-
-pub count-entry : {x offsets counts : List ℕ} → Tabled x offsets counts → {u : ℕ} → u ≤ sinkOf x → getD counts u 0 ≡ pathCount (graphOf x) u
-count-entry t h = entry (t .counted) (omega arith)
 
 -- ---- one arc
 
@@ -121,7 +115,7 @@ inside : (x : List ℕ) {u : ℕ} → u ≤ nodeCount x → u < sink (graphOf x)
 unfolding sink
 inside x h = omega arith
 
-module _ {x offsets counts : List ℕ} (t : Tabled x offsets counts) {u code : ℕ} (h : u ≤ nodeCount x) where
+module _ {x : List ℕ} {vertices : List (List ℕ)} (t : Tabled x vertices) {u code : ℕ} (h : u ≤ nodeCount x) where
   pub pass-start : {at : ℕ} → at ≡ arcsAt x u → code < pathCount (graphOf x) u → ArcsToPass x u code (at + 2) code
   pass-start e k = record {
     later = successors x u;
@@ -170,9 +164,9 @@ pub record LettersLeft (v x : List ℕ) (code : ℕ) (letters : List ℕ) (n u l
   pub goes-on : (q : List ℕ) → ArcPath (graphOf x) u q → codeFrom (graphOf x) u q ≡ left
       → wordOfCode v (graphOf x) code ≡ take n letters ++ wordOfPath v (graphOf x) (u ∷ q)
 
-module _ {v x offsets counts : List ℕ} (opened-images : OpenedImages v x offsets counts) {code : ℕ} (k : code < wordCount (graphOf x)) where
+module _ {v x : List ℕ} {vertices : List (List ℕ)} (opened : OpenedImages v x vertices) {code : ℕ} (k : code < wordCount (graphOf x)) where
   images : AcceptedImages v x
-  images = accepted (opened-images .accepted)
+  images = accepted (opened .accepted)
 
   ok : Sound (graphOf x)
   ok = sound-images images
