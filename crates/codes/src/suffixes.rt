@@ -27,7 +27,13 @@ const ROW: usize = 402;
 pub(crate) const TABLE: usize = 13266;
 
 // Whether a successor of the vertex has a mark in the row that begins at an offset.
-fn leads(lexicon: &[u8], vertices: &[[u32; 3]; 402], table: &[u8], vertex: usize, row: usize) -> bool
+fn leads(
+    lexicon: &[u8],
+    vertices: &[[u32; 3]; 402],
+    table: &[u8],
+    vertex: usize,
+    row: usize,
+) -> bool
     requires { ⌜ Tabled (now lexicon) (now vertices) ⌝ }
     requires { ⌜ (vertex ≤ nodeCount (now lexicon)) × (row + 402 ≤ length (now table)) ⌝ }
     ensures { λ r. ⌜ r ≡ any (marked (now (table .entry)) row) (successors (now (lexicon .entry)) vertex) ⌝ }

@@ -16,11 +16,11 @@ use Rattle.codes.proofs.descent.spell.Statement.{statement}
 use Rattle.codes.proofs.descent.spell.Tie as tie
 
 abbrev Inv-loop : tie.InvT-loop
-Inv-loop voice lexicon offsets counts code letters₀ sink vertex₀ left₀ length₀ letters vertex left length =
+Inv-loop voice lexicon vertices code letters₀ sink vertex₀ left₀ length₀ letters vertex left length =
     LettersLeft voice lexicon code letters length vertex left
 
 abbrev μ-loop : tie.MeasureT-loop
-μ-loop voice lexicon offsets counts code letters₀ sink vertex₀ left₀ length₀ letters vertex left length = sink - vertex
+μ-loop voice lexicon vertices code letters₀ sink vertex₀ left₀ length₀ letters vertex left length = sink - vertex
 
 number-at-requires : tie.Need-number-at-requires Inv-loop μ-loop
 number-at-requires c κs = count-there (c .before .before .pre .0 .tabled .located .well-formed)
