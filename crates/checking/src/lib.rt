@@ -121,7 +121,8 @@ fn judge_images(
 pub fn open(voice: &[u8], lexicon: &[u8], work: &mut [u8], vertices: &mut [[u32; 3]; 402]) -> Answer
     ensures { λ r. ⌜ answerOf r ≡ checkAnswer (now (voice .entry)) (now (lexicon .entry)) (now (work .entry)) ⌝ }
     ensures { λ _. ⌜ now (work .exit) ≡ checkWork (now (voice .entry)) (now (lexicon .entry)) (now (work .entry)) ⌝ }
-    ensures { λ r. ⌜ now (vertices .exit) ≡ openedVertices (answerOf r) (now (lexicon .entry)) (now (vertices .entry)) ⌝ }
+    ensures { λ r. ⌜ now (vertices .exit)
+        ≡ openedVertices (answerOf r) (now (lexicon .entry)) (now (vertices .entry)) ⌝ }
 {
     if work.len() < WORK_SPACE {
         return Answer::Refused(Refusal::WorkSpace);
