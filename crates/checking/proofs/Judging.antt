@@ -32,7 +32,8 @@ refused-no-value : {r : Refusal} {W : ℕ} → refused r ≡ value W → ⊥
 refused-no-value e = let z : _≡_ {A = ℕ} 0 1 = cc in omega arith
 
 -- a refusal by the rows promises nothing of the tables
-pub refusal : {rows : List Row} {r : Refusal} {x offsets counts : List ℕ} → unless rows (wordCount (graphOf x)) ≡ refused r
+pub refusal : {rows : List Row} {r : Refusal} {x offsets counts : List ℕ}
+    → unless rows (wordCount (graphOf x)) ≡ refused r
     → Judged rows (refused r) x offsets counts
 refusal e = record { answered = sym e; opened = λ W q. absurd (refused-no-value q) }
 
@@ -53,22 +54,26 @@ module _ (v : List ℕ) {x offsets counts : List ℕ} where
   unfolding imageRows voiceRows unless hasWrongLength isOutOfRange
   voice-range e = refusal (rw e)
 
-  pub voice-passed : {answer : Answer ℕ} → voiceVerdict v ≡ wellFormed → Judged (lexiconRows v x) answer x offsets counts
+  pub voice-passed : {answer : Answer ℕ} → voiceVerdict v ≡ wellFormed
+      → Judged (lexiconRows v x) answer x offsets counts
       → Judged (imageRows v x) answer x offsets counts
   unfolding imageRows voiceRows unless hasWrongLength isOutOfRange
   voice-passed e j = passed (rw e) j
 
   -- ---- 4 and 5
 
-  pub lexicon-length : lexiconVerdict (letterCount v) x ≡ wrongLength → Judged (lexiconRows v x) (refused LexiconLength) x offsets counts
+  pub lexicon-length : lexiconVerdict (letterCount v) x ≡ wrongLength
+      → Judged (lexiconRows v x) (refused LexiconLength) x offsets counts
   unfolding lexiconRows unless hasWrongLength
   lexicon-length e = refusal (rw e)
 
-  pub lexicon-range : lexiconVerdict (letterCount v) x ≡ outOfRange → Judged (lexiconRows v x) (refused LexiconRange) x offsets counts
+  pub lexicon-range : lexiconVerdict (letterCount v) x ≡ outOfRange
+      → Judged (lexiconRows v x) (refused LexiconRange) x offsets counts
   unfolding lexiconRows unless hasWrongLength isOutOfRange
   lexicon-range e = refusal (rw e)
 
-  pub lexicon-passed : {answer : Answer ℕ} → lexiconVerdict (letterCount v) x ≡ wellFormed → Judged (graphRows v x) answer x offsets counts
+  pub lexicon-passed : {answer : Answer ℕ} → lexiconVerdict (letterCount v) x ≡ wellFormed
+      → Judged (graphRows v x) answer x offsets counts
       → Judged (lexiconRows v x) answer x offsets counts
   unfolding lexiconRows graphRows unless hasWrongLength isOutOfRange
   lexicon-passed e j = passed (rw e) j
@@ -132,5 +137,6 @@ module _ (x : List ℕ) {counts : List ℕ} (t : TableOf (suc (sinkOf x)) (cappe
                 capped-few (omega (arith, k, limit))
             go false e = refl
 
-    pub tables-exact : {offsets : List ℕ} → WellFormed x → orphan (graphOf x) ≡ false → TableOf (sinkOf x) (arcsAt x) offsets → Tables x offsets counts
+    pub tables-exact : {offsets : List ℕ} → WellFormed x → orphan (graphOf x) ≡ false
+        → TableOf (sinkOf x) (arcsAt x) offsets → Tables x offsets counts
     tables-exact w reached l = record { located = l; counted = counts-exact w reached }

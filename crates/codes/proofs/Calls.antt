@@ -49,12 +49,16 @@ module _ (letters out : List ℕ) {n : ℕ} (h : n ≤ length letters) where
 
 -- ---- after checking
 
-pub opened-images : (v x work : List ℕ) (before : List (List ℕ)) {after : List (List ℕ)} {answer : Answer ℕ} {W : ℕ} → Passed v x work W
+pub opened-images : (v x work : List ℕ) (before : List (List ℕ)) {after : List (List ℕ)} {answer : Answer ℕ} {W : ℕ}
+    → Passed v x work W
     → answer ≡ value W → after ≡ openedVertices answer x before → OpenedImages v x after
 opened-images v x work before p e h =
     let w = well-formed (accepted (p .images)) in
     let t = opened-vertices w before e h .tables in
-    record { accepted = p .images; tabled = record { located = record { well-formed = w; table = t .located }; counted = t .counted } }
+    record {
+      accepted = p .images;
+      tabled = record { located = record { well-formed = w; table = t .located }; counted = t .counted };
+    }
 
 module _ (v x work : List ℕ) where
   -- ---- code to word
@@ -108,7 +112,8 @@ module _ (v x work : List ℕ) where
     unfolding listAnswer listRows roomRows
     list-value h = unless-past (firstRows v x work) _ _ (passed v x work h .rows)
 
-    pub list-written : {W : ℕ} {answer : Answer ℕ} {out′ : List ℕ} → checkAnswer v x work ≡ value W → BytesAnswered (listing v (graphOf x)) answer out out′
+    pub list-written : {W : ℕ} {answer : Answer ℕ} {out′ : List ℕ} → checkAnswer v x work ≡ value W
+        → BytesAnswered (listing v (graphOf x)) answer out out′
         → (answer ≡ listAnswer v x work out) × (out′ ≡ listOut v x work out)
     unfolding listOut
     list-written h a =

@@ -120,7 +120,8 @@ module _ {v x : List ℕ} {vertices : List (List ℕ)} {u depth : ℕ} (e : Ente
 
     pub starts : WalksFrom v x vertices u (depth + 1)
     unfolding sink
-    starts = record { opened = e .opened; below = h; fits = λ m. fits-next ok v depth (e .above) (omega arith) (e .fits) m }
+    starts =
+        record { opened = e .opened; below = h; fits = λ m. fits-next ok v depth (e .above) (omega arith) (e .fits) m }
 
     pub at-node : {b : ℕ} → b ≡ printByte v (nodeLetter x u) → (word : List ℕ) → depth < length word
         → linesFrom v (graphOf x) u (take depth word) ≡ linesOver v (graphOf x) (successors x u) (take (depth + 1) (set word depth b))

@@ -40,10 +40,14 @@ module _ {x : List ℕ} {vertices : List (List ℕ)} (c : Countable x vertices) 
 
     pub added-none : Added x u 0 (getD (getD vertices u []) 1 0)
     unfolding sinkOf sink
-    added-none = record { inside = omega arith; whole = rw (paths-of (c .tabled) {u = u} (omega arith)) (sym (arcs-below ok (omega arith))) }
+    added-none = record {
+      inside = omega arith;
+      whole = rw (paths-of (c .tabled) {u = u} (omega arith)) (sym (arcs-below ok (omega arith)));
+    }
 
     module _ {totals : List ℕ} (t : CountedFrom x totals (suc u)) where
-      pub added-next : {i total s : ℕ} → i < arcCount x u → s ≡ u16 x (getD (getD vertices u []) 0 0 + 2 + 2 * i) → Added x u i total
+      pub added-next : {i total s : ℕ} → i < arcCount x u → s ≡ u16 x (getD (getD vertices u []) 0 0 + 2 + 2 * i)
+          → Added x u i total
           → Added x u (i + 1) (total + getD totals s 0)
       unfolding sum
       added-next {i} {total} {s} k e a =

@@ -43,7 +43,8 @@ fn vertex_step(
     at: usize,
 ) -> usize
     requires { ⌜ WalksFrom (now voice) (now lexicon) (now vertices) vertex depth ⌝ }
-    requires { ⌜ RoomForLines (linesOver (now voice) (graphOf (now lexicon)) (successors (now lexicon) vertex) (take depth (now word))) (now word) (now out) at ⌝ }
+    requires { ⌜ RoomForLines (linesOver (now voice) (graphOf (now lexicon)) (successors (now lexicon) vertex)
+        (take depth (now word))) (now word) (now out) at ⌝ }
     ensures { λ r. ⌜ Wrote (linesOver (now (voice .entry)) (graphOf (now (lexicon .entry))) (successors (now (lexicon .entry)) vertex) (take depth (now (word .entry)))) depth at (now (word .entry)) (now (word .exit)) (now (out .entry)) (now (out .exit)) r ⌝ }
 {
     let arcs = number_at(lexicon, vertices[vertex][ARCS_AT] as usize);
@@ -68,8 +69,10 @@ fn arc_step(
     out: &mut [u8],
     at: usize,
 ) -> usize
-    requires { ⌜ WalksFrom (now voice) (now lexicon) (now vertices) vertex depth × (arc < arcCount (now lexicon) vertex) ⌝ }
-    requires { ⌜ RoomForLines (linesFrom (now voice) (graphOf (now lexicon)) (getD (successors (now lexicon) vertex) arc 0) (take depth (now word))) (now word) (now out) at ⌝ }
+    requires { ⌜ WalksFrom (now voice) (now lexicon) (now vertices) vertex depth
+        × (arc < arcCount (now lexicon) vertex) ⌝ }
+    requires { ⌜ RoomForLines (linesFrom (now voice) (graphOf (now lexicon))
+        (getD (successors (now lexicon) vertex) arc 0) (take depth (now word))) (now word) (now out) at ⌝ }
     ensures { λ r. ⌜ Wrote (linesFrom (now (voice .entry)) (graphOf (now (lexicon .entry))) (getD (successors (now (lexicon .entry)) vertex) arc 0) (take depth (now (word .entry)))) depth at (now (word .entry)) (now (word .exit)) (now (out .entry)) (now (out .exit)) r ⌝ }
 {
     let next = number_at(lexicon, vertices[vertex][ARCS_AT] as usize + 2 + 2 * arc);
@@ -124,7 +127,8 @@ pub(crate) fn put_listing(
     out: &mut [u8],
 ) -> Answer
     requires { ⌜ OpenedImages (now voice) (now lexicon) (now vertices) ⌝ }
-    ensures { λ r. ⌜ BytesAnswered (listing (now (voice .entry)) (graphOf (now (lexicon .entry)))) (answerOf r) (now (out .entry)) (now (out .exit)) ⌝ }
+    ensures { λ r. ⌜ BytesAnswered (listing (now (voice .entry)) (graphOf (now (lexicon .entry)))) (answerOf r)
+        (now (out .entry)) (now (out .exit)) ⌝ }
 {
     let size = listing_size(lexicon, vertices);
     if out.len() < size as usize {

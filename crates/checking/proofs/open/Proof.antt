@@ -65,7 +65,8 @@ put-rows-requires c κs =
     )
 
 same-length : tie.Need-same-length
-same-length c = ap length (work-cleared (c .before .before .before .before .before .before .before .before)) ∙ cleared-length _
+same-length c =
+    ap length (work-cleared (c .before .before .before .before .before .before .before .before)) ∙ cleared-length _
 
 returns-2 : tie.Need-returns-2
 returns-2 c =

@@ -71,7 +71,8 @@ wrote c =
     let o = k .before .before .before .before in
     let a = o .before .before .before .before .before .before .before .args in
     let l = c .before .before .before .before in
-    code-good (a .voice .now) (a .lexicon .now) (a .work .now) (a .code) (a .out .now) (passes k) (l .before .before .if1 .left)
+    code-good (a .voice .now) (a .lexicon .now) (a .work .now) (a .code) (a .out .now) (passes k)
+    (l .before .before .if1 .left)
     ∙ sym (c .put-word .ensures .0 ∙ ap (λ (w : List ℕ). roomAnswer w (a .out .now)) (c .before .before .before .spell .ensures .start))
 
 returns-3 : tie.Need-returns-3

@@ -22,8 +22,11 @@ put-listing-requires c κs =
 
 returns : tie.Need-returns
 returns c =
-    let a = c .before .before .before .before .before .before .before .before .before .before .before .before .before .before .before .before .args in
-    let w = list-written (a .voice .now) (a .lexicon .now) (a .work .now) (a .out .now) (answered (c .before .before .before .before .before)) (c .before .before .put-listing .ensures) in
+    let t = c .before .before .before .before .before in
+    let a = t .before .before .before .before .before .before .before .before .before .before .before .args in
+    let p = c .before .before in
+    let e = p .put-listing .ensures in
+    let w = list-written (a .voice .now) (a .lexicon .now) (a .work .now) (a .out .now) (answered t) e in
     (w .0, (c .before .before .before .before .before .before .before .before .before .«open» .ensures .1 .0, w .1))
 
 returns-2 : tie.Need-returns-2

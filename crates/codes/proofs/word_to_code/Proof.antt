@@ -50,11 +50,14 @@ part-long : (c : tie.After-enum-told) → length (take 13266 (c .before .before 
 part-long c = length-take-le 13266 (c .before .before .before .before .«open» .last .1 .1 .0) (room c)
 
 part-kept : (c : tie.After-look-up) →
-    length (c .look-up .last .1 .1 .1 .1 .0) ≡ length (take 13266 (c .before .before .before .before .before .before .before .«open» .last .1 .1 .0))
+    length (c .look-up .last .1 .1 .1 .1 .0)
+    ≡ length (take 13266 (c .before .before .before .before .before .before .before .«open» .last .1 .1 .0))
 part-kept c = c .look-up .kept .1 .1 .1 .1 .0
 
 work-cleared : (c : tie.After-clear) →
-    c .clear .last .0 ≡ cleared (c .before .before .before .before .before .before .before .before .before .before .before .before .before .before .before .before .before .before .args .work .now)
+    let l = c .before .before .before .before in
+    let o = l .before .before .before .before .before .before .before in
+    c .clear .last .0 ≡ cleared (o .before .before .before .before .before .before .before .args .work .now)
 work-cleared c =
     let l = c .before .before .before .before in
     let k = l .before .before .before in

@@ -11,7 +11,8 @@ use Rattle.checking.proofs.pairs.mark_row.Statement.{statement}
 use Rattle.checking.proofs.pairs.mark_row.Tie as tie
 
 abbrev Inv-loop : tie.InvT-loop
-Inv-loop lexicon offsets u mask pairs₀ nodes v₀ pairs v = (u < v) × (v ≤ sink (graphOf lexicon)) × RowMarked (graphOf lexicon) u v pairs
+Inv-loop lexicon offsets u mask pairs₀ nodes v₀ pairs v =
+    (u < v) × (v ≤ sink (graphOf lexicon)) × RowMarked (graphOf lexicon) u v pairs
 
 abbrev μ-loop : tie.MeasureT-loop
 μ-loop lexicon offsets u mask pairs₀ nodes v₀ pairs v = nodes + 1 - v

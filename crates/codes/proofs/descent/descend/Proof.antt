@@ -25,7 +25,8 @@ low : (c : tie.After-shared-slice-known Inv-loop μ-loop) → c .before .args .v
 unfolding sinkOf
 low c = has-entry (c .before .pre .0 .located .well-formed) (omega (arith, c .before .pre .1 .0))
 
-small : (c : tie.After-at Inv-loop μ-loop) → let a = c .before .before .args in getD (getD (a .vertices .now) (a .vertex) []) 0 0 ≤ 9204
+small : (c : tie.After-at Inv-loop μ-loop)
+    → let a = c .before .before .args in getD (getD (a .vertices .now) (a .vertex) []) 0 0 ≤ 9204
 small c = let p = c .before .before .pre in omega (arith, list-of (p .0) (p .1 .0) .small)
 
 loop-holds : tie.Need-loop-holds Inv-loop μ-loop
@@ -48,7 +49,8 @@ leads c =
 -- the count that is read is the next one's path count
 count : (c : tie.After-count Inv-loop μ-loop) →
     let a = c .before .before .before .before .before .args in
-    getD (getD (a .vertices .now) (c .before .number-at .result) []) 1 0 ≡ pathCount (graphOf (a .lexicon .now)) (u16 (a .lexicon .now) (c .before .before .loop .at))
+    getD (getD (a .vertices .now) (c .before .number-at .result) []) 1 0
+    ≡ pathCount (graphOf (a .lexicon .now)) (u16 (a .lexicon .now) (c .before .before .loop .at))
 count c =
     let s = c .before .before .before .before .before in
     rw (c .before .number-at .ensures) (paths-of (s .pre .0) (next (c .before .before) .bounded))

@@ -26,7 +26,8 @@ low : (c : tie.After-shared-slice-known2 Inv-loop μ-loop) → c .before .before
 unfolding sinkOf
 low c = let p = c .before .before .pre in has-entry (p .0 .located .well-formed) (omega (arith, p .1 .0 .0))
 
-small : (c : tie.After-at Inv-loop μ-loop) → let a = c .before .before .before .args in getD (getD (a .vertices .now) (a .vertex) []) 0 0 ≤ 9204
+small : (c : tie.After-at Inv-loop μ-loop)
+    → let a = c .before .before .before .args in getD (getD (a .vertices .now) (a .vertex) []) 0 0 ≤ 9204
 small c = let p = c .before .before .before .pre in omega (arith, list-of (p .0) (p .1 .0 .0) .small)
 
 loop-holds : tie.Need-loop-holds Inv-loop μ-loop
@@ -37,7 +38,8 @@ loop-holds c =
 next : (c : tie.At-loop Inv-loop μ-loop) →
     let a = c .before .before .before .before .args in
     ArcNext (a .lexicon .now) (a .vertex) (c .loop .at) (c .loop .inv .stop) (c .loop .inv .counts .later)
-next c = let p = c .before .before .before .before .pre in ahead-arc (p .0 .located .well-formed) (p .1 .0 .0) (c .loop .inv)
+next c =
+    let p = c .before .before .before .before .pre in ahead-arc (p .0 .located .well-formed) (p .1 .0 .0) (c .loop .inv)
 
 there : (c : tie.At-loop Inv-loop μ-loop) → c .loop .at + 2 ≤ length (c .before .before .before .before .args .lexicon .now)
 there c = omega (arith, next c .room, c .loop .inv .counts .arcs .there)
@@ -56,23 +58,30 @@ returns : tie.Need-returns Inv-loop μ-loop
 returns c =
     let n = c .before .before in
     let s = n .before .before .before .before .before in
-    rw (n .number-at .ensures) (ahead-here (s .pre .0 .located .well-formed) (s .pre .1 .0 .0) (n .before .loop .inv) (rw (n .number-at .ensures) at (is-marked (s .args .table .now) (s .args .row) (n .number-at .result) (c .if1 .taken))))
+    let m = is-marked (s .args .table .now) (s .args .row) (n .number-at .result) (c .if1 .taken) in
+    rw (n .number-at .ensures)
+    (ahead-here (s .pre .0 .located .well-formed) (s .pre .1 .0 .0) (n .before .loop .inv)
+    (rw (n .number-at .ensures) at m))
 
 -- the count that is read is the successor's path count
 count : (c : tie.After-code Inv-loop μ-loop) →
     let n = c .before .before .before in
     let a = n .before .before .before .before .before .args in
-    getD (getD (a .vertices .now) (n .number-at .result) []) 1 0 ≡ pathCount (graphOf (a .lexicon .now)) (u16 (a .lexicon .now) (n .before .loop .at))
+    getD (getD (a .vertices .now) (n .number-at .result) []) 1 0
+    ≡ pathCount (graphOf (a .lexicon .now)) (u16 (a .lexicon .now) (n .before .loop .at))
 count c =
     let n = c .before .before .before in
-    rw (n .number-at .ensures) (paths-of (n .before .before .before .before .before .pre .0) (next (n .before) .bounded))
+    let p = n .before .before .before .before .before .pre in
+    rw (n .number-at .ensures) (paths-of (p .0) (next (n .before) .bounded))
 
 -- what is added up stays within the paths from the vertex
 add-code : tie.Need-add-code Inv-loop μ-loop
 add-code c =
     let n = c .before .before .before in
     let p = n .before .before .before .before .before .pre in
-    omega (arith, count c, p .1 .1 .1, counts-below (p .0 .located .well-formed) (p .1 .0 .0) (n .before .loop .inv .counts) (next (n .before)))
+    let w = p .0 .located .well-formed in
+    let below = counts-below w (p .1 .0 .0) (n .before .loop .inv .counts) (next (n .before)) in
+    omega (arith, count c, p .1 .1 .1, below)
 
 loop-less : tie.Need-loop-less Inv-loop μ-loop
 loop-less c = omega (arith, there (c .before .before .before .before))
@@ -81,7 +90,10 @@ loop-again : tie.Need-loop-again Inv-loop μ-loop
 loop-again c =
     let n = c .before .before .before in
     let s = n .before .before .before .before .before in
-    rw (count c) (ahead-next (s .pre .0 .located .well-formed) (s .pre .1 .0 .0) (n .before .loop .inv) (rw (n .number-at .ensures) at (not-marked (s .args .table .now) (s .args .row) (n .number-at .result) (c .before .if1 .left))))
+    let m = not-marked (s .args .table .now) (s .args .row) (n .number-at .result) (c .before .if1 .left) in
+    rw (count c)
+    (ahead-next (s .pre .0 .located .well-formed) (s .pre .1 .0 .0) (n .before .loop .inv)
+    (rw (n .number-at .ensures) at m))
 
 pub first-marked-spec : {M : Type 1} → statement M
 first-marked-spec =

@@ -16,7 +16,8 @@ use Rattle.codes.proofs.suffixes.look_up.Statement.{statement}
 use Rattle.codes.proofs.suffixes.look_up.Tie as tie
 
 abbrev Inv-loop : tie.InvT-loop
-Inv-loop voice lexicon vertices word table sink vertex₀ row₀ code₀ vertex row code = CodeSought voice lexicon word vertex row code
+Inv-loop voice lexicon vertices word table sink vertex₀ row₀ code₀ vertex row code =
+    CodeSought voice lexicon word vertex row code
 
 abbrev μ-loop : tie.MeasureT-loop
 μ-loop voice lexicon vertices word table sink vertex₀ row₀ code₀ vertex row code = sink - vertex
@@ -77,7 +78,8 @@ unfolding nodeCount
 nodes c =
     let f = c .before .before .before .before .before .before in
     let e = c .number-at .ensures in
-    (e, rw e (shape-of (f .before .before .before .before .before .before .before .pre .0 .tabled .located .well-formed) .few))
+    let p = f .before .before .before .before .before .before .before .pre in
+    (e, rw e (shape-of (p .0 .tabled .located .well-formed) .few))
 
 -- the word is one
 found : (c : tie.After-number-at Inv-loop μ-loop) →

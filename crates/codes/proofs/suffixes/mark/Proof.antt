@@ -20,7 +20,9 @@ number-at-requires c κs = count-there (c .before .before .before .before .pre .
 
 add-sink : tie.Need-add-sink
 unfolding nodeCount
-add-sink c = omega (arith, c .number-at .ensures, shape-of (c .before .before .before .before .before .pre .0 .opened .tabled .located .well-formed) .few)
+add-sink c =
+    let p = c .before .before .before .before .before .pre in
+    omega (arith, c .number-at .ensures, shape-of (p .0 .opened .tabled .located .well-formed) .few)
 
 sink-is : (c : tie.After-number-at) → c .number-at .result + 1 ≡ sink (graphOf (c .before .before .before .before .before .args .lexicon .now))
 unfolding nodeCount sink
@@ -77,8 +79,8 @@ decides c =
     let a = s .args in
     let k = more (b .before .before) in
     c .leads .ensures
-    ∙ marks-say (sound-images (accepted (s .pre .0 .opened .accepted))) (s .pre .1 .0) {j = a .i + 1} {u = a .vertex} (omega arith) (omega arith)
-    (node (b .before))
+    ∙ marks-say (sound-images (accepted (s .pre .0 .opened .accepted))) (s .pre .1 .0) {j = a .i + 1} {u = a .vertex}
+    (omega arith) (omega arith) (node (b .before))
     ∙ mark-after (a .voice .now) (graphOf (a .lexicon .now)) (a .word .now) (a .vertex) k (s .pre .1 .1 .1) (node (b .before))
     (sym (b .print-byte .ensures) ∙ c .before .if4 .left)
 
