@@ -7,7 +7,7 @@ ghost use Rattle.voice.specs.Voice.{letterCount, voiceVerdict};
 ghost use Rattle.lexicon.specs.Lexicon.{lexiconVerdict};
 ghost use Rattle.graph.specs.Checking.{lexiconRows, imageRows, checkAnswer, checkWork};
 ghost use Rattle.checking.specs.Tables.{openedVertices};
-ghost use Rattle.checking.specs.Judging.{Blank, graphRows, Judged};
+ghost use Rattle.checking.specs.Judging.{Blank, graphRows, ImagesJudged};
 use crate::counts::count_paths;
 use crate::heights::longest_word;
 use crate::offsets::find_offsets;
@@ -56,8 +56,8 @@ fn judge_graph(
     requires { ⌜ voiceVerdict (now voice) ≡ wellFormed ⌝ }
     requires { ⌜ lexiconVerdict (letterCount (now voice)) (now lexicon) ≡ wellFormed ⌝ }
     requires { ⌜ Blank (now pairs) (now offsets) (now counts) ⌝ }
-    ensures { λ r. ⌜ Judged (graphRows (now (voice .entry)) (now (lexicon .entry))) (answerOf r) (now (lexicon .entry))
-        (now (offsets .exit)) (now (counts .exit)) ⌝ }
+    ensures { λ r. ⌜ ImagesJudged (graphRows (now (voice .entry)) (now (lexicon .entry))) (answerOf r)
+        (now (lexicon .entry)) (now (offsets .exit)) (now (counts .exit)) ⌝ }
 {
     find_offsets(lexicon, offsets);
     if has_orphan(lexicon, offsets) {
@@ -90,7 +90,7 @@ fn judge_lexicon(
 ) -> Answer
     requires { ⌜ voiceVerdict (now voice) ≡ wellFormed ⌝ }
     requires { ⌜ Blank (now pairs) (now offsets) (now counts) ⌝ }
-    ensures { λ r. ⌜ Judged (lexiconRows (now (voice .entry)) (now (lexicon .entry))) (answerOf r)
+    ensures { λ r. ⌜ ImagesJudged (lexiconRows (now (voice .entry)) (now (lexicon .entry))) (answerOf r)
         (now (lexicon .entry)) (now (offsets .exit)) (now (counts .exit)) ⌝ }
 {
     match lexicon::judge(lexicon, voice[0] as usize) {
@@ -109,8 +109,8 @@ fn judge_images(
     counts: &mut [u32; 402],
 ) -> Answer
     requires { ⌜ Blank (now pairs) (now offsets) (now counts) ⌝ }
-    ensures { λ r. ⌜ Judged (imageRows (now (voice .entry)) (now (lexicon .entry))) (answerOf r) (now (lexicon .entry))
-        (now (offsets .exit)) (now (counts .exit)) ⌝ }
+    ensures { λ r. ⌜ ImagesJudged (imageRows (now (voice .entry)) (now (lexicon .entry))) (answerOf r)
+        (now (lexicon .entry)) (now (offsets .exit)) (now (counts .exit)) ⌝ }
 {
     match voice::judge(voice) {
         Verdict::WrongLength => Answer::Refused(Refusal::VoiceLength),

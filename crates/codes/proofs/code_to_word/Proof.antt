@@ -103,6 +103,8 @@ code-to-word-spec =
     returns-2
     spell-requires
     put-word-requires
-    (λ c. c .before .before .before .before .before .before .before .before .before .before .before .before .before .before .«open» .kept .1 .1 .0)
+    (λ c.
+    let k = c .before .before .before .before .before .before .before .before .before .before in
+    k .before .before .before .before .«open» .kept .1 .1 .0)
     (λ c. c .before .before .put-word .kept .0)
     returns-3)

@@ -69,7 +69,8 @@ loop-again c =
     let l = c .before .before .before in
     let p = l .before .before .before .before .before .pre in
     rw (c .before .print-byte .ensures)
-    (letters-next (accepted (p .0 .accepted)) (p .1 .0) (l .loop .inv) (node (c .before .before)) (c .descend2 .ensures))
+    (letters-next (accepted (p .0 .accepted)) (p .1 .0) (l .loop .inv) (node (c .before .before))
+    (c .descend2 .ensures))
 
 loop-less : tie.Need-loop-less Inv-loop μ-loop
 unfolding sinkOf
@@ -84,7 +85,8 @@ unfolding sinkOf
 returns c =
     let l = c .before in
     let p = l .before .before .before .before .before .pre in
-    letters-done (accepted (p .0 .accepted)) (p .1 .0) (l .loop .inv) (omega (arith, c .loop-test .left, nodes (l .before .before) .0))
+    letters-done (accepted (p .0 .accepted)) (p .1 .0) (l .loop .inv)
+    (omega (arith, c .loop-test .left, nodes (l .before .before) .0))
 
 pub spell-spec : {M : Type 1} → statement M
 spell-spec =

@@ -188,7 +188,9 @@ pub +arc-step+vertex-step-spec : {M : Type 1} → statement M
     (λ c. omega (arith, c .before .before .before .before .pre .1 .0 .1, head-of (c .before .before .before .before .pre .1 .0 .0) .few))
     (λ c. omega (arith, c .before .before .before .before .pre .1 .0 .1, head-of (c .before .before .before .before .pre .1 .0 .0) .few, head-of (c .before .before .before .before .pre .1 .0 .0) .small))
     (λ c κs. omega (arith, c .before .before .before .before .pre .1 .0 .1, head-of (c .before .before .before .before .pre .1 .0 .0) .there))
-    (λ c κs. omega (arith, nodes-there (c .before .before .before .before .before .pre .1 .0 .0 .opened .tabled .located .well-formed)))
+    (λ c κs.
+    let p = c .before .before .before .before .before .pre .1 .0 in
+    omega (arith, nodes-there (p .0 .opened .tabled .located .well-formed)))
     (arc-step-put-line-requires t)
     (λ c. c .before .before .put-line .kept .1 .1 .0)
     (arc-step-returns t)
