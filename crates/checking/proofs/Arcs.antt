@@ -75,7 +75,8 @@ pub record ArcNext (x : List ℕ) (u at stop : ℕ) (left : List ℕ) : Type 0 w
   pub room : at + 2 ≤ stop
   pub after : ArcsToRead x u (at + 2) stop others
 
-pub arc-next : {x : List ℕ} {u at stop : ℕ} {left : List ℕ} → ArcsToRead x u at stop left → at < stop → ArcNext x u at stop left
+pub arc-next : {x : List ℕ} {u at stop : ℕ} {left : List ℕ} → ArcsToRead x u at stop left → at < stop
+    → ArcNext x u at stop left
 unfolding u16s
 arc-next {x} {u} {at} {stop} {left} a h = go left a
   where

@@ -1,4 +1,5 @@
--- A column of a table of rows, as a list: laws over lists of one number a vertex serve tables of rows too. Assumes nothing.
+-- A column of a table of rows, as a list: laws over lists of one number a vertex serve tables of rows too.
+-- Assumes nothing.
 use Prim.Native.Nat.{ℕ, zero, suc, _<_}
 use mathlib.Core.Path.{_≡_, refl, ap}
 use mathlib.Core.List.{List, [], _∷_}
@@ -26,14 +27,16 @@ column-long j (row ∷ t) = ap suc (column-long j t)
 -- ---- after an entry of a row was stored
 
 -- its column has it
-pub column-stored : (j u e : ℕ) (t : List (List ℕ)) → j < length (getD t u []) → column j (set t u (set (getD t u []) j e)) ≡ set (column j t) u e
+pub column-stored : (j u e : ℕ) (t : List (List ℕ)) → j < length (getD t u [])
+    → column j (set t u (set (getD t u []) j e)) ≡ set (column j t) u e
 unfolding column
 column-stored j u e [] h = refl
 column-stored j zero e (row ∷ t) h = ap (λ (a : ℕ). a ∷ column j t) (getD-set-same row j e 0 h)
 column-stored j (suc u) e (row ∷ t) h = ap (λ (l : List ℕ). getD row j 0 ∷ l) (column-stored j u e t h)
 
 -- and every other column is as it was
-pub column-kept : (j k u e : ℕ) (t : List (List ℕ)) → (j ≡ k → ⊥) → column j (set t u (set (getD t u []) k e)) ≡ column j t
+pub column-kept : (j k u e : ℕ) (t : List (List ℕ)) → (j ≡ k → ⊥)
+    → column j (set t u (set (getD t u []) k e)) ≡ column j t
 unfolding column
 column-kept j k u e [] d = refl
 column-kept j k zero e (row ∷ t) d = ap (λ (a : ℕ). a ∷ column j t) (getD-set-other row k j e 0 d)

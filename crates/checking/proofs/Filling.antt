@@ -111,13 +111,16 @@ filling-sink {f} {x} {table} {k} {v} w blank e h = record {
 pub filling-blank : {f : ℕ → ℕ} {x : List ℕ} → f (sinkOf x) ≡ 0 → FilledDownTo f x (replicate 402 0) (sinkOf x)
 filling-blank {f} {x} h = record { low = omega arith; entries = filled-zero (filled-none (suc (sinkOf x)) f) refl h }
 
-pub filling-next : {f : ℕ → ℕ} {x offsets table : List ℕ} {u v : ℕ} → AtVertex f x offsets table u → v ≡ f u → FilledDownTo f x (set table u v) u
+pub filling-next : {f : ℕ → ℕ} {x offsets table : List ℕ} {u v : ℕ} → AtVertex f x offsets table u → v ≡ f u
+    → FilledDownTo f x (set table u v) u
 unfolding sinkOf
 filling-next a h = record {
   low = omega (arith, a .vertex);
-  entries = filled-next (a .above) refl h (omega (arith, a .vertex)) (omega (arith, sink-small (a .located .well-formed)));
+  entries =
+      filled-next (a .above) refl h (omega (arith, a .vertex)) (omega (arith, sink-small (a .located .well-formed)));
 }
 
-pub vertex-next : {f : ℕ → ℕ} {x offsets table : List ℕ} {k u : ℕ} → WithOffsets x offsets → FilledDownTo f x table k → suc u ≡ k → AtVertex f x offsets table u
+pub vertex-next : {f : ℕ → ℕ} {x offsets table : List ℕ} {k u : ℕ} → WithOffsets x offsets → FilledDownTo f x table k
+    → suc u ≡ k → AtVertex f x offsets table u
 unfolding sinkOf
 vertex-next l t e = record { located = l; vertex = omega (arith, t .low); above = rw e (t .entries) }

@@ -21,7 +21,7 @@ use Rattle.graph.specs.Graph.{graphOf, sink, pathCount, wordCount}
 use Rattle.graph.specs.Conditions.{orphan, manyWords}
 use Rattle.graph.specs.Checking.{lexiconRows, imageRows, firstRows, checkAnswer}
 use Rattle.checking.specs.Tables.{TableOf, Tables, WellFormed, cappedCount}
-use Rattle.checking.specs.Judging.{graphRows, Judged}
+use Rattle.checking.specs.Judging.{graphRows, ImagesJudged}
 use Rattle.checking.proofs.Tables.{entry}
 use Rattle.checking.proofs.Arcs.{sound-of}
 use Rattle.checking.proofs.Reached.{count-within-words}
@@ -32,44 +32,49 @@ refused-no-value : {r : Refusal} {W : ℕ} → refused r ≡ value W → ⊥
 refused-no-value e = let z : _≡_ {A = ℕ} 0 1 = cc in omega arith
 
 -- a refusal by the rows promises nothing of the tables
-pub refusal : {rows : List Row} {r : Refusal} {x offsets counts : List ℕ} → unless rows (wordCount (graphOf x)) ≡ refused r
-    → Judged rows (refused r) x offsets counts
+pub refusal : {rows : List Row} {r : Refusal} {x offsets counts : List ℕ}
+    → unless rows (wordCount (graphOf x)) ≡ refused r
+    → ImagesJudged rows (refused r) x offsets counts
 refusal e = record { answered = sym e; opened = λ W q. absurd (refused-no-value q) }
 
 -- what the later rows answer, where the earlier ones are passed
 passed : {rows more : List Row} {answer : Answer ℕ} {x offsets counts : List ℕ}
     → unless rows (wordCount (graphOf x)) ≡ unless more (wordCount (graphOf x))
-    → Judged more answer x offsets counts → Judged rows answer x offsets counts
+    → ImagesJudged more answer x offsets counts → ImagesJudged rows answer x offsets counts
 passed e j = record { answered = j .answered ∙ sym e; opened = j .opened }
 
 module _ (v : List ℕ) {x offsets counts : List ℕ} where
   -- ---- 2 and 3
 
-  pub voice-length : voiceVerdict v ≡ wrongLength → Judged (imageRows v x) (refused VoiceLength) x offsets counts
+  pub voice-length : voiceVerdict v ≡ wrongLength → ImagesJudged (imageRows v x) (refused VoiceLength) x offsets counts
   unfolding imageRows voiceRows unless hasWrongLength
   voice-length e = refusal (rw e)
 
-  pub voice-range : voiceVerdict v ≡ outOfRange → Judged (imageRows v x) (refused VoiceRange) x offsets counts
+  pub voice-range : voiceVerdict v ≡ outOfRange → ImagesJudged (imageRows v x) (refused VoiceRange) x offsets counts
   unfolding imageRows voiceRows unless hasWrongLength isOutOfRange
   voice-range e = refusal (rw e)
 
-  pub voice-passed : {answer : Answer ℕ} → voiceVerdict v ≡ wellFormed → Judged (lexiconRows v x) answer x offsets counts
-      → Judged (imageRows v x) answer x offsets counts
+  pub voice-passed : {answer : Answer ℕ} → voiceVerdict v ≡ wellFormed
+      → ImagesJudged (lexiconRows v x) answer x offsets counts
+      → ImagesJudged (imageRows v x) answer x offsets counts
   unfolding imageRows voiceRows unless hasWrongLength isOutOfRange
   voice-passed e j = passed (rw e) j
 
   -- ---- 4 and 5
 
-  pub lexicon-length : lexiconVerdict (letterCount v) x ≡ wrongLength → Judged (lexiconRows v x) (refused LexiconLength) x offsets counts
+  pub lexicon-length : lexiconVerdict (letterCount v) x ≡ wrongLength
+      → ImagesJudged (lexiconRows v x) (refused LexiconLength) x offsets counts
   unfolding lexiconRows unless hasWrongLength
   lexicon-length e = refusal (rw e)
 
-  pub lexicon-range : lexiconVerdict (letterCount v) x ≡ outOfRange → Judged (lexiconRows v x) (refused LexiconRange) x offsets counts
+  pub lexicon-range : lexiconVerdict (letterCount v) x ≡ outOfRange
+      → ImagesJudged (lexiconRows v x) (refused LexiconRange) x offsets counts
   unfolding lexiconRows unless hasWrongLength isOutOfRange
   lexicon-range e = refusal (rw e)
 
-  pub lexicon-passed : {answer : Answer ℕ} → lexiconVerdict (letterCount v) x ≡ wellFormed → Judged (graphRows v x) answer x offsets counts
-      → Judged (lexiconRows v x) answer x offsets counts
+  pub lexicon-passed : {answer : Answer ℕ} → lexiconVerdict (letterCount v) x ≡ wellFormed
+      → ImagesJudged (graphRows v x) answer x offsets counts
+      → ImagesJudged (lexiconRows v x) answer x offsets counts
   unfolding lexiconRows graphRows unless hasWrongLength isOutOfRange
   lexicon-passed e j = passed (rw e) j
 
@@ -132,5 +137,6 @@ module _ (x : List ℕ) {counts : List ℕ} (t : TableOf (suc (sinkOf x)) (cappe
                 capped-few (omega (arith, k, limit))
             go false e = refl
 
-    pub tables-exact : {offsets : List ℕ} → WellFormed x → orphan (graphOf x) ≡ false → TableOf (sinkOf x) (arcsAt x) offsets → Tables x offsets counts
+    pub tables-exact : {offsets : List ℕ} → WellFormed x → orphan (graphOf x) ≡ false
+        → TableOf (sinkOf x) (arcsAt x) offsets → Tables x offsets counts
     tables-exact w reached l = record { located = l; counted = counts-exact w reached }

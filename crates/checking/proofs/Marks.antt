@@ -41,7 +41,8 @@ pub record MarksLeft (x : List ℕ) (u at stop : ℕ) (marks : List Bool) : Type
   -- what has a mark, or is still to get it
   pub marked : (s : ℕ) → getD marks s false || has s left ≡ named x (suc u) s
 
-pub marks-start : {x : List ℕ} → WellFormed x → {u at : ℕ} {marks : List Bool} → u ≤ nodeCount x → at ≡ arcsAt x u → SuccessorsMarked x u marks
+pub marks-start : {x : List ℕ} → WellFormed x → {u at : ℕ} {marks : List Bool} → u ≤ nodeCount x → at ≡ arcsAt x u
+    → SuccessorsMarked x u marks
     → MarksLeft x u (at + 2) (at + 2 + 2 * u16 x at) marks
 marks-start {x} w {u} h e m = record {
   left = successors x u;
@@ -94,7 +95,8 @@ module _ {x : List ℕ} {u at stop : ℕ} {marks : List Bool} (m : MarksLeft x u
 
 -- ---- looking for a node without a mark
 
-pub unmarked-orphan : {x : List ℕ} {marks : List Bool} → SuccessorsMarked x (sinkOf x) marks → unmarked marks (nodeCount x) ≡ orphan (graphOf x)
+pub unmarked-orphan : {x : List ℕ} {marks : List Bool} → SuccessorsMarked x (sinkOf x) marks
+    → unmarked marks (nodeCount x) ≡ orphan (graphOf x)
 unfolding unmarked orphan named sinkOf sink
 unmarked-orphan {x} m = any-same _ _ (from 1 (nodeCount x)) (λ s i. ap not (m .marked s))
 
@@ -119,10 +121,12 @@ module _ {marks : List Bool} {nodes node : ℕ} where
       go zero e d = absurd (omega arith)
       go (suc left) e d = (left, omega arith, d)
 
-  pub node-unmarked : NodesToTest marks nodes node → node ≤ nodes → getD marks node false ≡ false → true ≡ unmarked marks nodes
+  pub node-unmarked : NodesToTest marks nodes node → node ≤ nodes → getD marks node false ≡ false
+      → true ≡ unmarked marks nodes
   node-unmarked n h e = rw e at (node-split n h .2)
 
-  pub node-marked : NodesToTest marks nodes node → node ≤ nodes → getD marks node false ≡ true → NodesToTest marks nodes (node + 1)
+  pub node-marked : NodesToTest marks nodes node → node ≤ nodes → getD marks node false ≡ true
+      → NodesToTest marks nodes (node + 1)
   node-marked n h e = let s = node-split n h in rw add-one (record { left = s .0; size = s .1; decides = rw e at (s .2) })
 
   pub nodes-done : NodesToTest marks nodes node → nodes < node → false ≡ unmarked marks nodes

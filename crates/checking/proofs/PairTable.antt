@@ -75,7 +75,8 @@ module _ (g : Graph) (few : sink g < 402) where
       ]
 
   -- the pair of u with itself
-  pub row-start : {u : ℕ} {b after : List ℕ} → u < sink g → PairsMarked g (suc u) b → length after ≡ length b → BitSet (u * 408 + u) b after
+  pub row-start : {u : ℕ} {b after : List ℕ} → u < sink g → PairsMarked g (suc u) b → length after ≡ length b
+      → BitSet (u * 408 + u) b after
       → RowMarked g u (u + 1) after
   unfolding pairBit
   row-start {u} {b} {after} below m l d = record {
@@ -190,11 +191,13 @@ pub record Rows (x : List ℕ) (u : ℕ) (b : List ℕ) : Type 0 where
   pub clashes : clash (graphOf x) ≡ any (clashAt (graphOf x)) (from 0 (suc u))
 
 module _ {x : List ℕ} where
-  pub rows-start : {offsets after : List ℕ} {u k : ℕ} (b : List ℕ) → WithOffsets x offsets → u ≡ nodeCount x → k ≡ sink (graphOf x) → length after ≡ 20502
+  pub rows-start : {offsets after : List ℕ} {u k : ℕ} (b : List ℕ) → WithOffsets x offsets → u ≡ nodeCount x
+      → k ≡ sink (graphOf x) → length after ≡ 20502
       → BitSet (k * 408 + k) (zeroed (51 * (k + 1)) b) after → Rows x u after
   unfolding clash sink
   rows-start {after = after} {u} b l e f h d =
-      let m : PairsMarked (graphOf x) (sink (graphOf x)) after = table-start (graphOf x) (few-vertices l) b h (rw f at d) in
+      let m : PairsMarked (graphOf x) (sink (graphOf x)) after =
+      table-start (graphOf x) (few-vertices l) b h (rw f at d) in
       record { below = omega arith; marked = rw e m; clashes = rw e }
 
   pub rows-found : {u : ℕ} {b after : List ℕ} {answer : Bool} → Rows x u b → RowDone (graphOf x) u after answer → answer ≡ true

@@ -14,10 +14,11 @@ use borrow.Author.Tests.{le-ltb, ltb-true, ltb-false}
 use Rattle.endian.specs.Lists.{from}
 use Rattle.call.specs.declared.Refusal.{Refusal}
 use Rattle.call.specs.Table.{Answer, value, refused}
-use Rattle.lexicon.specs.Lexicon.{sinkOf, arcsAt}
+use Rattle.lexicon.specs.Lexicon.{nodeCount, sinkOf, arcsAt}
 use Rattle.graph.specs.Graph.{graphOf, pathCount}
-use Rattle.checking.specs.Tables.{vertexRow, verticesOf, openedVertices, column, slotsColumn, TableOf, Tables, Vertices, WellFormed}
-use Rattle.checking.proofs.Arcs.{has-entry}
+use Rattle.checking.specs.Tables.{vertexRow, verticesOf, openedVertices, column, arcsColumn, pathsColumn, slotsColumn, TableOf, Tables, Vertices, WellFormed, WithOffsets}
+use Rattle.checking.proofs.Tables.{entry}
+use Rattle.checking.proofs.Arcs.{has-entry, ListThere, list-there}
 use Rattle.checking.proofs.Filling.{sink-small}
 use Rattle.checking.proofs.Columns.{column-at, column-long}
 
@@ -27,7 +28,8 @@ row-at : (f : ℕ → List ℕ) (a n u : ℕ) → u < n → getD (map f (from a 
 unfolding from
 row-at f a zero u h = absurd (omega arith)
 row-at f a (suc n) zero h = ap f (sym (add-zero a))
-row-at f a (suc n) (suc u) h = let e : suc a + u ≡ a + suc u = omega arith in row-at f (suc a) n u (omega arith) ∙ ap f e
+row-at f a (suc n) (suc u) h =
+    let e : suc a + u ≡ a + suc u = omega arith in row-at f (suc a) n u (omega arith) ∙ ap f e
 
 rows-long : (f : ℕ → List ℕ) (a n : ℕ) → length (map f (from a n)) ≡ n
 unfolding from
@@ -84,7 +86,9 @@ module _ {x : List ℕ} {u : ℕ} {vertices : List (List ℕ)} (r : RowsPut x u 
       done i k (no d) = getD-set-other vertices u i row [] d ∙ r .done (omega arith)
 
   pub rows-done : sinkOf x < u → vertices ≡ verticesOf x
-  rows-done h = ext-getD [] vertices (verticesOf x) (r .long ∙ sym (vertices-long x)) (λ i k. at i (omega (arith, r .long)) (ltb i u) refl)
+  rows-done h =
+      ext-getD [] vertices (verticesOf x) (r .long ∙ sym (vertices-long x))
+      (λ i k. at i (omega (arith, r .long)) (ltb i u) refl)
     where
       at : (i : ℕ) → i < 402 → (b : Bool) → ltb i u ≡ b → getD vertices i [] ≡ getD (verticesOf x) i []
       at i k true e = r .done (ltb-true i u e) ∙ sym (vertices-at x k)
@@ -107,7 +111,8 @@ module _ (x : List ℕ) (before : List (List ℕ)) {answer : Answer ℕ} where
 
 module _ {x : List ℕ} (w : WellFormed x) where
   -- column j is f below n, where it is so in each row
-  column-of : (j n : ℕ) (f : ℕ → ℕ) → n ≤ 402 → ((u : ℕ) → getD (vertexRow x u) j 0 ≡ cond (ltb u n) (f u) 0) → TableOf n f (column j (verticesOf x))
+  column-of : (j n : ℕ) (f : ℕ → ℕ) → n ≤ 402 → ((u : ℕ) → getD (vertexRow x u) j 0 ≡ cond (ltb u n) (f u) 0)
+      → TableOf n f (column j (verticesOf x))
   column-of j n f few h = record {
     long = column-long j (verticesOf x) ∙ vertices-long x;
     holds = λ u. column-at j u (verticesOf x) ∙ at u (ltb u 402) refl;
@@ -121,7 +126,8 @@ module _ {x : List ℕ} (w : WellFormed x) where
       at u true e = rw (vertices-at x (ltb-true u 402 e)) (h u)
       at u false e =
           let l = ltb-false u 402 e in
-          rw (List·getD-eq-default (verticesOf x) [] {n = u} (omega (arith, vertices-long x)), le-ltb u n (omega arith)) (none j)
+          let after = List·getD-eq-default (verticesOf x) [] {n = u} (omega (arith, vertices-long x)) in
+          rw (after, le-ltb u n (omega arith)) (none j)
 
   pub vertices-hold : Vertices x (verticesOf x)
   unfolding vertexRow
@@ -137,9 +143,25 @@ module _ {x : List ℕ} (w : WellFormed x) where
   -- no vertex has a slot yet
   pub slots-empty : (u : ℕ) → getD (slotsColumn (verticesOf x)) u 0 ≡ 0
   unfolding vertexRow
-  slots-empty u = column-of 2 0 (λ _. 0) (omega arith) (λ u. rw (le-ltb u 0 (omega arith))) .holds u ∙ rw (le-ltb u 0 (omega arith))
+  slots-empty u =
+      column-of 2 0 (λ _. 0) (omega arith) (λ u. rw (le-ltb u 0 (omega arith))) .holds u ∙ rw (le-ltb u 0 (omega arith))
 
   -- what a value of `open` leaves
   pub opened-vertices : {answer : Answer ℕ} (before : List (List ℕ)) {after : List (List ℕ)} {W : ℕ} → answer ≡ value W
       → after ≡ openedVertices answer x before → Vertices x after
   opened-vertices before e h = let q = h ∙ opened-value x before e in rw q vertices-hold
+
+-- ---- an entry of a row
+
+pub row-entry : (j : ℕ) (vertices : List (List ℕ)) {n : ℕ} {f : ℕ → ℕ} {u : ℕ} → TableOf n f (column j vertices) → u < n
+    → getD (getD vertices u []) j 0 ≡ f u
+row-entry j vertices {u = u} t h = sym (column-at j u vertices) ∙ entry t h
+
+-- the list of a vertex, by its row
+module _ {x : List ℕ} (vertices : List (List ℕ)) (l : WithOffsets x (arcsColumn vertices)) where
+  pub arcs-entry : {u : ℕ} → u ≤ nodeCount x → getD (getD vertices u []) 0 0 ≡ arcsAt x u
+  unfolding sinkOf
+  arcs-entry h = row-entry 0 vertices (l .table) (omega arith)
+
+  pub arcs-there : {u : ℕ} → u ≤ nodeCount x → ListThere x (getD (getD vertices u []) 0 0)
+  arcs-there h = list-there (l .well-formed) h (arcs-entry h)

@@ -26,6 +26,6 @@ graphRows v x =
     ∷ []
 
 -- images judged by some of the rows: after a refusal the tables are left as they are found
-pub record Judged (rows : List Row) (answer : Answer ℕ) (x offsets counts : List ℕ) : Type 0 where
+pub record ImagesJudged (rows : List Row) (answer : Answer ℕ) (x offsets counts : List ℕ) : Type 0 where
   pub answered : answer ≡ unless rows (wordCount (graphOf x))
   pub opened : (W : ℕ) → answer ≡ value W → Tables x offsets counts

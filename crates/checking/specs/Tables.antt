@@ -12,16 +12,17 @@ use Rattle.voice.specs.Fields.{wellFormed}
 use Rattle.lexicon.specs.Lexicon.{sinkOf, arcsAt, lexiconVerdict}
 use Rattle.graph.specs.Graph.{Graph, graphOf, pathCount}
 
--- the row of vertex u: where its list of successors begins, with its count (0 to N), its path count (0 to N + 1), and 0 for its first slot in the
--- token store, which the search fills; after the sink nothing but 0
+-- the row of vertex u: where its list of successors begins, with its count (0 to N); its path count (0 to N + 1); and 0
+-- for its first slot in the token store, which the search fills. After the sink nothing but 0
 unfoldable pub vertexRow : List ℕ → ℕ → List ℕ
-vertexRow x u = cond (ltb u (sinkOf x)) (arcsAt x u) 0 ∷ cond (ltb u (suc (sinkOf x))) (pathCount (graphOf x) u) 0 ∷ 0 ∷ []
+vertexRow x u =
+    cond (ltb u (sinkOf x)) (arcsAt x u) 0 ∷ cond (ltb u (suc (sinkOf x))) (pathCount (graphOf x) u) 0 ∷ 0 ∷ []
 
 -- 402 rows, enough for every vertex of 400 nodes
 unfoldable pub verticesOf : List ℕ → List (List ℕ)
 verticesOf x = map (vertexRow x) (from 0 402)
 
--- the table that `open` is lent, as it leaves it: with these rows where it answers a value, and a refusal leaves it as it was
+-- the table that `open` is lent, as it leaves it: these rows with a value, and a refusal leaves it as it was
 unfoldable pub openedVertices : Answer ℕ → List ℕ → List (List ℕ) → List (List ℕ)
 openedVertices (value W) x vertices = verticesOf x
 openedVertices (refused r) x vertices = vertices

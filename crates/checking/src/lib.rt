@@ -1,5 +1,5 @@
-// Checking: the conditions 6 to 10 of document 01's refusal table, and the calls that test 1 to 10: `open`, which leaves a
-// table for the work that follows, and `check`.
+// Checking: the conditions 6 to 10 of document 01's refusal table, and the calls that test 1 to 10: `open`, which
+// leaves a table for the work that follows, and `check`.
 ghost use mathlib.Core.Path.{_≡_};
 ghost use Rattle.call.specs.Table.{answerOf};
 ghost use Rattle.voice.specs.Fields.{wellFormed};
@@ -7,7 +7,7 @@ ghost use Rattle.voice.specs.Voice.{letterCount, voiceVerdict};
 ghost use Rattle.lexicon.specs.Lexicon.{lexiconVerdict};
 ghost use Rattle.graph.specs.Checking.{lexiconRows, imageRows, checkAnswer, checkWork};
 ghost use Rattle.checking.specs.Tables.{openedVertices};
-ghost use Rattle.checking.specs.Judging.{Blank, graphRows, Judged};
+ghost use Rattle.checking.specs.Judging.{Blank, graphRows, ImagesJudged};
 use crate::counts::count_paths;
 use crate::heights::longest_word;
 use crate::offsets::find_offsets;
@@ -37,8 +37,8 @@ pub const LETTERS: u16 = 32;
 
 const WORDS: u32 = 1048576;
 
-// The columns of a vertex's row: where its list of successors begins in the image, with its count; its path count; and its
-// first slot in the token store, which is the search's to fill.
+// The columns of a vertex's row: where its list of successors begins in the image, with its count; its path count; and
+// its first slot in the token store, which is the search's to fill.
 pub const ARCS_AT: usize = 0;
 
 pub const PATHS: usize = 1;
@@ -56,7 +56,8 @@ fn judge_graph(
     requires { ⌜ voiceVerdict (now voice) ≡ wellFormed ⌝ }
     requires { ⌜ lexiconVerdict (letterCount (now voice)) (now lexicon) ≡ wellFormed ⌝ }
     requires { ⌜ Blank (now pairs) (now offsets) (now counts) ⌝ }
-    ensures { λ r. ⌜ Judged (graphRows (now (voice .entry)) (now (lexicon .entry))) (answerOf r) (now (lexicon .entry)) (now (offsets .exit)) (now (counts .exit)) ⌝ }
+    ensures { λ r. ⌜ ImagesJudged (graphRows (now (voice .entry)) (now (lexicon .entry))) (answerOf r)
+        (now (lexicon .entry)) (now (offsets .exit)) (now (counts .exit)) ⌝ }
 {
     find_offsets(lexicon, offsets);
     if has_orphan(lexicon, offsets) {
@@ -89,7 +90,8 @@ fn judge_lexicon(
 ) -> Answer
     requires { ⌜ voiceVerdict (now voice) ≡ wellFormed ⌝ }
     requires { ⌜ Blank (now pairs) (now offsets) (now counts) ⌝ }
-    ensures { λ r. ⌜ Judged (lexiconRows (now (voice .entry)) (now (lexicon .entry))) (answerOf r) (now (lexicon .entry)) (now (offsets .exit)) (now (counts .exit)) ⌝ }
+    ensures { λ r. ⌜ ImagesJudged (lexiconRows (now (voice .entry)) (now (lexicon .entry))) (answerOf r)
+        (now (lexicon .entry)) (now (offsets .exit)) (now (counts .exit)) ⌝ }
 {
     match lexicon::judge(lexicon, voice[0] as usize) {
         Verdict::WrongLength => Answer::Refused(Refusal::LexiconLength),
@@ -107,7 +109,8 @@ fn judge_images(
     counts: &mut [u32; 402],
 ) -> Answer
     requires { ⌜ Blank (now pairs) (now offsets) (now counts) ⌝ }
-    ensures { λ r. ⌜ Judged (imageRows (now (voice .entry)) (now (lexicon .entry))) (answerOf r) (now (lexicon .entry)) (now (offsets .exit)) (now (counts .exit)) ⌝ }
+    ensures { λ r. ⌜ ImagesJudged (imageRows (now (voice .entry)) (now (lexicon .entry))) (answerOf r)
+        (now (lexicon .entry)) (now (offsets .exit)) (now (counts .exit)) ⌝ }
 {
     match voice::judge(voice) {
         Verdict::WrongLength => Answer::Refused(Refusal::VoiceLength),
@@ -116,12 +119,13 @@ fn judge_images(
     }
 }
 
-// Checks both images, answers W, and leaves the row of each vertex for the work that follows. A refusal leaves the table
-// as it was.
+// Checks both images, answers W, and leaves the row of each vertex for the work that follows. A refusal leaves the
+// table as it was.
 pub fn open(voice: &[u8], lexicon: &[u8], work: &mut [u8], vertices: &mut [[u32; 3]; 402]) -> Answer
     ensures { λ r. ⌜ answerOf r ≡ checkAnswer (now (voice .entry)) (now (lexicon .entry)) (now (work .entry)) ⌝ }
     ensures { λ _. ⌜ now (work .exit) ≡ checkWork (now (voice .entry)) (now (lexicon .entry)) (now (work .entry)) ⌝ }
-    ensures { λ r. ⌜ now (vertices .exit) ≡ openedVertices (answerOf r) (now (lexicon .entry)) (now (vertices .entry)) ⌝ }
+    ensures { λ r. ⌜ now (vertices .exit)
+        ≡ openedVertices (answerOf r) (now (lexicon .entry)) (now (vertices .entry)) ⌝ }
 {
     if work.len() < WORK_SPACE {
         return Answer::Refused(Refusal::WorkSpace);

@@ -10,7 +10,8 @@ use crate::offsets::number_at;
 
 // Marks the successors of a vertex, after those of the vertices below it.
 fn mark_successors(lexicon: &[u8], offsets: &[u16; 402], vertex: usize, marks: &mut [bool; 402])
-    requires { ⌜ WithOffsets (now lexicon) (now offsets) × (vertex ≤ nodeCount (now lexicon)) × SuccessorsMarked (now lexicon) vertex (now marks) ⌝ }
+    requires { ⌜ WithOffsets (now lexicon) (now offsets) × (vertex ≤ nodeCount (now lexicon))
+        × SuccessorsMarked (now lexicon) vertex (now marks) ⌝ }
     ensures { λ _. ⌜ SuccessorsMarked (now (lexicon .entry)) (suc vertex) (now (marks .exit)) ⌝ }
 {
     let start = offsets[vertex] as usize;
@@ -25,7 +26,8 @@ fn mark_successors(lexicon: &[u8], offsets: &[u16; 402], vertex: usize, marks: &
 
 // Marks every successor.
 fn mark_all(lexicon: &[u8], offsets: &[u16; 402], nodes: usize, marks: &mut [bool; 402])
-    requires { ⌜ WithOffsets (now lexicon) (now offsets) × (nodes ≡ nodeCount (now lexicon)) × SuccessorsMarked (now lexicon) 0 (now marks) ⌝ }
+    requires { ⌜ WithOffsets (now lexicon) (now offsets) × (nodes ≡ nodeCount (now lexicon))
+        × SuccessorsMarked (now lexicon) 0 (now marks) ⌝ }
     ensures { λ _. ⌜ SuccessorsMarked (now (lexicon .entry)) (sinkOf (now (lexicon .entry))) (now (marks .exit)) ⌝ }
 {
     let mut vertex = 0;

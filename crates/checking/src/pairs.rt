@@ -55,7 +55,8 @@ fn join_row(mask: &mut [u8; 51], pairs: &[u8], at: usize)
 
 // Joins the rows of u's successors to the mask, or answers that one of them has something in common with an earlier one.
 fn gather(lexicon: &[u8], offsets: &[u16; 402], u: usize, pairs: &[u8], mask: &mut [u8; 51]) -> bool
-    requires { ⌜ WithOffsets (now lexicon) (now offsets) × (u ≤ nodeCount (now lexicon)) × PairsMarked (graphOf (now lexicon)) (suc u) (now pairs) × (now mask ≡ replicate 51 0) ⌝ }
+    requires { ⌜ WithOffsets (now lexicon) (now offsets) × (u ≤ nodeCount (now lexicon))
+        × PairsMarked (graphOf (now lexicon)) (suc u) (now pairs) × (now mask ≡ replicate 51 0) ⌝ }
     ensures { λ r. ⌜ Gathered (graphOf (now (lexicon .entry))) u (now (mask .exit)) r ⌝ }
 {
     let start = offsets[u] as usize;
@@ -98,7 +99,8 @@ fn mark_pair(
     mask: &[u8; 51],
     pairs: &mut [u8],
 )
-    requires { ⌜ WithOffsets (now lexicon) (now offsets) × (u ≤ nodeCount (now lexicon)) × (v ≤ nodeCount (now lexicon)) × (length (now pairs) ≡ 20502) ⌝ }
+    requires { ⌜ WithOffsets (now lexicon) (now offsets) × (u ≤ nodeCount (now lexicon)) × (v ≤ nodeCount (now lexicon))
+        × (length (now pairs) ≡ 20502) ⌝ }
     ensures { λ _. ⌜ PairSet u v (maskTells (graphOf (now (lexicon .entry))) (now (mask .entry)) u v) (now (pairs .entry)) (now (pairs .exit)) ⌝ }
 {
     if lexicon[1 + u] != lexicon[1 + v] {
@@ -112,7 +114,8 @@ fn mark_pair(
 
 // Marks the pairs of u and the vertices from u on.
 fn mark_row(lexicon: &[u8], offsets: &[u16; 402], u: usize, mask: &[u8; 51], pairs: &mut [u8])
-    requires { ⌜ WithOffsets (now lexicon) (now offsets) × (1 ≤ u) × (u ≤ nodeCount (now lexicon)) × MaskOf (graphOf (now lexicon)) u (now mask) × PairsMarked (graphOf (now lexicon)) (suc u) (now pairs) ⌝ }
+    requires { ⌜ WithOffsets (now lexicon) (now offsets) × (1 ≤ u) × (u ≤ nodeCount (now lexicon))
+        × MaskOf (graphOf (now lexicon)) u (now mask) × PairsMarked (graphOf (now lexicon)) (suc u) (now pairs) ⌝ }
     ensures { λ _. ⌜ PairsMarked (graphOf (now (lexicon .entry))) u (now (pairs .exit)) ⌝ }
 {
     let nodes = number_at(lexicon, 0);
@@ -126,7 +129,8 @@ fn mark_row(lexicon: &[u8], offsets: &[u16; 402], u: usize, mask: &[u8; 51], pai
 
 // Whether two successors of u have something in common; if not, the pairs with u are marked.
 fn add_row(lexicon: &[u8], offsets: &[u16; 402], u: usize, pairs: &mut [u8]) -> bool
-    requires { ⌜ WithOffsets (now lexicon) (now offsets) × (1 ≤ u) × (u ≤ nodeCount (now lexicon)) × PairsMarked (graphOf (now lexicon)) (suc u) (now pairs) ⌝ }
+    requires { ⌜ WithOffsets (now lexicon) (now offsets) × (1 ≤ u) × (u ≤ nodeCount (now lexicon))
+        × PairsMarked (graphOf (now lexicon)) (suc u) (now pairs) ⌝ }
     ensures { λ r. ⌜ RowDone (graphOf (now (lexicon .entry))) u (now (pairs .exit)) r ⌝ }
 {
     let mut mask = [0; 51];
@@ -148,7 +152,8 @@ fn begin_table(sink: usize, pairs: &mut [u8])
 
 // Adds the rows from vertex N down, until one finds two successors with something in common. The root has no letter, so it needs no row.
 pub(crate) fn has_same_letters(lexicon: &[u8], offsets: &[u16; 402], pairs: &mut [u8]) -> bool
-    requires { ⌜ WithOffsets (now lexicon) (now offsets) × (orphan (graphOf (now lexicon)) ≡ false) × (length (now pairs) ≡ 20502) ⌝ }
+    requires { ⌜ WithOffsets (now lexicon) (now offsets) × (orphan (graphOf (now lexicon)) ≡ false)
+        × (length (now pairs) ≡ 20502) ⌝ }
     ensures { λ r. ⌜ r ≡ sameLetters (graphOf (now (lexicon .entry))) ⌝ }
     ensures { λ _. ⌜ length (now (pairs .exit)) ≡ length (now (pairs .entry)) ⌝ }
 {

@@ -19,7 +19,8 @@ use Rattle.graph.specs.Graph.{graphOf, wordCount}
 use Rattle.graph.specs.Words.{wordOfCode}
 use Rattle.graph.specs.Checking.{firstRows, checkAnswer}
 use Rattle.graph.proofs.Accepted.{accepted, Passed, passed}
-use Rattle.checking.specs.Tables.{Tables}
+use Rattle.checking.specs.Tables.{openedVertices}
+use Rattle.checking.proofs.VertexRows.{opened-vertices}
 use Rattle.codes.specs.Lookup.{wordToCodeRows, wordToCodeAnswer, codeToWordRows, codeToWordAnswer, codeToWordOut, listing, listRows, listAnswer, listOut}
 use Rattle.codes.specs.Steps.{OpenedImages, roomAnswer}
 use Rattle.codes.specs.Marks.{lookedUp}
@@ -48,11 +49,16 @@ module _ (letters out : List ℕ) {n : ℕ} (h : n ≤ length letters) where
 
 -- ---- after checking
 
-pub opened-images : (v x work offsets counts : List ℕ) {W : ℕ} → Passed v x work W → Tables x offsets counts → OpenedImages v x offsets counts
-opened-images v x work offsets counts p o = record {
-  accepted = p .images;
-  tabled = record { located = record { well-formed = well-formed (accepted (p .images)); table = o .located }; counted = o .counted };
-}
+pub opened-images : (v x work : List ℕ) (before : List (List ℕ)) {after : List (List ℕ)} {answer : Answer ℕ} {W : ℕ}
+    → Passed v x work W
+    → answer ≡ value W → after ≡ openedVertices answer x before → OpenedImages v x after
+opened-images v x work before p e h =
+    let w = well-formed (accepted (p .images)) in
+    let t = opened-vertices w before e h .tables in
+    record {
+      accepted = p .images;
+      tabled = record { located = record { well-formed = w; table = t .located }; counted = t .counted };
+    }
 
 module _ (v x work : List ℕ) where
   -- ---- code to word
@@ -106,7 +112,8 @@ module _ (v x work : List ℕ) where
     unfolding listAnswer listRows roomRows
     list-value h = unless-past (firstRows v x work) _ _ (passed v x work h .rows)
 
-    pub list-written : {W : ℕ} {answer : Answer ℕ} {out′ : List ℕ} → checkAnswer v x work ≡ value W → BytesAnswered (listing v (graphOf x)) answer out out′
+    pub list-written : {W : ℕ} {answer : Answer ℕ} {out′ : List ℕ} → checkAnswer v x work ≡ value W
+        → BytesAnswered (listing v (graphOf x)) answer out out′
         → (answer ≡ listAnswer v x work out) × (out′ ≡ listOut v x work out)
     unfolding listOut
     list-written h a =

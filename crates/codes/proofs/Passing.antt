@@ -15,8 +15,8 @@ use Rattle.graph.proofs.Sound.{Sound}
 use Rattle.graph.proofs.Accepted.{accepted, sound-images}
 use Rattle.graph.proofs.Ways.{some-way}
 use Rattle.checking.proofs.Arcs.{shape-of}
-use Rattle.codes.specs.Steps.{Readable}
-use Rattle.codes.specs.Lines.{linesFrom, linesOver, Fits, Walkable, WalksFrom, RoomForLines, Wrote}
+use Rattle.codes.specs.Steps.{OpenedImages, Readable}
+use Rattle.codes.specs.Lines.{linesFrom, linesOver, Fits, WalksFrom, RoomForLines, Wrote}
 use Rattle.codes.proofs.Words.{readable}
 use Rattle.codes.proofs.Lines.{over-none, over-more, over-part, lines-sink, lines-node, fits-letter, fits-next, wrote-none, wrote-both, one-letter}
 use Rattle.codes.proofs.Heads.{Head, head-at}
@@ -68,28 +68,28 @@ module _ {v x : List ℕ} {u depth at : ℕ} {word₀ out₀ : List ℕ} where
 -- ---- the arcs of a vertex
 
 -- the walk enters u, a node or the sink
-pub record Enters (v x offsets : List ℕ) (u depth : ℕ) : Type 0 where
-  pub walkable : Walkable v x offsets
+pub record Enters (v x : List ℕ) (vertices : List (List ℕ)) (u depth : ℕ) : Type 0 where
+  pub opened : OpenedImages v x vertices
   pub above : 0 < u
   pub bounded : u ≤ sinkOf x
   pub fits : Fits v (graphOf x) depth u
 
-module _ {v x offsets : List ℕ} {u depth : ℕ} (p : WalksFrom v x offsets u depth) where
+module _ {v x : List ℕ} {vertices : List (List ℕ)} {u depth : ℕ} (p : WalksFrom v x vertices u depth) where
   -- its list in the image
-  pub head-of : Head x u (getD offsets u 0)
-  head-of = head-at (p .walkable .located) (p .below)
+  pub head-of : Head x u (getD (getD vertices u []) 0 0)
+  head-of = head-at (p .opened .tabled) (p .below)
 
   pub vertex-few : u ≤ 400
-  vertex-few = omega (arith, p .below, shape-of (p .walkable .located .well-formed) .few)
+  vertex-few = omega (arith, p .below, shape-of (p .opened .tabled .located .well-formed) .few)
 
   -- arc i is read as s
-  module _ {i s : ℕ} (h : i < arcCount x u) (e : s ≡ u16 x (getD offsets u 0 + 2 + 2 * i)) where
+  module _ {i s : ℕ} (h : i < arcCount x u) (e : s ≡ u16 x (getD (getD vertices u []) 0 0 + 2 + 2 * i)) where
     pub leads-to : getD (successors x u) i 0 ≡ s
     leads-to = head-of .number h ∙ sym e
 
-    pub enters : Enters v x offsets s depth
+    pub enters : Enters v x vertices s depth
     enters = rw e (record {
-      walkable = p .walkable;
+      opened = p .opened;
       above = omega (arith, head-of .rises h);
       bounded = head-of .rises h .1;
       fits = p .fits (head-of .arc h);
@@ -97,9 +97,9 @@ module _ {v x offsets : List ℕ} {u depth : ℕ} (p : WalksFrom v x offsets u d
 
 -- ---- the vertex that an arc leads to
 
-module _ {v x offsets : List ℕ} {u depth : ℕ} (e : Enters v x offsets u depth) where
+module _ {v x : List ℕ} {vertices : List (List ℕ)} {u depth : ℕ} (e : Enters v x vertices u depth) where
   ok : Sound (graphOf x)
-  ok = sound-images (accepted (e .walkable .accepted))
+  ok = sound-images (accepted (e .opened .accepted))
 
   pub fits-word : depth ≤ 32
   unfolding sink sinkOf
@@ -112,15 +112,16 @@ module _ {v x offsets : List ℕ} {u depth : ℕ} (e : Enters v x offsets u dept
   module _ (h : u ≤ nodeCount x) where
     pub letter-there : Readable v x u
     unfolding sinkOf
-    letter-there = readable (accepted (e .walkable .accepted)) (e .above) (omega arith)
+    letter-there = readable (accepted (e .opened .accepted)) (e .above) (omega arith)
 
     pub room : depth < 32
     unfolding sink
     room = fits-letter ok v (e .above) (omega arith) (e .fits)
 
-    pub starts : WalksFrom v x offsets u (depth + 1)
+    pub starts : WalksFrom v x vertices u (depth + 1)
     unfolding sink
-    starts = record { walkable = e .walkable; below = h; fits = λ m. fits-next ok v depth (e .above) (omega arith) (e .fits) m }
+    starts =
+        record { opened = e .opened; below = h; fits = λ m. fits-next ok v depth (e .above) (omega arith) (e .fits) m }
 
     pub at-node : {b : ℕ} → b ≡ printByte v (nodeLetter x u) → (word : List ℕ) → depth < length word
         → linesFrom v (graphOf x) u (take depth word) ≡ linesOver v (graphOf x) (successors x u) (take (depth + 1) (set word depth b))

@@ -1,6 +1,6 @@
 -- Adding up the arcs on all ways from a vertex, successor by successor, from the numbers of the vertices above it. Assumes nothing.
 use mathlib.Core.Path.{_≡_, sym, _∙_}
-use mathlib.Core.List.{List, map}
+use mathlib.Core.List.{List, [], map}
 use Prim.Native.Nat.{ℕ, suc, _+_, _*_, _^_, _≤_, _<_}
 use native.Mathlib.Omega.{arith}
 use native.Mathlib.Decide.{ℕ-discrete}
@@ -11,19 +11,18 @@ use Rattle.endian.specs.Bytes.{u16}
 use Rattle.lexicon.specs.Lexicon.{nodeCount, sinkOf, arcCount, successors}
 use Rattle.graph.specs.Graph.{graphOf, sink}
 use Rattle.graph.proofs.Sound.{Sound}
-use Rattle.checking.proofs.Tables.{entry}
 use Rattle.checking.proofs.Arcs.{shape-of, sound-of}
 use Rattle.checking.proofs.Filling.{count-there}
 use Rattle.codes.specs.Lines.{arcsOnWays, Countable, CountedFrom}
 use Rattle.codes.proofs.Sizes.{arcs-sink, arcs-below, arcs-most}
-use Rattle.codes.proofs.Heads.{Head, head-at, none-left}
+use Rattle.codes.proofs.Heads.{Head, paths-of, head-at, none-left}
 
 -- what is added up, and what the successors from number i on have
 pub record Added (x : List ℕ) (u i total : ℕ) : Type 0 where
   pub inside : i ≤ arcCount x u
   pub whole : total + sum (map (arcsOnWays (graphOf x)) (drop i (successors x u))) ≡ arcsOnWays (graphOf x) u
 
-module _ {x offsets counts : List ℕ} (c : Countable x offsets counts) where
+module _ {x : List ℕ} {vertices : List (List ℕ)} (c : Countable x vertices) where
   ok : Sound (graphOf x)
   ok = sound-of (c .tabled .located .well-formed)
 
@@ -36,15 +35,19 @@ module _ {x offsets counts : List ℕ} (c : Countable x offsets counts) where
   total-fits {u} h = omega (arith, arcs-most ok (omega (arith, nodes .1)) u, c .few h)
 
   module _ {u : ℕ} (h : u ≤ nodeCount x) where
-    pub head : Head x u (getD offsets u 0)
-    head = head-at (c .tabled .located) h
+    pub head : Head x u (getD (getD vertices u []) 0 0)
+    head = head-at (c .tabled) h
 
-    pub added-none : Added x u 0 (getD counts u 0)
+    pub added-none : Added x u 0 (getD (getD vertices u []) 1 0)
     unfolding sinkOf sink
-    added-none = record { inside = omega arith; whole = rw (entry (c .tabled .counted) {u = u} (omega arith)) (sym (arcs-below ok (omega arith))) }
+    added-none = record {
+      inside = omega arith;
+      whole = rw (paths-of (c .tabled) {u = u} (omega arith)) (sym (arcs-below ok (omega arith)));
+    }
 
     module _ {totals : List ℕ} (t : CountedFrom x totals (suc u)) where
-      pub added-next : {i total s : ℕ} → i < arcCount x u → s ≡ u16 x (getD offsets u 0 + 2 + 2 * i) → Added x u i total
+      pub added-next : {i total s : ℕ} → i < arcCount x u → s ≡ u16 x (getD (getD vertices u []) 0 0 + 2 + 2 * i)
+          → Added x u i total
           → Added x u (i + 1) (total + getD totals s 0)
       unfolding sum
       added-next {i} {total} {s} k e a =
@@ -65,7 +68,7 @@ module _ {x offsets counts : List ℕ} (c : Countable x offsets counts) where
 
 -- ---- the table, from the sink down
 
-module _ {x offsets counts : List ℕ} (c : Countable x offsets counts) where
+module _ {x : List ℕ} {vertices : List (List ℕ)} (c : Countable x vertices) where
   pub counted-none : {totals : List ℕ} → getD totals (sinkOf x) 0 ≡ 0 → CountedFrom x totals (sinkOf x)
   unfolding sinkOf sink
   counted-none e = record { holds = λ {s} h k. let q : s ≡ sinkOf x = omega arith in rw q (e ∙ sym (arcs-sink (ok c))) }

@@ -20,16 +20,10 @@ use Rattle.graph.specs.Words.{wordOfPath, wordOfCode}
 use Rattle.graph.proofs.Sound.{Sound, below-sink}
 use Rattle.graph.proofs.Codes.{pathCount-sink, pathCount-below, increment-at}
 use Rattle.graph.proofs.Paths.{full-paths, at-code, wordOfCode-at}
-use Rattle.graph.proofs.Accepted.{AcceptedImages, accepted, sound-images}
-use Rattle.checking.proofs.Tables.{entry}
+use Rattle.graph.proofs.Accepted.{AcceptedImages, sound-images}
 use Rattle.checking.proofs.Arcs.{ArcsToRead, ArcNext, arcs-start, arc-next, sound-of}
-use Rattle.codes.specs.Steps.{Tabled, OpenedImages, Stepped, Spelled}
+use Rattle.codes.specs.Steps.{Tabled, Stepped, Spelled}
 use Rattle.codes.proofs.Words.{word-node, word-root, word-sink, word-short}
-
--- ---- the tables
-
-pub count-entry : {x offsets counts : List ℕ} → Tabled x offsets counts → {u : ℕ} → u ≤ sinkOf x → getD counts u 0 ≡ pathCount (graphOf x) u
-count-entry t h = entry (t .counted) (omega arith)
 
 -- ---- one arc
 
@@ -46,7 +40,8 @@ module _ {g : Graph} (ok : Sound g) {u code : ℕ} (h : u < sink g) where
   passed-none k = record { earlier = []; split = refl; code-is = omega arith; below = rw (← pathCount-below ok h) k }
 
   -- it is below the next one's count, and that is the arc
-  pub passed-here : {left s : ℕ} {later : List ℕ} → CodePassed g u code left (s ∷ later) → left < pathCount g s → Stepped g u code s left
+  pub passed-here : {left s : ℕ} {later : List ℕ} → CodePassed g u code left (s ∷ later) → left < pathCount g s
+      → Stepped g u code s left
   passed-here {s = s} {later = later} p k = record {
     arc = rw (p .split) (Memᴰ·append-right (p .earlier) (List·Memᴰ·head refl));
     split = p .code-is ∙ rw (increment-at ok h (p .earlier) later s (p .split));
@@ -71,7 +66,8 @@ module _ {g : Graph} (ok : Sound g) {u code : ℕ} (h : u < sink g) where
   chosen [] p = absurd (omega (arith, p .below))
   chosen (s ∷ later) {left} p = go (ltb left (pathCount g s)) refl (λ q. chosen later q)
     where
-      go : (b : Bool) → ltb left (pathCount g s) ≡ b → (CodePassed g u code (left - pathCount g s) later → (s : ℕ) × (left : ℕ) × Stepped g u code s left)
+      go : (b : Bool) → ltb left (pathCount g s) ≡ b
+          → (CodePassed g u code (left - pathCount g s) later → (s : ℕ) × (left : ℕ) × Stepped g u code s left)
           → (s : ℕ) × (left : ℕ) × Stepped g u code s left
       go true e on = (s, left, passed-here p (ltb-true left (pathCount g s) e))
       go false e on = on (passed-on p (ltb-false left (pathCount g s) e))
@@ -121,7 +117,7 @@ inside : (x : List ℕ) {u : ℕ} → u ≤ nodeCount x → u < sink (graphOf x)
 unfolding sink
 inside x h = omega arith
 
-module _ {x offsets counts : List ℕ} (t : Tabled x offsets counts) {u code : ℕ} (h : u ≤ nodeCount x) where
+module _ {x : List ℕ} {vertices : List (List ℕ)} (t : Tabled x vertices) {u code : ℕ} (h : u ≤ nodeCount x) where
   pub pass-start : {at : ℕ} → at ≡ arcsAt x u → code < pathCount (graphOf x) u → ArcsToPass x u code (at + 2) code
   pass-start e k = record {
     later = successors x u;
@@ -139,7 +135,8 @@ module _ {x offsets counts : List ℕ} (t : Tabled x offsets counts) {u code : �
     unfolding sum
     pass-arc = arc-next (p .arcs) (go (p .later) (p .arcs) (p .passed .below))
       where
-        go : (later : List ℕ) → ArcsToRead x u at (p .stop) later → left < sum (map (pathCount (graphOf x)) later) → at < p .stop
+        go : (later : List ℕ) → ArcsToRead x u at (p .stop) later → left < sum (map (pathCount (graphOf x)) later)
+            → at < p .stop
         go [] a k = absurd (omega arith)
         go (s ∷ later) a k = omega (arith, a .size)
 
@@ -170,10 +167,7 @@ pub record LettersLeft (v x : List ℕ) (code : ℕ) (letters : List ℕ) (n u l
   pub goes-on : (q : List ℕ) → ArcPath (graphOf x) u q → codeFrom (graphOf x) u q ≡ left
       → wordOfCode v (graphOf x) code ≡ take n letters ++ wordOfPath v (graphOf x) (u ∷ q)
 
-module _ {v x offsets counts : List ℕ} (opened-images : OpenedImages v x offsets counts) {code : ℕ} (k : code < wordCount (graphOf x)) where
-  images : AcceptedImages v x
-  images = accepted (opened-images .accepted)
-
+module _ {v x : List ℕ} (images : AcceptedImages v x) {code : ℕ} (k : code < wordCount (graphOf x)) where
   ok : Sound (graphOf x)
   ok = sound-images images
 

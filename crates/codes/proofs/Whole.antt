@@ -24,14 +24,14 @@ use Rattle.codes.proofs.Words.{path-short, word-root}
 use Rattle.codes.proofs.Lines.{lines-root, listing-lines}
 use Rattle.codes.proofs.Sizes.{listing-size}
 
-module _ {v x offsets counts : List ℕ} (r : OpenedImages v x offsets counts) where
+module _ {v x : List ℕ} {vertices : List (List ℕ)} (r : OpenedImages v x vertices) where
   images : AcceptedImages v x
   images = accepted (r .accepted)
 
   ok : Sound (graphOf x)
   ok = sound-images images
 
-  pub countable : Countable x offsets counts
+  pub countable : Countable x vertices
   unfolding sink sinkOf manyWords
   countable = record {
     tabled = r .tabled;
@@ -45,9 +45,9 @@ module _ {v x offsets counts : List ℕ} (r : OpenedImages v x offsets counts) w
       let word = path-short images (Memᴰ·map (λ p. 0 ∷ p) (way-on ok {u = 0} (omega arith) m k)) in
       omega (arith, word, ap length (word-root v (graphOf x) (s ∷ p)))
 
-  pub root-passes : WalksFrom v x offsets 0 0
+  pub root-passes : WalksFrom v x vertices 0 0
   root-passes = record {
-    walkable = record { accepted = r .accepted; located = r .tabled .located };
+    opened = r;
     below = omega arith;
     fits = root-fits;
   }

@@ -13,9 +13,7 @@ use Rattle.call.specs.Buffers.{written}
 use Rattle.lexicon.specs.Lexicon.{nodeCount, sinkOf, successors}
 use Rattle.graph.specs.Graph.{Graph, graphOf, sink, ways, pathCount}
 use Rattle.graph.specs.Words.{wordOfPath}
-use Rattle.graph.specs.Checking.{Accepted}
-use Rattle.checking.specs.Tables.{WithOffsets}
-use Rattle.codes.specs.Steps.{Tabled}
+use Rattle.codes.specs.Steps.{Tabled, OpenedImages}
 
 -- ---- the lines
 
@@ -33,14 +31,9 @@ Fits v g depth u = (p : List ℕ) → List·Memᴰ p (ways g (sink g) u) → dep
 
 -- ---- the walk
 
--- accepted images, with the table of offsets
-pub record Walkable (v x offsets : List ℕ) : Type 0 where
-  pub accepted : Accepted v x
-  pub located : WithOffsets x offsets
-
 -- the walk goes through the arcs of u, the root or a node
-pub record WalksFrom (v x offsets : List ℕ) (u depth : ℕ) : Type 0 where
-  pub walkable : Walkable v x offsets
+pub record WalksFrom (v x : List ℕ) (vertices : List (List ℕ)) (u depth : ℕ) : Type 0 where
+  pub opened : OpenedImages v x vertices
   pub below : u ≤ nodeCount x
   pub fits : {s : ℕ} → List·Memᴰ s (successors x u) → Fits v (graphOf x) depth s
 
@@ -64,9 +57,9 @@ pub record Wrote (lines : List ℕ) (depth at : ℕ) (word word′ out out′ : 
 unfoldable pub arcsOnWays : Graph → ℕ → ℕ
 arcsOnWays g u = sum (map length (ways g (sink g) u))
 
--- tables of a lexicon that has no more words than any may have
-pub record Countable (x offsets counts : List ℕ) : Type 0 where
-  pub tabled : Tabled x offsets counts
+-- the table of a lexicon that has no more words than any may have
+pub record Countable (x : List ℕ) (vertices : List (List ℕ)) : Type 0 where
+  pub tabled : Tabled x vertices
   pub few : {u : ℕ} → u ≤ sinkOf x → pathCount (graphOf x) u ≤ mostWords
 
 -- the arcs are counted for the vertices from u on

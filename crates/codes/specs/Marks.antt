@@ -12,8 +12,7 @@ use Rattle.call.specs.Table.{Answer, on, unless}
 use Rattle.voice.specs.Voice.{printByte}
 use Rattle.graph.specs.Graph.{Graph, sink, isNode, increment}
 use Rattle.graph.specs.Words.{pathOfWord, codeOf}
-use Rattle.graph.specs.Checking.{Accepted}
-use Rattle.checking.specs.Tables.{WithOffsets}
+use Rattle.codes.specs.Steps.{OpenedImages}
 
 -- some way from u spells the bytes, u's own letter first
 unfoldable pub fits : List ℕ → Graph → ℕ → List ℕ → Bool
@@ -46,10 +45,9 @@ pub record FirstMarked (g : Graph) (table : List ℕ) (row u s step : ℕ) : Typ
   pub there : marked table row s ≡ true
   pub increases : step ≡ increment g u s
 
--- what the rows are filled from: accepted images, the table of offsets, and a word that is not too long
-pub record Marking (v x offsets word : List ℕ) : Type 0 where
-  pub accepted : Accepted v x
-  pub located : WithOffsets x offsets
+-- what the rows are filled from: accepted images, the table of vertices, and a word that is not too long
+pub record Marking (v x : List ℕ) (vertices : List (List ℕ)) (word : List ℕ) : Type 0 where
+  pub opened : OpenedImages v x vertices
   pub short : length word ≤ 32
 
 -- 13, or the word's code

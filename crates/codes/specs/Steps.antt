@@ -10,17 +10,17 @@ use Rattle.call.specs.Table.{Answer, on, unless}
 use Rattle.lexicon.specs.Lexicon.{sinkOf, nodeLetter}
 use Rattle.graph.specs.Graph.{Graph, graphOf, pathCount, increment}
 use Rattle.graph.specs.Checking.{Accepted}
-use Rattle.checking.specs.Tables.{TableOf, WithOffsets}
+use Rattle.checking.specs.Tables.{arcsColumn, pathsColumn, TableOf, WithOffsets}
 
--- a well-formed lexicon with the tables of its offsets and path counts
-pub record Tabled (x offsets counts : List ℕ) : Type 0 where
-  pub located : WithOffsets x offsets
-  pub counted : TableOf (suc (sinkOf x)) (pathCount (graphOf x)) counts
+-- a well-formed lexicon with the table of its vertices
+pub record Tabled (x : List ℕ) (vertices : List (List ℕ)) : Type 0 where
+  pub located : WithOffsets x (arcsColumn vertices)
+  pub counted : TableOf (suc (sinkOf x)) (pathCount (graphOf x)) (pathsColumn vertices)
 
--- what a call works with that no row of 1 to 10 ends
-pub record OpenedImages (v x offsets counts : List ℕ) : Type 0 where
+-- what a call works with that no row of 1 to 10 ends: accepted images, and the table of vertices
+pub record OpenedImages (v x : List ℕ) (vertices : List (List ℕ)) : Type 0 where
   pub accepted : Accepted v x
-  pub tabled : Tabled x offsets counts
+  pub tabled : Tabled x vertices
 
 -- the letter of a node, and its print byte, lie inside the images
 pub record Readable (v x : List ℕ) (node : ℕ) : Type 0 where

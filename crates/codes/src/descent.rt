@@ -12,6 +12,8 @@ use crate::image::number_at;
 use crate::image::print_byte;
 use call::Answer;
 use call::Refusal;
+use checking::ARCS_AT;
+use checking::PATHS;
 
 // The vertex that an arc leads to, and a code that goes with it: what is left of one behind the arc, or the arc's increment.
 pub(crate) struct Step {
@@ -20,22 +22,16 @@ pub(crate) struct Step {
 }
 
 // The arc along which the code leads, and what of the code is left behind it: the path counts of the successors before it are taken off.
-fn descend(
-    lexicon: &[u8],
-    offsets: &[u16; 402],
-    counts: &[u32; 402],
-    vertex: usize,
-    code: u32,
-) -> Step
-    requires { ⌜ Tabled (now lexicon) (now offsets) (now counts) ⌝ }
+fn descend(lexicon: &[u8], vertices: &[[u32; 3]; 402], vertex: usize, code: u32) -> Step
+    requires { ⌜ Tabled (now lexicon) (now vertices) ⌝ }
     requires { ⌜ (vertex ≤ nodeCount (now lexicon)) × (code < pathCount (graphOf (now lexicon)) vertex) ⌝ }
     ensures { λ r. ⌜ Stepped (graphOf (now (lexicon .entry))) vertex code (r .vertex) (r .code) ⌝ }
 {
-    let mut at = offsets[vertex] as usize + 2;
+    let mut at = vertices[vertex][ARCS_AT] as usize + 2;
     let mut left = code;
     loop {
         let next = number_at(lexicon, at);
-        let count = counts[next];
+        let count = vertices[next][PATHS];
         if left < count {
             return Step {
                 vertex: next,
@@ -51,24 +47,23 @@ fn descend(
 pub(crate) fn spell(
     voice: &[u8],
     lexicon: &[u8],
-    offsets: &[u16; 402],
-    counts: &[u32; 402],
+    vertices: &[[u32; 3]; 402],
     code: u32,
     letters: &mut [u8; 32],
 ) -> usize
-    requires { ⌜ OpenedImages (now voice) (now lexicon) (now offsets) (now counts) ⌝ }
+    requires { ⌜ OpenedImages (now voice) (now lexicon) (now vertices) ⌝ }
     requires { ⌜ (code < wordCount (graphOf (now lexicon))) × (length (now letters) ≡ 32) ⌝ }
     ensures { λ r. ⌜ Spelled (wordOfCode (now (voice .entry)) (graphOf (now (lexicon .entry))) code) (now (letters .exit)) r ⌝ }
 {
     let sink = number_at(lexicon, 0) + 1;
-    let first = descend(lexicon, offsets, counts, 0, code);
+    let first = descend(lexicon, vertices, 0, code);
     let mut vertex = first.vertex;
     let mut left = first.code;
     let mut length = 0;
     while vertex < sink {
         letters[length] = print_byte(voice, lexicon, vertex);
         length += 1;
-        let next = descend(lexicon, offsets, counts, vertex, left);
+        let next = descend(lexicon, vertices, vertex, left);
         vertex = next.vertex;
         left = next.code;
     }

@@ -22,13 +22,12 @@ pub fn word_to_code(voice: &[u8], lexicon: &[u8], word: &[u8], work: &mut [u8]) 
     ensures { λ r. ⌜ answerOf r ≡ wordToCodeAnswer (now (voice .entry)) (now (lexicon .entry)) (now (word .entry)) (now (work .entry)) ⌝ }
     ensures { λ _. ⌜ now (work .exit) ≡ wordToCodeWork (now (voice .entry)) (now (lexicon .entry)) (now (word .entry)) (now (work .entry)) ⌝ }
 {
-    let mut offsets = [0u16; 402];
-    let mut counts = [0u32; 402];
-    let opened = open(voice, lexicon, work, &mut offsets, &mut counts);
+    let mut vertices = [[0u32; 3]; 402];
+    let opened = open(voice, lexicon, work, &mut vertices);
     let Answer::Value(_) = opened else {
         return opened;
     };
-    let answer = look_up(voice, lexicon, &offsets, &counts, word, &mut work[0..TABLE]);
+    let answer = look_up(voice, lexicon, &vertices, word, &mut work[0..TABLE]);
     clear(work);
     answer
 }
@@ -45,9 +44,8 @@ pub fn code_to_word(
     ensures { λ _. ⌜ now (work .exit) ≡ codeToWordWork (now (voice .entry)) (now (lexicon .entry)) code (now (work .entry)) ⌝ }
     ensures { λ _. ⌜ now (out .exit) ≡ codeToWordOut (now (voice .entry)) (now (lexicon .entry)) code (now (work .entry)) (now (out .entry)) ⌝ }
 {
-    let mut offsets = [0u16; 402];
-    let mut counts = [0u32; 402];
-    let opened = open(voice, lexicon, work, &mut offsets, &mut counts);
+    let mut vertices = [[0u32; 3]; 402];
+    let opened = open(voice, lexicon, work, &mut vertices);
     let Answer::Value(words) = opened else {
         return opened;
     };
@@ -55,7 +53,7 @@ pub fn code_to_word(
         return Answer::Refused(Refusal::Code);
     }
     let mut letters = [0u8; 32];
-    let n = spell(voice, lexicon, &offsets, &counts, code, &mut letters);
+    let n = spell(voice, lexicon, &vertices, code, &mut letters);
     put_word(out, &letters, n)
 }
 
@@ -65,11 +63,10 @@ pub fn list(voice: &[u8], lexicon: &[u8], work: &mut [u8], out: &mut [u8]) -> An
     ensures { λ _. ⌜ now (work .exit) ≡ listWork (now (voice .entry)) (now (lexicon .entry)) (now (work .entry)) ⌝ }
     ensures { λ _. ⌜ now (out .exit) ≡ listOut (now (voice .entry)) (now (lexicon .entry)) (now (work .entry)) (now (out .entry)) ⌝ }
 {
-    let mut offsets = [0u16; 402];
-    let mut counts = [0u32; 402];
-    let answer = open(voice, lexicon, work, &mut offsets, &mut counts);
+    let mut vertices = [[0u32; 3]; 402];
+    let answer = open(voice, lexicon, work, &mut vertices);
     match answer {
-        Answer::Value(_) => put_listing(voice, lexicon, &offsets, &counts, out),
+        Answer::Value(_) => put_listing(voice, lexicon, &vertices, out),
         Answer::Refused(_) => answer,
     }
 }

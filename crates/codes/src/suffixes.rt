@@ -9,7 +9,6 @@ ghost use Rattle.call.specs.Table.{answerOf};
 ghost use Rattle.call.specs.Limits.{mostWords};
 ghost use Rattle.lexicon.specs.Lexicon.{nodeCount, sinkOf, successors};
 ghost use Rattle.graph.specs.Graph.{graphOf, pathCount};
-ghost use Rattle.checking.specs.Tables.{WithOffsets};
 ghost use Rattle.codes.specs.Steps.{Tabled, OpenedImages};
 ghost use Rattle.codes.specs.Marks.{fits, markOf, marked, Marking, RowsFrom, FirstMarked, lookedUp};
 use crate::descent::Step;
@@ -17,7 +16,9 @@ use crate::image::number_at;
 use crate::image::print_byte;
 use call::Answer;
 use call::Refusal;
+use checking::ARCS_AT;
 use checking::LETTERS;
+use checking::PATHS;
 
 // The bytes of a row, one for each vertex.
 const ROW: usize = 402;
@@ -26,12 +27,18 @@ const ROW: usize = 402;
 pub(crate) const TABLE: usize = 13266;
 
 // Whether a successor of the vertex has a mark in the row that begins at an offset.
-fn leads(lexicon: &[u8], offsets: &[u16; 402], table: &[u8], vertex: usize, row: usize) -> bool
-    requires { ⌜ WithOffsets (now lexicon) (now offsets) ⌝ }
+fn leads(
+    lexicon: &[u8],
+    vertices: &[[u32; 3]; 402],
+    table: &[u8],
+    vertex: usize,
+    row: usize,
+) -> bool
+    requires { ⌜ Tabled (now lexicon) (now vertices) ⌝ }
     requires { ⌜ (vertex ≤ nodeCount (now lexicon)) × (row + 402 ≤ length (now table)) ⌝ }
     ensures { λ r. ⌜ r ≡ any (marked (now (table .entry)) row) (successors (now (lexicon .entry)) vertex) ⌝ }
 {
-    let start = offsets[vertex] as usize;
+    let start = vertices[vertex][ARCS_AT] as usize;
     let end = start + 2 + 2 * number_at(lexicon, start);
     let mut at = start + 2;
     while at < end {
@@ -47,13 +54,13 @@ fn leads(lexicon: &[u8], offsets: &[u16; 402], table: &[u8], vertex: usize, row:
 fn mark(
     voice: &[u8],
     lexicon: &[u8],
-    offsets: &[u16; 402],
+    vertices: &[[u32; 3]; 402],
     word: &[u8],
     table: &[u8],
     i: usize,
     vertex: usize,
 ) -> u8
-    requires { ⌜ Marking (now voice) (now lexicon) (now offsets) (now word) ⌝ }
+    requires { ⌜ Marking (now voice) (now lexicon) (now vertices) (now word) ⌝ }
     requires { ⌜ RowsFrom (now voice) (graphOf (now lexicon)) (now word) (now table) (i + 1) ⌝ }
     requires { ⌜ (i ≤ length (now word)) × (1 ≤ vertex) × (vertex ≤ sinkOf (now lexicon)) ⌝ }
     ensures { λ r. ⌜ r ≡ markOf (fits (now (voice .entry)) (graphOf (now (lexicon .entry))) vertex (drop i (now (word .entry)))) ⌝ }
@@ -68,7 +75,7 @@ fn mark(
     if print_byte(voice, lexicon, vertex) != word[i] {
         return 0;
     }
-    if leads(lexicon, offsets, table, vertex, ROW * (i + 1)) {
+    if leads(lexicon, vertices, table, vertex, ROW * (i + 1)) {
         return 1;
     }
     0
@@ -78,58 +85,57 @@ fn mark(
 fn fill_row(
     voice: &[u8],
     lexicon: &[u8],
-    offsets: &[u16; 402],
+    vertices: &[[u32; 3]; 402],
     word: &[u8],
     table: &mut [u8],
     i: usize,
 )
-    requires { ⌜ Marking (now voice) (now lexicon) (now offsets) (now word) × (i ≤ length (now word)) ⌝ }
+    requires { ⌜ Marking (now voice) (now lexicon) (now vertices) (now word) × (i ≤ length (now word)) ⌝ }
     requires { ⌜ RowsFrom (now voice) (graphOf (now lexicon)) (now word) (now table) (i + 1) ⌝ }
     ensures { λ _. ⌜ RowsFrom (now (voice .entry)) (graphOf (now (lexicon .entry))) (now (word .entry)) (now (table .exit)) i ⌝ }
 {
     let sink = number_at(lexicon, 0) + 1;
     let mut vertex = 1;
     while vertex <= sink {
-        let m = mark(voice, lexicon, offsets, word, &table[..], i, vertex);
+        let m = mark(voice, lexicon, vertices, word, &table[..], i, vertex);
         table[ROW * i + vertex] = m;
         vertex += 1;
     }
 }
 
 // Fills the table from the row for the end of the word up to its first.
-fn fill(voice: &[u8], lexicon: &[u8], offsets: &[u16; 402], word: &[u8], table: &mut [u8])
-    requires { ⌜ Marking (now voice) (now lexicon) (now offsets) (now word) × (length (now table) ≡ 13266) ⌝ }
+fn fill(voice: &[u8], lexicon: &[u8], vertices: &[[u32; 3]; 402], word: &[u8], table: &mut [u8])
+    requires { ⌜ Marking (now voice) (now lexicon) (now vertices) (now word) × (length (now table) ≡ 13266) ⌝ }
     ensures { λ _. ⌜ RowsFrom (now (voice .entry)) (graphOf (now (lexicon .entry))) (now (word .entry)) (now (table .exit)) 0 ⌝ }
 {
     let mut i = word.len() + 1;
     while 0 < i {
         i -= 1;
-        fill_row(voice, lexicon, offsets, word, table, i);
+        fill_row(voice, lexicon, vertices, word, table, i);
     }
 }
 
 // The first successor that has a mark in the row, and the increment of the arc to it.
 fn first_marked(
     lexicon: &[u8],
-    offsets: &[u16; 402],
-    counts: &[u32; 402],
+    vertices: &[[u32; 3]; 402],
     table: &[u8],
     vertex: usize,
     row: usize,
 ) -> Step
-    requires { ⌜ Tabled (now lexicon) (now offsets) (now counts) ⌝ }
+    requires { ⌜ Tabled (now lexicon) (now vertices) ⌝ }
     requires { ⌜ (vertex ≤ nodeCount (now lexicon)) × (row + 402 ≤ length (now table)) ⌝ }
     requires { ⌜ (any (marked (now table) row) (successors (now lexicon) vertex) ≡ true) × (pathCount (graphOf (now lexicon)) vertex ≤ mostWords) ⌝ }
     ensures { λ r. ⌜ FirstMarked (graphOf (now (lexicon .entry))) (now (table .entry)) row vertex (r .vertex) (r .code) ⌝ }
 {
-    let mut at = offsets[vertex] as usize + 2;
+    let mut at = vertices[vertex][ARCS_AT] as usize + 2;
     let mut code = 0;
     loop {
         let next = number_at(lexicon, at);
         if table[row + next] == 1 {
             return Step { vertex: next, code };
         }
-        code += counts[next];
+        code += vertices[next][PATHS];
         at += 2;
     }
 }
@@ -138,20 +144,19 @@ fn first_marked(
 pub(crate) fn look_up(
     voice: &[u8],
     lexicon: &[u8],
-    offsets: &[u16; 402],
-    counts: &[u32; 402],
+    vertices: &[[u32; 3]; 402],
     word: &[u8],
     table: &mut [u8],
 ) -> Answer
-    requires { ⌜ OpenedImages (now voice) (now lexicon) (now offsets) (now counts) × (length (now table) ≡ 13266) ⌝ }
+    requires { ⌜ OpenedImages (now voice) (now lexicon) (now vertices) × (length (now table) ≡ 13266) ⌝ }
     ensures { λ r. ⌜ answerOf r ≡ lookedUp (now (voice .entry)) (graphOf (now (lexicon .entry))) (now (word .entry)) ⌝ }
 {
     // more bytes can be no word (row 8)
     if (LETTERS as usize) < word.len() {
         return Answer::Refused(Refusal::NoWord);
     }
-    fill(voice, lexicon, offsets, word, table);
-    if !leads(lexicon, offsets, &table[..], 0, 0) {
+    fill(voice, lexicon, vertices, word, table);
+    if !leads(lexicon, vertices, &table[..], 0, 0) {
         return Answer::Refused(Refusal::NoWord);
     }
     let sink = number_at(lexicon, 0) + 1;
@@ -159,7 +164,7 @@ pub(crate) fn look_up(
     let mut row = 0;
     let mut code = 0;
     while vertex < sink {
-        let step = first_marked(lexicon, offsets, counts, &table[..], vertex, row);
+        let step = first_marked(lexicon, vertices, &table[..], vertex, row);
         vertex = step.vertex;
         row += ROW;
         code += step.code;

@@ -98,7 +98,9 @@ returns-6 c =
       answered =
           ap value (words-counted _ t w)
           ∙ sym (rw (o, few-places b, short-words d, w, sym (c .before .before .before .has-same-letters .ensures .0) ∙ c .if5 .left));
-      opened = λ W e. tables-exact _ t w (record { letters = letterCount (s .args .voice .now); judged = s .pre .1 .0 }) o (f .before .before .before .before .before .before .before .before .before .before .before .before .before .find-offsets .ensures);
+      opened = λ W e.
+          tables-exact _ t w (record { letters = letterCount (s .args .voice .now); judged = s .pre .1 .0 }) o
+          (b .before .before .before .before .before .find-offsets .ensures);
     }
 
 pub judge-graph-spec : {M : Type 1} → statement M

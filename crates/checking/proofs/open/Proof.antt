@@ -7,7 +7,7 @@ use lib.ListN.{length, take}
 use lib.Seq.{length-take-le}
 use borrow.Author.Needs.{needs}
 use Rattle.call.specs.Limits.{workSpace}
-use Rattle.call.specs.Table.{answerOf, value}
+use Rattle.call.specs.Table.{answerOf}
 use Rattle.call.specs.Buffers.{cleared}
 use Rattle.call.proofs.Buffers.{cleared-short, cleared-length, part-cleared}
 use Rattle.voice.specs.Voice.{letterCount}
@@ -53,28 +53,26 @@ work-cleared c =
     c .clear .ensures
     ∙ part-cleared (judged c .judge-images .last .1 .1 .0) (start c .args .work .now) (part-kept (judged c) ∙ part-long e) (omega arith) (long e)
 
--- the answer is a value
-valued : (c : tie.After-enum-told) → answerOf (judged (c .before .before .before .before) .judge-images .result) ≡ value (c .enum-told .given .0 .0)
-valued c = ap answerOf (c .enum-told .given .1)
-
 put-rows-requires : tie.Need-put-rows-requires
 put-rows-requires c κs =
     let t = c .before .before .before in
     let d = t .before .before .before .before in
     let a = start d .args in
-    let p = passed (a .voice .now) (a .lexicon .now) (a .work .now) (sym (answered d) ∙ valued t) in (
+    let e = ap answerOf (t .enum-told .given .1) in
+    let p = passed (a .voice .now) (a .lexicon .now) (a .work .now) (sym (answered d) ∙ e) in (
       record { letters = letterCount (a .voice .now); judged = accepted (p .images) .lexicon },
-      judged d .judge-images .ensures .opened _ (valued t),
+      judged d .judge-images .ensures .opened _ e,
     )
 
 same-length : tie.Need-same-length
-same-length c = ap length (work-cleared (c .before .before .before .before .before .before .before .before)) ∙ cleared-length _
+same-length c =
+    ap length (work-cleared (c .before .before .before .before .before .before .before .before)) ∙ cleared-length _
 
 returns-2 : tie.Need-returns-2
 returns-2 c =
     let t = c .before .before .before .before in
     let d = t .before .before .before .before in
-    (answered d, (work-cleared d, c .put-rows .ensures ∙ sym (opened-value _ _ (valued t))))
+    (answered d, (work-cleared d, c .put-rows .ensures ∙ sym (opened-value _ _ (ap answerOf (t .enum-told .given .1)))))
 
 same-length-2 : tie.Need-same-length-2
 same-length-2 c = ap length (work-cleared (c .before .before .before .before)) ∙ cleared-length _

@@ -16,7 +16,7 @@ use Rattle.codes.proofs.code_to_word.Tie as tie
 
 answered : (c : tie.After-enum-told) →
     let o = c .before .before .before .before in
-    let a = o .before .before .before .before .before .before .before .before .args in
+    let a = o .before .before .before .before .before .before .before .args in
     codeToWordAnswer (a .voice .now) (a .lexicon .now) (a .code) (a .work .now) (a .out .now) ≡ refused (c .enum-told .given .0 .0)
 answered c =
     let o = c .before .before .before .before in
@@ -30,7 +30,7 @@ returns c =
 -- checking has answered W
 passes : (c : tie.After-opened) →
     let o = c .before .before .before .before in
-    let a = o .before .before .before .before .before .before .before .before .args in
+    let a = o .before .before .before .before .before .before .before .args in
     Passed (a .voice .now) (a .lexicon .now) (a .work .now) (c .opened .given .0 .0)
 passes c =
     let o = c .before .before .before .before in
@@ -38,48 +38,49 @@ passes c =
 
 prepared : (c : tie.After-opened) →
     let o = c .before .before .before .before in
-    let a = o .before .before .before .before .before .before .before .before .args in
-    OpenedImages (a .voice .now) (a .lexicon .now) (o .«open» .last .1 .1 .1 .0) (o .«open» .last .1 .1 .1 .1 .0)
+    let a = o .before .before .before .before .before .before .before .args in
+    OpenedImages (a .voice .now) (a .lexicon .now) (o .«open» .last .1 .1 .1 .0)
 prepared c =
     let o = c .before .before .before .before in
-    opened-images _ _ _ _ _ (passes c) (o .«open» .ensures .1 .1 .filled _ (ap answerOf (c .opened .given .1)))
+    opened-images _ _ _ _ (passes c) (ap answerOf (c .opened .given .1)) (o .«open» .ensures .1 .1)
 
 returns-2 : tie.Need-returns-2
 returns-2 c =
     let k = c .before .before in
     let o = k .before .before .before .before in
-    let a = o .before .before .before .before .before .before .before .before .args in
+    let a = o .before .before .before .before .before .before .before .args in
     let e = code-bad (a .voice .now) (a .lexicon .now) (a .work .now) (a .code) (a .out .now) (passes k) (c .if1 .taken) in
     (sym e, (o .«open» .ensures .1 .0, sym (out-refused _ _ _ _ _ e)))
 
 spell-requires : tie.Need-spell-requires
 spell-requires c κs =
-    let k = c .before .before .before .before .before in
-    (prepared k, (omega (arith, passes k .count, c .before .before .before .if1 .left), refl))
+    let k = c .before .before .before .before in
+    (prepared k, (omega (arith, passes k .count, c .before .before .if1 .left), refl))
 
 put-word-requires : tie.Need-put-word-requires
 put-word-requires c κs = let s = c .before .before .spell .ensures in (s .few, s .long)
 
 -- the answer of a code below W
 wrote : (c : tie.After-put-word) →
-    let k = c .before .before .before .before .before .before .before .before .before in
+    let k = c .before .before .before .before .before .before .before .before in
     let o = k .before .before .before .before in
-    let a = o .before .before .before .before .before .before .before .before .args in
+    let a = o .before .before .before .before .before .before .before .args in
     codeToWordAnswer (a .voice .now) (a .lexicon .now) (a .code) (a .work .now) (a .out .now) ≡ answerOf (c .put-word .result)
 wrote c =
-    let k = c .before .before .before .before .before .before .before .before .before in
+    let k = c .before .before .before .before .before .before .before .before in
     let o = k .before .before .before .before in
-    let a = o .before .before .before .before .before .before .before .before .args in
+    let a = o .before .before .before .before .before .before .before .args in
     let l = c .before .before .before .before in
-    code-good (a .voice .now) (a .lexicon .now) (a .work .now) (a .code) (a .out .now) (passes k) (l .before .before .before .if1 .left)
+    code-good (a .voice .now) (a .lexicon .now) (a .work .now) (a .code) (a .out .now) (passes k)
+    (l .before .before .if1 .left)
     ∙ sym (c .put-word .ensures .0 ∙ ap (λ (w : List ℕ). roomAnswer w (a .out .now)) (c .before .before .before .spell .ensures .start))
 
 returns-3 : tie.Need-returns-3
 returns-3 c =
     let p = c .before .before in
-    let k = p .before .before .before .before .before .before .before .before .before in
+    let k = p .before .before .before .before .before .before .before .before in
     let o = k .before .before .before .before in
-    let a = o .before .before .before .before .before .before .before .before .args in (
+    let a = o .before .before .before .before .before .before .before .args in (
       sym (wrote p),
       (
         o .«open» .ensures .1 .0,
@@ -102,6 +103,8 @@ code-to-word-spec =
     returns-2
     spell-requires
     put-word-requires
-    (λ c. c .before .before .before .before .before .before .before .before .before .before .before .before .before .before .before .«open» .kept .1 .1 .0)
+    (λ c.
+    let k = c .before .before .before .before .before .before .before .before .before .before in
+    k .before .before .before .before .«open» .kept .1 .1 .0)
     (λ c. c .before .before .put-word .kept .0)
     returns-3)

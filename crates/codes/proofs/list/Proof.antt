@@ -10,25 +10,28 @@ use Rattle.codes.proofs.Calls.{opened-images, list-refused, list-kept, 
 
 -- checking has answered a value
 answered : (c : tie.After-enum-told) →
-    let a = c .before .before .before .before .before .before .before .before .before .before .before .before .args in
+    let a = c .before .before .before .before .before .before .before .before .before .before .before .args in
     checkAnswer (a .voice .now) (a .lexicon .now) (a .work .now) ≡ value (c .enum-told .given .0 .0)
 answered c = sym (c .before .before .before .before .«open» .ensures .0) ∙ ap answerOf (c .enum-told .given .1)
 
 put-listing-requires : tie.Need-put-listing-requires
 put-listing-requires c κs =
-    let t = c .before .before .before in
-    let opened = c .before .before .before .before .before .before .before .«open» .ensures .1 .1 in
-    opened-images _ _ _ _ _ (passed _ _ _ (answered t)) (opened .filled _ (ap answerOf (t .enum-told .given .1)))
+    let t = c .before .before in
+    let filled = c .before .before .before .before .before .before .«open» .ensures .1 .1 in
+    opened-images _ _ _ _ (passed _ _ _ (answered t)) (ap answerOf (t .enum-told .given .1)) filled
 
 returns : tie.Need-returns
 returns c =
-    let a = c .before .before .before .before .before .before .before .before .before .before .before .before .before .before .before .before .before .before .args in
-    let w = list-written (a .voice .now) (a .lexicon .now) (a .work .now) (a .out .now) (answered (c .before .before .before .before .before .before)) (c .before .before .put-listing .ensures) in
-    (w .0, (c .before .before .before .before .before .before .before .before .before .before .«open» .ensures .1 .0, w .1))
+    let t = c .before .before .before .before .before in
+    let a = t .before .before .before .before .before .before .before .before .before .before .before .args in
+    let p = c .before .before in
+    let e = p .put-listing .ensures in
+    let w = list-written (a .voice .now) (a .lexicon .now) (a .work .now) (a .out .now) (answered t) e in
+    (w .0, (c .before .before .before .before .before .before .before .before .before .«open» .ensures .1 .0, w .1))
 
 returns-2 : tie.Need-returns-2
 returns-2 c =
-    let a = c .before .before .before .before .before .before .before .before .before .before .before .before .args in
+    let a = c .before .before .before .before .before .before .before .before .before .before .before .args in
     let o = c .before .before .before .before .«open» in
     let refused = sym (o .ensures .0) ∙ ap answerOf (c .enum-told2 .given .1) in (
       ap answerOf (c .enum-told2 .given .1) ∙ sym (list-refused (a .voice .now) (a .lexicon .now) (a .work .now) (a .out .now) refused),

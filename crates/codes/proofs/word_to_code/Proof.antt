@@ -24,7 +24,7 @@ returns c =
 -- checking has answered W
 passes : (c : tie.After-enum-told) →
     let o = c .before .before .before .before in
-    let a = o .before .before .before .before .before .before .before .before .args in
+    let a = o .before .before .before .before .before .before .before .args in
     Passed (a .voice .now) (a .lexicon .now) (a .work .now) (c .enum-told .given .0 .0)
 passes c =
     let o = c .before .before .before .before in
@@ -32,17 +32,17 @@ passes c =
 
 prepared : (c : tie.After-enum-told) →
     let o = c .before .before .before .before in
-    let a = o .before .before .before .before .before .before .before .before .args in
-    OpenedImages (a .voice .now) (a .lexicon .now) (o .«open» .last .1 .1 .1 .0) (o .«open» .last .1 .1 .1 .1 .0)
+    let a = o .before .before .before .before .before .before .before .args in
+    OpenedImages (a .voice .now) (a .lexicon .now) (o .«open» .last .1 .1 .1 .0)
 prepared c =
     let o = c .before .before .before .before in
-    opened-images _ _ _ _ _ (passes c) (o .«open» .ensures .1 .1 .filled _ (ap answerOf (c .enum-told .given .1)))
+    opened-images _ _ _ _ (passes c) (ap answerOf (c .enum-told .given .1)) (o .«open» .ensures .1 .1)
 
 -- the table has room in the work space
 room : (c : tie.After-enum-told) → 13266 ≤ length (c .before .before .before .before .«open» .last .1 .1 .0)
 room c =
     let o = c .before .before .before .before in
-    let w = o .before .before .before .before .before .before .before .before .args .work .now in
+    let w = o .before .before .before .before .before .before .before .args .work .now in
     omega (arith, ap length (o .«open» .ensures .1 .0), cleared-length w, passes c .room)
 
 -- the part that is lent on, and that it keeps its length
@@ -50,17 +50,20 @@ part-long : (c : tie.After-enum-told) → length (take 13266 (c .before .before 
 part-long c = length-take-le 13266 (c .before .before .before .before .«open» .last .1 .1 .0) (room c)
 
 part-kept : (c : tie.After-look-up) →
-    length (c .look-up .last .1 .1 .1 .1 .1 .0) ≡ length (take 13266 (c .before .before .before .before .before .before .before .before .«open» .last .1 .1 .0))
-part-kept c = c .look-up .kept .1 .1 .1 .1 .1 .0
+    length (c .look-up .last .1 .1 .1 .1 .0)
+    ≡ length (take 13266 (c .before .before .before .before .before .before .before .«open» .last .1 .1 .0))
+part-kept c = c .look-up .kept .1 .1 .1 .1 .0
 
 work-cleared : (c : tie.After-clear) →
-    c .clear .last .0 ≡ cleared (c .before .before .before .before .before .before .before .before .before .before .before .before .before .before .before .before .before .before .before .before .args .work .now)
+    let l = c .before .before .before .before in
+    let o = l .before .before .before .before .before .before .before in
+    c .clear .last .0 ≡ cleared (o .before .before .before .before .before .before .before .args .work .now)
 work-cleared c =
     let l = c .before .before .before .before in
-    let k = l .before .before .before .before in
+    let k = l .before .before .before in
     let o = k .before .before .before .before in
-    let w = o .before .before .before .before .before .before .before .before .args .work .now in
-    let part = l .look-up .last .1 .1 .1 .1 .1 .0 in
+    let w = o .before .before .before .before .before .before .before .args .work .now in
+    let part = l .look-up .last .1 .1 .1 .1 .0 in
     c .clear .ensures
     ∙ ap (λ (w : List ℕ). cleared (part ++ drop 13266 w)) (o .«open» .ensures .1 .0)
     ∙ part-cleared part (cleared w) (part-kept l ∙ part-long k) (omega arith) (omega (arith, cleared-length w, passes k .room))
@@ -72,7 +75,7 @@ same-length-2 c = ap length (work-cleared (c .before .before)) ∙ cleared-lengt
 returns-2 : tie.Need-returns-2
 returns-2 c =
     let l = c .before .before .before .before .before .before in
-    let k = l .before .before .before .before in
+    let k = l .before .before .before in
     (l .look-up .ensures ∙ sym (word-looked _ _ _ _ (passes k)), work-cleared (c .before .before))
 
 pub word-to-code-spec : {M : Type 1} → statement M
@@ -86,8 +89,8 @@ word-to-code-spec =
     returns
     (λ c. search needs)
     (λ c. search needs)
-    (λ c. let h = room (c .before .before) in search needs)
-    (λ c κs. let k = c .before .before .before in (prepared k, part-long k))
+    (λ c. let h = room (c .before) in search needs)
+    (λ c κs. let k = c .before .before in (prepared k, part-long k))
     (λ c κs. search needs)
     same-length-2
     returns-2)

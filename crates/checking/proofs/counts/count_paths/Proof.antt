@@ -13,7 +13,8 @@ use Rattle.checking.proofs.counts.count_paths.Statement.{statement}
 use Rattle.checking.proofs.counts.count_paths.Tie as tie
 
 abbrev Inv-loop : tie.InvT-loop
-Inv-loop lexicon offsets counts₀ vertex₀ counts vertex = FilledDownTo (cappedCount (graphOf lexicon)) lexicon counts vertex
+Inv-loop lexicon offsets counts₀ vertex₀ counts vertex =
+    FilledDownTo (cappedCount (graphOf lexicon)) lexicon counts vertex
 
 abbrev μ-loop : tie.MeasureT-loop
 μ-loop lexicon offsets counts₀ vertex₀ counts vertex = vertex
@@ -33,7 +34,8 @@ loop-holds c =
 -- one vertex down
 next : (c : tie.In-loop Inv-loop μ-loop) →
     let a = c .before .before .before .before .args in
-    AtVertex (cappedCount (graphOf (a .lexicon .now))) (a .lexicon .now) (a .offsets .now) (c .before .loop .counts) (c .before .loop .vertex - 1)
+    AtVertex (cappedCount (graphOf (a .lexicon .now))) (a .lexicon .now) (a .offsets .now)
+    (c .before .loop .counts) (c .before .loop .vertex - 1)
 next c =
     let l = c .before in
     vertex-next (l .before .before .before .pre .0) (l .loop .inv) (omega (arith, c .loop-test .taken))

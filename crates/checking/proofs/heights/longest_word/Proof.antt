@@ -13,7 +13,8 @@ use Rattle.checking.proofs.heights.longest_word.Statement.{statement}
 use Rattle.checking.proofs.heights.longest_word.Tie as tie
 
 abbrev Inv-loop : tie.InvT-loop
-Inv-loop lexicon offsets heights₀ vertex₀ heights vertex = AtVertex (height (graphOf lexicon)) lexicon offsets heights vertex
+Inv-loop lexicon offsets heights₀ vertex₀ heights vertex =
+    AtVertex (height (graphOf lexicon)) lexicon offsets heights vertex
 
 abbrev μ-loop : tie.MeasureT-loop
 μ-loop lexicon offsets heights₀ vertex₀ heights vertex = vertex
@@ -36,7 +37,8 @@ loop-again c =
     let t = c .before .before in
     let i = t .before .loop .inv in
     let e = node-height (i .located .well-formed) (t .loop-test .taken) (i .vertex) in
-    vertex-next (i .located) (filling-next i (omega (arith, c .height-above .ensures, e))) (omega (arith, t .loop-test .taken))
+    vertex-next (i .located) (filling-next i (omega (arith, c .height-above .ensures, e)))
+    (omega (arith, t .loop-test .taken))
 
 height-above-requires-2 : tie.Need-height-above-requires-2 Inv-loop μ-loop
 height-above-requires-2 c κs =
@@ -45,7 +47,8 @@ height-above-requires-2 c κs =
     rw e at (l .before .loop .inv)
 
 returns : tie.Need-returns Inv-loop μ-loop
-returns c = ap longWord (c .height-above2 .ensures) ∙ longest-above (c .before .before .before .loop .inv .located .well-formed)
+returns c =
+    ap longWord (c .height-above2 .ensures) ∙ longest-above (c .before .before .before .loop .inv .located .well-formed)
 
 pub longest-word-spec : {M : Type 1} → statement M
 longest-word-spec =

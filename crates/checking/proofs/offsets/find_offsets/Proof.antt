@@ -1,5 +1,5 @@
--- `offsets::find_offsets` meets its contract: before each vertex the lists of those below it are found. The measure is the
--- vertices left. Assumes nothing.
+-- `offsets::find_offsets` meets its contract: before each vertex the lists of those below it are found. The measure is
+-- the vertices left. Assumes nothing.
 use Prim.Native.Nat.{_+_, _*_, _-_, _≤_}
 use mathlib.Core.Path.{_≡_}
 use native.Mathlib.Omega.{arith}
@@ -47,10 +47,12 @@ loop-again : tie.Need-loop-again Inv-loop μ-loop
 loop-again c =
     let n = c .before .before .before in
     let h = c .before .loop-test .taken in
-    rw (c .number-at2 .ensures) (offset-next (n .before .before .pre .0) (c .before .before .loop .inv) (omega (arith, counted n)))
+    rw (c .number-at2 .ensures)
+    (offset-next (n .before .before .pre .0) (c .before .before .loop .inv) (omega (arith, counted n)))
 
 returns : tie.Need-returns Inv-loop μ-loop
-returns c = offsets-done (c .before .loop .inv) (let h = c .loop-test .left in omega (arith, counted (c .before .before)))
+returns c =
+    offsets-done (c .before .loop .inv) (let h = c .loop-test .left in omega (arith, counted (c .before .before)))
 
 pub find-offsets-spec : {M : Type 1} → statement M
 find-offsets-spec =

@@ -12,7 +12,8 @@ use Rattle.checking.proofs.orphans.mark_all.Statement.{statement}
 use Rattle.checking.proofs.orphans.mark_all.Tie as tie
 
 abbrev Inv-loop : tie.InvT-loop
-Inv-loop lexicon offsets nodes marks₀ vertex₀ marks vertex = SuccessorsMarked lexicon vertex marks × (vertex ≤ nodes + 1)
+Inv-loop lexicon offsets nodes marks₀ vertex₀ marks vertex =
+    SuccessorsMarked lexicon vertex marks × (vertex ≤ nodes + 1)
 
 abbrev μ-loop : tie.MeasureT-loop
 μ-loop lexicon offsets nodes marks₀ vertex₀ marks vertex = nodes + 1 - vertex

@@ -17,7 +17,8 @@ Inv-loop lexicon offsets u pairs mask₀ start stop at₀ mask at = Gathering le
 abbrev μ-loop : tie.MeasureT-loop
 μ-loop lexicon offsets u pairs mask₀ start stop at₀ mask at = stop - at
 
-room-at : (c : tie.After-shared-slice-known2 Inv-loop μ-loop) → let a = c .before .before .args in ListRoom (a .lexicon .now) (a .offsets .now) (a .u)
+room-at : (c : tie.After-shared-slice-known2 Inv-loop μ-loop)
+    → let a = c .before .before .args in ListRoom (a .lexicon .now) (a .offsets .now) (a .u)
 room-at c = let h = c .before .before .pre in list-room (h .0) (h .1)
 
 loop-holds : tie.Need-loop-holds Inv-loop μ-loop
@@ -29,7 +30,8 @@ next-at : (c : tie.In-loop Inv-loop μ-loop) →
     let d = c .before .before in
     let a = d .before .before .before .before .args in
     let l = c .before .loop in
-    ArcNext (a .lexicon .now) (a .u) (l .at) (getD (a .offsets .now) (a .u) 0 + 2 + 2 * d .number-at .result) (l .inv .left)
+    ArcNext (a .lexicon .now) (a .u) (l .at) (getD (a .offsets .now) (a .u) 0 + 2 + 2 * d .number-at .result)
+    (l .inv .left)
 next-at c = arc-next (c .before .loop .inv .arcs) (c .loop-test .taken)
 
 has-bit-requires : tie.Need-has-bit-requires Inv-loop μ-loop

@@ -13,13 +13,13 @@ use Rattle.checking.proofs.pairs.mark_pair.Statement.{statement}
 use Rattle.checking.proofs.pairs.mark_pair.Tie as tie
 
 -- what is known of the numbers
-record Known (c : tie.Start) : Type 0 where
+record NodesThere (c : tie.Start) : Type 0 where
   u-node : c .args .u ≤ 400
   v-node : c .args .v ≤ 400
   u-there : 1 + c .args .u < length (c .args .lexicon .now)
   v-there : 1 + c .args .v < length (c .args .lexicon .now)
 
-known : (c : tie.Start) → Known c
+known : (c : tie.Start) → NodesThere c
 unfolding sink
 known c =
     let h = c .pre in

@@ -11,17 +11,18 @@ use Rattle.checking.proofs.pairs.mark_row.Statement.{statement}
 use Rattle.checking.proofs.pairs.mark_row.Tie as tie
 
 abbrev Inv-loop : tie.InvT-loop
-Inv-loop lexicon offsets u mask pairs₀ nodes v₀ pairs v = (u < v) × (v ≤ sink (graphOf lexicon)) × RowMarked (graphOf lexicon) u v pairs
+Inv-loop lexicon offsets u mask pairs₀ nodes v₀ pairs v =
+    (u < v) × (v ≤ sink (graphOf lexicon)) × RowMarked (graphOf lexicon) u v pairs
 
 abbrev μ-loop : tie.MeasureT-loop
 μ-loop lexicon offsets u mask pairs₀ nodes v₀ pairs v = nodes + 1 - v
 
 -- what is known of the numbers
-record Known (c : tie.Start Inv-loop μ-loop) : Type 0 where
+record BelowSink (c : tie.Start Inv-loop μ-loop) : Type 0 where
   below : c .args .u < sink (graphOf (c .args .lexicon .now))
   few : sink (graphOf (c .args .lexicon .now)) < 402
 
-known : (c : tie.Start Inv-loop μ-loop) → Known c
+known : (c : tie.Start Inv-loop μ-loop) → BelowSink c
 unfolding sink
 known c = let h = c .pre in record { below = omega (arith, h .2); few = few-vertices (h .0) }
 

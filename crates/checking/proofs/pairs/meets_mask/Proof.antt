@@ -18,7 +18,8 @@ Inv-loop lexicon offsets v mask start stop at₀ at = Searching (bit mask) lexic
 abbrev μ-loop : tie.MeasureT-loop
 μ-loop lexicon offsets v mask start stop at₀ at = stop - at
 
-room-at : (c : tie.After-shared-slice-known Inv-loop μ-loop) → let a = c .before .args in ListRoom (a .lexicon .now) (a .offsets .now) (a .v)
+room-at : (c : tie.After-shared-slice-known Inv-loop μ-loop)
+    → let a = c .before .args in ListRoom (a .lexicon .now) (a .offsets .now) (a .v)
 room-at c = let h = c .before .pre in list-room (h .0) (h .1)
 
 number-at-requires : tie.Need-number-at-requires Inv-loop μ-loop
@@ -37,7 +38,8 @@ next-at : (c : tie.In-loop Inv-loop μ-loop) →
     let d = c .before .before in
     let a = d .before .before .before .args in
     let l = c .before .loop in
-    ArcNext (a .lexicon .now) (a .v) (l .at) (getD (a .offsets .now) (a .v) 0 + 2 + 2 * d .number-at .result) (l .inv .left)
+    ArcNext (a .lexicon .now) (a .v) (l .at) (getD (a .offsets .now) (a .v) 0 + 2 + 2 * d .number-at .result)
+    (l .inv .left)
 next-at c = arc-next (c .before .loop .inv .arcs) (c .loop-test .taken)
 
 number-at-requires-2 : tie.Need-number-at-requires-2 Inv-loop μ-loop

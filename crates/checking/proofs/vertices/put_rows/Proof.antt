@@ -1,5 +1,5 @@
--- `vertices::put_rows` meets its contract: before each vertex the rows of those below it are put, and the others are zero. The measure is the
--- vertices left. Assumes nothing.
+-- `vertices::put_rows` meets its contract: before each vertex the rows of those below it are put, and the others are
+-- zero. The measure is the vertices left. Assumes nothing.
 use Prim.Native.Nat.{suc, _+_, _-_, _≤_, _<_}
 use mathlib.Core.Path.{_≡_, _∙_}
 use native.Mathlib.Numerals.{add-one}
@@ -19,7 +19,8 @@ abbrev μ-loop : tie.MeasureT-loop
 
 -- the sink
 sink : (c : tie.After-number-at Inv-loop μ-loop) →
-    let x = c .before .before .args .lexicon .now in (c .number-at .result + 1 ≡ sinkOf x) × (c .number-at .result + 1 ≤ 401)
+    let x = c .before .before .args .lexicon .now in
+    (c .number-at .result + 1 ≡ sinkOf x) × (c .number-at .result + 1 ≤ 401)
 sink c =
     let e = add-one (c .number-at .result) ∙ sink-is (c .before .before .args .lexicon .now) (c .number-at .ensures) in
     (e, rw e (sink-small (c .before .before .pre .0)))

@@ -16,11 +16,11 @@ use Rattle.codes.proofs.descent.spell.Statement.{statement}
 use Rattle.codes.proofs.descent.spell.Tie as tie
 
 abbrev Inv-loop : tie.InvT-loop
-Inv-loop voice lexicon offsets counts code letters₀ sink vertex₀ left₀ length₀ letters vertex left length =
+Inv-loop voice lexicon vertices code letters₀ sink vertex₀ left₀ length₀ letters vertex left length =
     LettersLeft voice lexicon code letters length vertex left
 
 abbrev μ-loop : tie.MeasureT-loop
-μ-loop voice lexicon offsets counts code letters₀ sink vertex₀ left₀ length₀ letters vertex left length = sink - vertex
+μ-loop voice lexicon vertices code letters₀ sink vertex₀ left₀ length₀ letters vertex left length = sink - vertex
 
 number-at-requires : tie.Need-number-at-requires Inv-loop μ-loop
 number-at-requires c κs = count-there (c .before .before .pre .0 .tabled .located .well-formed)
@@ -29,14 +29,18 @@ number-at-requires c κs = count-there (c .before .before .pre .0 .tabled .locat
 nodes : (c : tie.After-number-at Inv-loop μ-loop) →
     let a = c .before .before .before .args in (c .number-at .result ≡ nodeCount (a .lexicon .now)) × (c .number-at .result ≤ 400)
 unfolding nodeCount
-nodes c = let e = c .number-at .ensures in (e, rw e (shape-of (c .before .before .before .pre .0 .tabled .located .well-formed) .few))
+nodes c =
+    let e = c .number-at .ensures in
+    (e, rw e (shape-of (c .before .before .before .pre .0 .tabled .located .well-formed) .few))
 
 descend-requires : tie.Need-descend-requires Inv-loop μ-loop
 unfolding wordCount
 descend-requires c κs = let p = c .before .before .before .pre in (p .0 .tabled, (omega arith, p .1 .0))
 
 loop-holds : tie.Need-loop-holds Inv-loop μ-loop
-loop-holds c = let p = c .before .before .before .before .pre in letters-start (p .0) (p .1 .0) (p .1 .1) (c .descend .ensures)
+loop-holds c =
+    let p = c .before .before .before .before .pre in
+    letters-start (accepted (p .0 .accepted)) (p .1 .0) (p .1 .1) (c .descend .ensures)
 
 -- the vertex is a node
 node : (c : tie.In-loop Inv-loop μ-loop) → c .before .loop .vertex < sinkOf (c .before .before .before .before .before .before .args .lexicon .now)
@@ -51,7 +55,7 @@ print-byte-requires c κs =
 room : (c : tie.After-print-byte Inv-loop μ-loop) → c .before .before .loop .length < 32
 room c =
     let p = c .before .before .before .before .before .before .before .pre in
-    letters-room (p .0) (p .1 .0) (c .before .before .loop .inv) (node (c .before))
+    letters-room (accepted (p .0 .accepted)) (p .1 .0) (c .before .before .loop .inv) (node (c .before))
 
 descend-requires-2 : tie.Need-descend-requires-2 Inv-loop μ-loop
 unfolding sinkOf
@@ -64,7 +68,9 @@ loop-again : tie.Need-loop-again Inv-loop μ-loop
 loop-again c =
     let l = c .before .before .before in
     let p = l .before .before .before .before .before .pre in
-    rw (c .before .print-byte .ensures) (letters-next (p .0) (p .1 .0) (l .loop .inv) (node (c .before .before)) (c .descend2 .ensures))
+    rw (c .before .print-byte .ensures)
+    (letters-next (accepted (p .0 .accepted)) (p .1 .0) (l .loop .inv) (node (c .before .before))
+    (c .descend2 .ensures))
 
 loop-less : tie.Need-loop-less Inv-loop μ-loop
 unfolding sinkOf
@@ -79,7 +85,8 @@ unfolding sinkOf
 returns c =
     let l = c .before in
     let p = l .before .before .before .before .before .pre in
-    letters-done (p .0) (p .1 .0) (l .loop .inv) (omega (arith, c .loop-test .left, nodes (l .before .before) .0))
+    letters-done (accepted (p .0 .accepted)) (p .1 .0) (l .loop .inv)
+    (omega (arith, c .loop-test .left, nodes (l .before .before) .0))
 
 pub spell-spec : {M : Type 1} → statement M
 spell-spec =

@@ -4,6 +4,7 @@ use Prim.Native.Nat.{ℕ, _+_, _-_, _^_, _≤_, _<_}
 use mathlib.Core.Path.{_≡_, ap, _∙_}
 use mathlib.Core.List.{[], _∷_, _++_}
 use native.Mathlib.Omega.{arith}
+use borrow.Author.Needs.{needs}
 use lib.ListN.{length, take, set, getD, length-append, length-set}
 use lib.Seq.{length-take-le}
 use Rattle.lexicon.specs.Lexicon.{nodeCount, sinkOf, arcCount, successors}
@@ -66,11 +67,11 @@ vertex-claims t = (number-at-reads.Asked, number-at-reads.Learnt, arc-step-below
 -- ---- the vertex step
 
 abbrev Inv-loop : vertex-step-lts.InvT-loop
-Inv-loop voice lexicon offsets vertex word₀ depth out₀ at arcs end₀ arc₀ word out end arc =
+Inv-loop voice lexicon vertices vertex word₀ depth out₀ at arcs end₀ arc₀ word out end arc =
     Walked voice lexicon vertex depth at word₀ out₀ word out end arc
 
 abbrev μ-loop : vertex-step-lts.MeasureT-loop
-μ-loop voice lexicon offsets vertex word₀ depth out₀ at arcs end₀ arc₀ word out end arc = arcs - arc
+μ-loop voice lexicon vertices vertex word₀ depth out₀ at arcs end₀ arc₀ word out end arc = arcs - arc
 
 -- an arc is left
 arc-left : (t : ℕ) (c : vertex-step-lts.In-loop (vertex-claims t) (vertex-step-at t) vertex-step.Post Inv-loop μ-loop) →
@@ -104,7 +105,7 @@ next t c = let p = c .before .before .before .before .before .pre .1 .0 in leads
 
 next-enters : (t : ℕ) (c : arc-step-lts.After-number-at (arc-claims t) (arc-step-at t) arc-step.Post) →
     let a = c .before .before .before .before .before .args in
-    Enters (a .voice .now) (a .lexicon .now) (a .offsets .now) (c .number-at .result) (a .depth)
+    Enters (a .voice .now) (a .lexicon .now) (a .vertices .now) (c .number-at .result) (a .depth)
 next-enters t c = let p = c .before .before .before .before .before .pre .1 .0 in enters (p .0) (p .1) (c .number-at .ensures)
 
 -- it is the sink
@@ -181,12 +182,15 @@ pub +arc-step+vertex-step-spec : {M : Type 1} → statement M
     (λ t. arc-step-lts.spec (arc-claims t) (arc-step-at t) arc-step.Post
     (λ c. omega (arith, vertex-few (c .before .before .before .pre .1 .0 .0)))
     (λ c. omega (arith, vertex-few (c .before .before .before .pre .1 .0 .0)))
+    (λ c. search needs)
     (λ c. omega (arith, head-of (c .before .before .before .before .pre .1 .0 .0) .small))
     (λ c. omega (arith, head-of (c .before .before .before .before .pre .1 .0 .0) .small))
     (λ c. omega (arith, c .before .before .before .before .pre .1 .0 .1, head-of (c .before .before .before .before .pre .1 .0 .0) .few))
     (λ c. omega (arith, c .before .before .before .before .pre .1 .0 .1, head-of (c .before .before .before .before .pre .1 .0 .0) .few, head-of (c .before .before .before .before .pre .1 .0 .0) .small))
     (λ c κs. omega (arith, c .before .before .before .before .pre .1 .0 .1, head-of (c .before .before .before .before .pre .1 .0 .0) .there))
-    (λ c κs. omega (arith, nodes-there (c .before .before .before .before .before .pre .1 .0 .0 .walkable .located .well-formed)))
+    (λ c κs.
+    let p = c .before .before .before .before .before .pre .1 .0 in
+    omega (arith, nodes-there (p .0 .opened .tabled .located .well-formed)))
     (arc-step-put-line-requires t)
     (λ c. c .before .before .put-line .kept .1 .1 .0)
     (arc-step-returns t)
@@ -201,6 +205,7 @@ pub +arc-step+vertex-step-spec : {M : Type 1} → statement M
     μ-loop
     (λ c. omega (arith, vertex-few (c .before .before .before .pre .1 .0)))
     (λ c. omega (arith, vertex-few (c .before .before .before .pre .1 .0)))
+    (λ c. search needs)
     (λ c. omega (arith, head-of (c .before .before .before .before .pre .1 .0) .small))
     (λ c κs. omega (arith, head-of (c .before .before .before .before .pre .1 .0) .there))
     (λ c. walk-starts)

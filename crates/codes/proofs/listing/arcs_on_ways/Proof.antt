@@ -9,10 +9,10 @@ use Rattle.codes.proofs.listing.arcs_on_ways.Statement.{statement}
 use Rattle.codes.proofs.listing.arcs_on_ways.Tie as tie
 
 abbrev Inv-loop : tie.InvT-loop
-Inv-loop lexicon offsets counts totals vertex list arcs total₀ arc₀ total arc = Added lexicon vertex arc total
+Inv-loop lexicon vertices totals vertex list arcs total₀ arc₀ total arc = Added lexicon vertex arc total
 
 abbrev μ-loop : tie.MeasureT-loop
-μ-loop lexicon offsets counts totals vertex list arcs total₀ arc₀ total arc = arcs - arc
+μ-loop lexicon vertices totals vertex list arcs total₀ arc₀ total arc = arcs - arc
 
 -- the vertex has an entry of the tables
 few : (c : tie.Start Inv-loop μ-loop) → c .args .vertex ≤ 400
@@ -55,10 +55,12 @@ arcs-on-ways-spec =
     μ-loop
     (λ c. omega (arith, few (c .before)))
     (λ c. omega (arith, few (c .before)))
+    (λ c. search needs)
     (λ c. let p = c .before .before .pre in omega (arith, head (p .0) (p .1 .0) .small))
     (λ c κs. let p = c .before .before .pre in omega (arith, head (p .0) (p .1 .0) .there))
     (λ c. omega (arith, few (c .before .before .before)))
     (λ c. omega (arith, few (c .before .before .before)))
+    (λ c. search needs)
     (λ c. let p = c .before .before .before .before .pre in added-none (p .0) (p .1 .0))
     (λ c. let p = c .before .before .before .before .before .before .pre in omega (arith, head (p .0) (p .1 .0) .small))
     (λ c. let p = c .before .before .before .before .before .before .pre in omega (arith, arc-left c, head (p .0) (p .1 .0) .few))

@@ -20,10 +20,10 @@ record TotalsFilled (x totals : List ℕ) (vertex : ℕ) : Type 0 where
   counted : CountedFrom x totals vertex
 
 abbrev Inv-loop : tie.InvT-loop
-Inv-loop lexicon offsets counts totals₀ vertex₀ totals vertex = TotalsFilled lexicon totals vertex
+Inv-loop lexicon vertices totals₀ vertex₀ totals vertex = TotalsFilled lexicon totals vertex
 
 abbrev μ-loop : tie.MeasureT-loop
-μ-loop lexicon offsets counts totals₀ vertex₀ totals vertex = vertex
+μ-loop lexicon vertices totals₀ vertex₀ totals vertex = vertex
 
 add-vertex : tie.Need-add-vertex Inv-loop μ-loop
 unfolding nodeCount

@@ -11,10 +11,11 @@ use Rattle.codes.proofs.suffixes.fill.Statement.{statement}
 use Rattle.codes.proofs.suffixes.fill.Tie as tie
 
 abbrev Inv-loop : tie.InvT-loop
-Inv-loop voice lexicon offsets word table₀ i₀ table i = RowsFrom voice (graphOf lexicon) word table i × (i ≤ length word + 1)
+Inv-loop voice lexicon vertices word table₀ i₀ table i =
+    RowsFrom voice (graphOf lexicon) word table i × (i ≤ length word + 1)
 
 abbrev μ-loop : tie.MeasureT-loop
-μ-loop voice lexicon offsets word table₀ i₀ table i = i
+μ-loop voice lexicon vertices word table₀ i₀ table i = i
 
 add-i : tie.Need-add-i Inv-loop μ-loop
 add-i c = omega (arith, c .before .before .before .before .pre .0 .short)

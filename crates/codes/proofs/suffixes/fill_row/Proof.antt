@@ -13,13 +13,15 @@ use Rattle.codes.proofs.suffixes.fill_row.Statement.{statement}
 use Rattle.codes.proofs.suffixes.fill_row.Tie as tie
 
 abbrev Inv-loop : tie.InvT-loop
-Inv-loop voice lexicon offsets word table₀ i sink vertex₀ table vertex = RowFilled voice (graphOf lexicon) word table i vertex
+Inv-loop voice lexicon vertices word table₀ i sink vertex₀ table vertex =
+    RowFilled voice (graphOf lexicon) word table i vertex
 
 abbrev μ-loop : tie.MeasureT-loop
-μ-loop voice lexicon offsets word table₀ i sink vertex₀ table vertex = sink + 1 - vertex
+μ-loop voice lexicon vertices word table₀ i sink vertex₀ table vertex = sink + 1 - vertex
 
 number-at-requires : tie.Need-number-at-requires Inv-loop μ-loop
-number-at-requires c κs = count-there (c .before .before .before .before .pre .0 .0 .located .well-formed)
+number-at-requires c κs =
+    count-there (c .before .before .before .before .pre .0 .0 .opened .tabled .located .well-formed)
 
 -- the sink, and how high it is
 sink-is : (c : tie.After-number-at Inv-loop μ-loop) →
@@ -27,7 +29,8 @@ sink-is : (c : tie.After-number-at Inv-loop μ-loop) →
 unfolding nodeCount sink
 sink-is c =
     let e = c .number-at .ensures in
-    (omega arith, rw e (shape-of (c .before .before .before .before .before .pre .0 .0 .located .well-formed) .few))
+    let p = c .before .before .before .before .before .pre in
+    (omega arith, rw e (shape-of (p .0 .0 .opened .tabled .located .well-formed) .few))
 
 loop-holds : tie.Need-loop-holds Inv-loop μ-loop
 loop-holds c = row-start (c .before .before .before .before .before .pre .1)

@@ -1,33 +1,35 @@
 -- `suffixes::leads` meets its contract: no successor that was passed has a mark. The measure is what is left of the list. Assumes nothing.
 use Prim.Native.Nat.{ℕ, _+_, _*_, _-_, _≤_, _<_}
 use mathlib.Core.Path.{sym}
+use mathlib.Core.List.{[]}
 use lib.ListN.{length, getD}
 use native.Mathlib.Omega.{arith}
 use borrow.Author.Needs.{needs}
 use Rattle.lexicon.specs.Lexicon.{sinkOf}
-use Rattle.checking.proofs.Arcs.{ArcNext, arc-next, ListThere, has-entry, list-entry, list-at}
+use Rattle.checking.proofs.Arcs.{ArcNext, arc-next, ListThere, has-entry}
 use Rattle.checking.proofs.Masks.{Searching, search-start, search-found, search-next, search-done}
 use Rattle.codes.specs.Marks.{marked}
+use Rattle.codes.proofs.Heads.{arcs-of, list-of}
 use Rattle.codes.proofs.Search.{is-marked, not-marked}
 use Rattle.codes.proofs.suffixes.leads.Statement.{statement}
 use Rattle.codes.proofs.suffixes.leads.Tie as tie
 
 abbrev Inv-loop : tie.InvT-loop
-Inv-loop lexicon offsets table vertex row start end at₀ at = Searching (marked table row) lexicon vertex at end
+Inv-loop lexicon vertices table vertex row start end at₀ at = Searching (marked table row) lexicon vertex at end
 
 abbrev μ-loop : tie.MeasureT-loop
-μ-loop lexicon offsets table vertex row start end at₀ at = end - at
+μ-loop lexicon vertices table vertex row start end at₀ at = end - at
 
 low : (c : tie.After-shared-slice-known2 Inv-loop μ-loop) → c .before .before .args .vertex < 402
 unfolding sinkOf
-low c = let p = c .before .before .pre in has-entry (p .0 .well-formed) (omega (arith, p .1 .0))
+low c = let p = c .before .before .pre in has-entry (p .0 .located .well-formed) (omega (arith, p .1 .0))
 
 -- the list begins here
 abbrev start : tie.After-start Inv-loop μ-loop → ℕ
-start c = let a = c .before .before .before .args in getD (a .offsets .now) (a .vertex) 0
+start c = let a = c .before .before .before .args in getD (getD (a .vertices .now) (a .vertex) []) 0 0
 
 ends : (c : tie.After-start Inv-loop μ-loop) → ListThere (c .before .before .before .args .lexicon .now) (start c)
-ends c = let p = c .before .before .before .pre in list-at (p .0) (p .1 .0)
+ends c = let p = c .before .before .before .pre in list-of (p .0) (p .1 .0)
 
 number-at-requires : tie.Need-number-at-requires Inv-loop μ-loop
 number-at-requires c κs = omega (arith, ends c .there)
@@ -38,7 +40,7 @@ ended c = rw (c .number-at .ensures) (ends (c .before) .small)
 loop-holds : tie.Need-loop-holds Inv-loop μ-loop
 loop-holds c =
     let p = c .before .before .before .before .pre in
-    rw (c .number-at .ensures) (search-start _ (p .0 .well-formed) (p .1 .0) (list-entry (p .0) (p .1 .0)))
+    rw (c .number-at .ensures) (search-start _ (p .0 .located .well-formed) (p .1 .0) (arcs-of (p .0) (p .1 .0)))
 
 next : (c : tie.In-loop Inv-loop μ-loop) →
     let l = c .before in
@@ -55,7 +57,7 @@ placed : (c : tie.After-number-at2 Inv-loop μ-loop) →
     let a = c .before .before .before .before .before .before .before .args in a .row + c .number-at2 .result < length (a .table .now)
 placed c =
     let p = c .before .before .before .before .before .before .before .pre in
-    omega (arith, p .1 .1, c .number-at2 .ensures, has-entry (p .0 .well-formed) (next (c .before) .bounded))
+    omega (arith, p .1 .1, c .number-at2 .ensures, has-entry (p .0 .located .well-formed) (next (c .before) .bounded))
 
 returns : tie.Need-returns Inv-loop μ-loop
 returns c =
@@ -81,6 +83,7 @@ leads-spec =
     μ-loop
     (λ c. let h = low c in search needs)
     low
+    (λ c. search needs)
     (λ c. let h = ends c .small in search needs)
     (λ c. let h = ends c .small in search needs)
     number-at-requires

@@ -16,10 +16,11 @@ use Rattle.codes.proofs.suffixes.look_up.Statement.{statement}
 use Rattle.codes.proofs.suffixes.look_up.Tie as tie
 
 abbrev Inv-loop : tie.InvT-loop
-Inv-loop voice lexicon offsets counts word table sink vertex₀ row₀ code₀ vertex row code = CodeSought voice lexicon word vertex row code
+Inv-loop voice lexicon vertices word table sink vertex₀ row₀ code₀ vertex row code =
+    CodeSought voice lexicon word vertex row code
 
 abbrev μ-loop : tie.MeasureT-loop
-μ-loop voice lexicon offsets counts word table sink vertex₀ row₀ code₀ vertex row code = sink - vertex
+μ-loop voice lexicon vertices word table sink vertex₀ row₀ code₀ vertex row code = sink - vertex
 
 returns : tie.Need-returns Inv-loop μ-loop
 returns c =
@@ -29,7 +30,7 @@ returns c =
 fill-requires : tie.Need-fill-requires Inv-loop μ-loop
 fill-requires c κs =
     let p = c .before .before .before .before .before .before .pre in
-    (record { accepted = p .0 .accepted; located = p .0 .tabled .located; short = c .before .if1 .left }, p .1)
+    (record { opened = p .0; short = c .before .if1 .left }, p .1)
 
 -- the table is filled
 rows : (c : tie.After-fill Inv-loop μ-loop) →
@@ -41,7 +42,7 @@ leads-requires : tie.Need-leads-requires Inv-loop μ-loop
 leads-requires c κs =
     let f = c .before .before .before in
     let p = f .before .before .before .before .before .before .before .pre in
-    (p .0 .tabled .located, (omega arith, omega (arith, rows f .long)))
+    (p .0 .tabled, (omega arith, omega (arith, rows f .long)))
 
 -- the root's successors tell whether the word is one
 root : (c : tie.After-leads Inv-loop μ-loop) →
@@ -77,7 +78,8 @@ unfolding nodeCount
 nodes c =
     let f = c .before .before .before .before .before .before in
     let e = c .number-at .ensures in
-    (e, rw e (shape-of (f .before .before .before .before .before .before .before .pre .0 .tabled .located .well-formed) .few))
+    let p = f .before .before .before .before .before .before .before .pre in
+    (e, rw e (shape-of (p .0 .tabled .located .well-formed) .few))
 
 -- the word is one
 found : (c : tie.After-number-at Inv-loop μ-loop) →

@@ -16,11 +16,13 @@ use Rattle.codes.proofs.suffixes.mark.Statement.{statement}
 use Rattle.codes.proofs.suffixes.mark.Tie as tie
 
 number-at-requires : tie.Need-number-at-requires
-number-at-requires c κs = count-there (c .before .before .before .before .pre .0 .located .well-formed)
+number-at-requires c κs = count-there (c .before .before .before .before .pre .0 .opened .tabled .located .well-formed)
 
 add-sink : tie.Need-add-sink
 unfolding nodeCount
-add-sink c = omega (arith, c .number-at .ensures, shape-of (c .before .before .before .before .before .pre .0 .located .well-formed) .few)
+add-sink c =
+    let p = c .before .before .before .before .before .pre in
+    omega (arith, c .number-at .ensures, shape-of (p .0 .opened .tabled .located .well-formed) .few)
 
 sink-is : (c : tie.After-number-at) → c .number-at .result + 1 ≡ sink (graphOf (c .before .before .before .before .before .args .lexicon .now))
 unfolding nodeCount sink
@@ -50,7 +52,7 @@ node c =
 print-byte-requires : tie.Need-print-byte-requires
 print-byte-requires c κs =
     let p = c .before .before .before .before .before .before .before .pre in
-    readable (accepted (p .0 .accepted)) (p .1 .1 .1) (node c)
+    readable (accepted (p .0 .opened .accepted)) (p .1 .1 .1) (node c)
 
 returns-4 : tie.Need-returns-4
 returns-4 c =
@@ -64,7 +66,7 @@ leads-requires c κs =
     let p = b .before .before .before .before .before .before .before .before .pre in
     let h = node (b .before) in
     let k = more (b .before .before) in
-    (p .0 .located, (omega arith, omega (arith, p .1 .0 .long, p .0 .short)))
+    (p .0 .opened .tabled, (omega arith, omega (arith, p .1 .0 .long, p .0 .short)))
 
 -- what the next row says is what fits
 decides : (c : tie.After-leads) →
@@ -77,8 +79,8 @@ decides c =
     let a = s .args in
     let k = more (b .before .before) in
     c .leads .ensures
-    ∙ marks-say (sound-images (accepted (s .pre .0 .accepted))) (s .pre .1 .0) {j = a .i + 1} {u = a .vertex} (omega arith) (omega arith)
-    (node (b .before))
+    ∙ marks-say (sound-images (accepted (s .pre .0 .opened .accepted))) (s .pre .1 .0) {j = a .i + 1} {u = a .vertex}
+    (omega arith) (omega arith) (node (b .before))
     ∙ mark-after (a .voice .now) (graphOf (a .lexicon .now)) (a .word .now) (a .vertex) k (s .pre .1 .1 .1) (node (b .before))
     (sym (b .print-byte .ensures) ∙ c .before .if4 .left)
 
