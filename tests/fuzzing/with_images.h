@@ -56,7 +56,8 @@ static void test_lines(void)
         if (code == chosen) {
             size_t length = (size_t)spelled(code, &word);
             called = LIST;
-            must(length == end - from && memcmp(word.at, listing + from, length) == 0, "a line of the listing is not its code's word");
+            must(length == end - from && memcmp(word.at, listing + from, length) == 0,
+                 "a line of the listing is not its code's word");
         }
         from = end + 1;
     }
@@ -80,7 +81,8 @@ static void test_list(void)
     call.work = work_bytes();
     int32_t answer = once(&call, first_written);
     if (listing_length > 0 && answer != -1) {
-        must(answer == (call.out < listing_length ? -16 : (int32_t)listing_length), "16 does not fit the listing's length");
+        must(answer == (call.out < listing_length ? -16 : (int32_t)listing_length),
+             "16 does not fit the listing's length");
         if (answer > 0)
             must(memcmp(first_written, listing, listing_length) == 0, "the listing depends on the output's size");
     }
@@ -114,7 +116,8 @@ static void draw_word(struct bytes *word)
         fill(word->at + word->length, 256);
         word->length += 256;
     } else if (once_in(2) && word->length > 0)
-        word->at[below((uint32_t)word->length)] = once_in(3) ? (uint8_t)next() : voice.at[1 + 2 * below(voice.length > 8 ? 4 : 1)];
+        word->at[below((uint32_t)word->length)] =
+            once_in(3) ? (uint8_t)next() : voice.at[1 + 2 * below(voice.length > 8 ? 4 : 1)];
     else if (once_in(2) && word->length > 0)
         word->length--;
     else
@@ -135,7 +138,8 @@ static void test_word_to_code(void)
         must(answer == looked_up(&word), "the code is not the word's line in the listing");
     if (answer >= 0) {
         spelled((uint32_t)answer, &back);
-        must(back.length == word.length && memcmp(back.at, word.at, word.length) == 0, "the code of a word has another word");
+        must(back.length == word.length && memcmp(back.at, word.at, word.length) == 0,
+             "the code of a word has another word");
     }
 }
 
@@ -194,18 +198,17 @@ static void test_hits(const uint8_t *hits, int32_t count)
 {
     static struct bytes word;
     for (int32_t k = 0; k < count; k++) {
-        int32_t score = (int32_t)number(hits + 8 * k);
-        uint32_t code = number(hits + 8 * k + 4);
-        must(score >= -HIGHEST_SCORE && score <= HIGHEST_SCORE, "a score out of its range");
-        must(code < (uint32_t)verdict, "a hit's code is not below W");
-        if (code < (uint32_t)verdict)
-            spelled(code, &word);
+        struct wundaleth_hit hit = wundaleth_hit_at(hits, (size_t)k);
+        must(hit.score >= -HIGHEST_SCORE && hit.score <= HIGHEST_SCORE, "a score out of its range");
+        must(hit.code < (uint32_t)verdict, "a hit's code is not below W");
+        if (hit.code < (uint32_t)verdict)
+            spelled(hit.code, &word);
         called = DECODE;
         for (int32_t i = 0; i < k; i++) {
-            int32_t before = (int32_t)number(hits + 8 * i);
-            uint32_t other = number(hits + 8 * i + 4);
-            must(before > score || (before == score && other < code), "hits are not by falling score and rising code");
-            must(other != code, "a word is listed twice");
+            struct wundaleth_hit before = wundaleth_hit_at(hits, (size_t)i);
+            must(before.score > hit.score || (before.score == hit.score && before.code < hit.code),
+                 "hits are not by falling score and rising code");
+            must(before.code != hit.code, "a word is listed twice");
         }
     }
 }
