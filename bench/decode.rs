@@ -131,8 +131,8 @@ fn shown(time: Option<f64>) -> String {
     time.map_or("-".to_string(), |time| format!("{time:.1}"))
 }
 
-/// All inputs, T and n; returns the worst ratio to the plain decoder for T = 50 and for more frames: of the scope paper's
-/// five words, where a frame takes some 50 nanoseconds, and of all larger lexicons.
+/// All inputs, T and n; returns the worst ratio to the plain decoder for T = 50 and for more frames: of the scope
+/// paper's five words, where a frame takes some 50 nanoseconds, and of all larger lexicons.
 fn table(cases: &[Case], work: &mut [u8]) -> [[f64; 2]; 2] {
     let head = ["product µs", "plain µs", "ratio", "words µs", "ratio"];
     let head: String = head.iter().map(|name| format!("{name:>12}")).collect();

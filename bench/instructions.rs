@@ -1,5 +1,5 @@
-//! Calls the product's decoding once with every case of bench/decode, and prints a line for each: its name, and the answer
-//! with a sum over the hits. bench/instructions runs it under callgrind, which counts what each call executes.
+//! Calls the product's decoding once with every case of bench/decode, and prints a line for each: its name, and the
+//! answer with a sum over the hits. bench/instructions runs it under callgrind, which counts what each call executes.
 
 mod decode_cases;
 #[allow(dead_code)]

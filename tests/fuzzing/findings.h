@@ -28,7 +28,7 @@ static const struct {
     {"unpack", BIT(9) | BIT(12) | BIT(14) | BIT(15) | BIT(16), 4, false},
 };
 
-enum { MOST_WORDS = 1 << 20, HIGHEST_SCORE = 65501233, NODES = 400 };
+enum { HIGHEST_SCORE = 65501233, NODES = 400 };
 enum { IMAGE = 40 << 10, OUTPUT = 700 << 10, LISTED = 3000 };
 
 /* So many findings are printed, and end the run. */

@@ -21,10 +21,10 @@ static struct call with_images(enum function which, struct bytes *given, uint32_
 /* The word of a code that is below W, and back. */
 static int32_t spelled(uint32_t code, struct bytes *word)
 {
-    struct call call = with_images(CODE_TO_WORD, NULL, code, 32);
+    struct call call = with_images(CODE_TO_WORD, NULL, code, WUNDALETH_MOST_LETTERS);
     int32_t length = once(&call, word->at);
-    must(length >= 1 && length <= 32, "a code below W has no word of 1 to 32 letters");
-    word->length = length > 0 && length <= 32 ? (size_t)length : 0;
+    must(length >= 1 && length <= WUNDALETH_MOST_LETTERS, "a code below W has no word of 1 to 32 letters");
+    word->length = length > 0 && length <= WUNDALETH_MOST_LETTERS ? (size_t)length : 0;
     call = with_images(WORD_TO_CODE, word, 0, 0);
     must(once(&call, NULL) == (int32_t)code, "the word of a code has another code");
     return length;
@@ -38,7 +38,7 @@ static void test_check(void)
 {
     struct call call = with_images(CHECK, NULL, 0, 0);
     verdict = twice(&call);
-    must(verdict != 0 && verdict <= MOST_WORDS, "W is out of its range");
+    must(verdict != 0 && verdict <= WUNDALETH_MOST_WORDS, "W is out of its range");
     call.work = work_bytes();
     int32_t answer = once(&call, NULL);
     must(answer == -1 || answer == verdict, "W or the refusal depends on the work space");
@@ -52,7 +52,8 @@ static void test_lines(void)
         size_t end = from;
         while (end < listing_length && listing[end] != 10)
             end++;
-        must(end < listing_length && end > from && end - from <= 32, "a line of the listing is no word");
+        must(end < listing_length && end > from && end - from <= WUNDALETH_MOST_LETTERS,
+             "a line of the listing is no word");
         if (code == chosen) {
             size_t length = (size_t)spelled(code, &word);
             called = LIST;
@@ -186,12 +187,14 @@ static void draw_frames(struct bytes *frames)
 static int due_in_decoding(const struct call *call)
 {
     uint32_t bound = symbols();
-    if (call->given->length == 0 || call->given->length > 1000)
+    if (call->given->length == 0 || call->given->length > WUNDALETH_MOST_FRAMES)
         return -11;
     for (size_t k = 0; k < call->given->length; k++)
         if (call->given->at[k] >= bound)
             return -11;
-    return call->number < 1 || call->number > 8 ? -12 : call->out < 8 * (size_t)call->number ? -16 : 0;
+    if (call->number < 1 || call->number > WUNDALETH_MOST_HITS)
+        return -12;
+    return call->out < WUNDALETH_HIT_BYTES * (size_t)call->number ? -16 : 0;
 }
 
 static void test_hits(const uint8_t *hits, int32_t count)
