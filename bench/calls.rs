@@ -1,6 +1,10 @@
-//! The C functions that bench/codes times, called with slices.
+//! The functions that bench/codes times, of the library and of bench/plain_codes.c, called with slices.
+
+#[path = "../include/wundaleth.rs"]
+mod wundaleth;
 
 use crate::inputs::Input;
+use wundaleth::{wundaleth_check, wundaleth_code_to_word, wundaleth_word_to_code};
 
 type Check = unsafe extern "C" fn(*const u8, usize, *const u8, usize, *mut u8, usize) -> i32;
 type WordToCode = unsafe extern "C" fn(
@@ -26,35 +30,6 @@ type CodeToWord = unsafe extern "C" fn(
 ) -> i32;
 
 extern "C" {
-    fn wundaleth_check(
-        v: *const u8,
-        vn: usize,
-        l: *const u8,
-        ln: usize,
-        w: *mut u8,
-        wn: usize,
-    ) -> i32;
-    fn wundaleth_word_to_code(
-        v: *const u8,
-        vn: usize,
-        l: *const u8,
-        ln: usize,
-        word: *const u8,
-        word_len: usize,
-        w: *mut u8,
-        wn: usize,
-    ) -> i32;
-    fn wundaleth_code_to_word(
-        v: *const u8,
-        vn: usize,
-        l: *const u8,
-        ln: usize,
-        code: u32,
-        w: *mut u8,
-        wn: usize,
-        out: *mut u8,
-        out_len: usize,
-    ) -> i32;
     fn plain_check(v: *const u8, vn: usize, l: *const u8, ln: usize, w: *mut u8, wn: usize) -> i32;
     fn plain_word_to_code(
         v: *const u8,

@@ -13,21 +13,16 @@ mod random;
 #[allow(dead_code)]
 #[path = "../tests/running/sketch.rs"]
 mod sketch;
+#[path = "../include/wundaleth.rs"]
+mod wundaleth;
 
 use inputs::Input;
 use std::time::{Duration, Instant};
+use wundaleth::wundaleth_check;
 
 type Check = unsafe extern "C" fn(*const u8, usize, *const u8, usize, *mut u8, usize) -> i32;
 
 extern "C" {
-    fn wundaleth_check(
-        v: *const u8,
-        vn: usize,
-        l: *const u8,
-        ln: usize,
-        w: *mut u8,
-        wn: usize,
-    ) -> i32;
     fn plain_check(v: *const u8, vn: usize, l: *const u8, ln: usize, w: *mut u8, wn: usize) -> i32;
 }
 

@@ -2,6 +2,7 @@
 //! beside decoding word by word, on the same inputs, in turn; prints the medians and the ratios, then three
 //! series, which are also written to a file, from which bench/plot draws.
 
+mod decode_cases;
 mod decode_inputs;
 #[allow(dead_code)]
 #[path = "../tests/running/draw.rs"]
@@ -15,23 +16,11 @@ mod random;
 #[allow(dead_code)]
 #[path = "../tests/running/sketch.rs"]
 mod sketch;
+#[path = "../include/wundaleth.rs"]
+mod wundaleth;
 
-use decode_inputs::Input;
-use random::Random;
-
-type Decode = unsafe extern "C" fn(
-    *const u8,
-    usize,
-    *const u8,
-    usize,
-    *const u8,
-    usize,
-    u32,
-    *mut u8,
-    usize,
-    *mut u8,
-    usize,
-) -> i32;
+use decode_cases::{cases, Case, Decode, Series};
+use wundaleth::wundaleth_decode;
 
 macro_rules! decoders {
     ($($name:ident)*) => {
@@ -53,7 +42,7 @@ macro_rules! decoders {
     };
 }
 
-decoders!(wundaleth_decode plain_decode word_by_word);
+decoders!(plain_decode word_by_word);
 
 extern "C" {
     fn clock_gettime(clock: i32, time: *mut [i64; 2]) -> i32;
@@ -70,17 +59,12 @@ fn now() -> f64 {
     time[0] as f64 * 1e6 + time[1] as f64 / 1e3
 }
 
-/// For a figure a decoder is called in rounds, at least and at most so many, until it has taken about so many microseconds.
+/// For a figure a decoder is called in rounds, at least and at most so many, until it has taken about so many
+/// microseconds.
 const ROUNDS: (usize, usize) = (3, 200);
 const SPENT: f64 = 50_000.0;
 /// Word by word is left out where a call would take about a second or more: so many frames times states of words.
 const MOST_STEPS: u64 = 160_000_000;
-
-struct Case<'a> {
-    input: &'a Input,
-    frames: Vec<u8>,
-    n: u32,
-}
 
 /// Microseconds a call.
 struct Times {
@@ -91,36 +75,7 @@ struct Times {
     by_words: Option<f64>,
 }
 
-impl Case<'_> {
-    fn of<'a>(input: &'a Input, length: usize, n: u32, random: &mut Random) -> Case<'a> {
-        let frames = (0..length).map(|_| random.below(input.symbols) as u8);
-        Case {
-            input,
-            frames: frames.collect(),
-            n,
-        }
-    }
-
-    fn call(&self, decode: Decode, work: &mut [u8], out: &mut [u8]) -> i32 {
-        let (voice, lexicon) = (&self.input.voice, &self.input.lexicon);
-        // Each pointer is valid for its length.
-        unsafe {
-            decode(
-                voice.as_ptr(),
-                voice.len(),
-                lexicon.as_ptr(),
-                lexicon.len(),
-                self.frames.as_ptr(),
-                self.frames.len(),
-                self.n,
-                work.as_mut_ptr(),
-                work.len(),
-                out.as_mut_ptr(),
-                out.len(),
-            )
-        }
-    }
-
+impl Case {
     /// Calls so often in a row; microseconds a call.
     fn time(&self, decode: Decode, calls: usize, work: &mut [u8]) -> f64 {
         let mut out = [0; 64];
@@ -176,9 +131,9 @@ fn shown(time: Option<f64>) -> String {
     time.map_or("-".to_string(), |time| format!("{time:.1}"))
 }
 
-/// All inputs, T and n; returns the worst ratio to the plain decoder for T = 50 and for more frames: of the scope paper's five words, where a
-/// frame takes some 50 nanoseconds, and of all larger lexicons.
-fn table(random: &mut Random, work: &mut [u8]) -> [[f64; 2]; 2] {
+/// All inputs, T and n; returns the worst ratio to the plain decoder for T = 50 and for more frames: of the scope
+/// paper's five words, where a frame takes some 50 nanoseconds, and of all larger lexicons.
+fn table(cases: &[Case], work: &mut [u8]) -> [[f64; 2]; 2] {
     let head = ["product µs", "plain µs", "ratio", "words µs", "ratio"];
     let head: String = head.iter().map(|name| format!("{name:>12}")).collect();
     println!(
@@ -186,43 +141,40 @@ fn table(random: &mut Random, work: &mut [u8]) -> [[f64; 2]; 2] {
         "decoding", "places", "arcs", "words", "T", "n"
     );
     let mut worst = [[0f64; 2]; 2];
-    for input in decode_inputs::inputs(random) {
-        for (length, n) in [50, 300, 1_000]
-            .iter()
-            .flat_map(|t| [1, 3, 8].map(|n| (*t, n)))
-        {
-            let times = Case::of(&input, length, n, random).times(work);
-            let ratio = times.ratio;
-            let of_words = times.by_words.map(|time| times.product / time);
-            println!(
-                "{:<24}{:>7}{:>6}{:>8}{length:>6}{n:>3}{:>12.1}{:>12.1}{ratio:>12.2}{:>12}{:>12}",
-                input.name,
-                input.places,
-                input.arcs,
-                input.words,
-                times.product,
-                times.plain,
-                shown(times.by_words),
-                of_words.map_or("-".to_string(), |ratio| format!("{ratio:.4}")),
-            );
-            let worst = &mut worst[usize::from(input.words > 5)][usize::from(length > 50)];
-            *worst = worst.max(ratio);
-        }
+    for case in cases {
+        let (input, length, n) = (&case.input, case.frames.len(), case.n);
+        let times = case.times(work);
+        let ratio = times.ratio;
+        let of_words = times.by_words.map(|time| times.product / time);
+        println!(
+            "{:<24}{:>7}{:>6}{:>8}{length:>6}{n:>3}{:>12.1}{:>12.1}{ratio:>12.2}{:>12}{:>12}",
+            input.name,
+            input.places,
+            input.arcs,
+            input.words,
+            times.product,
+            times.plain,
+            shown(times.by_words),
+            of_words.map_or("-".to_string(), |ratio| format!("{ratio:.4}")),
+        );
+        let worst = &mut worst[usize::from(input.words > 5)][usize::from(length > 50)];
+        *worst = worst.max(ratio);
     }
     worst
 }
 
 /// One series: what grows, and the times. They are printed and added to the file's rows.
-fn series(name: &str, cases: Vec<(usize, Case)>, work: &mut [u8], rows: &mut String) {
+fn print_series(series: &Series, work: &mut [u8], rows: &mut String) {
+    let name = series.name;
     println!();
     println!(
         "{:>12}{:>14}{:>14}{:>14}{:>14}",
         name, "product µs", "µs each", "plain µs", "words µs"
     );
-    for (size, case) in cases {
+    for (size, case) in &series.cases {
         let times = case.times(work);
         let (product, plain) = (times.product, times.plain);
-        let each = product / size as f64;
+        let each = product / *size as f64;
         let by_words = shown(times.by_words);
         println!("{size:>12}{product:>14.1}{each:>14.4}{plain:>14.1}{by_words:>14}");
         *rows += &format!("{name},{size},{product:.1},{plain:.1},{by_words}\n");
@@ -231,30 +183,19 @@ fn series(name: &str, cases: Vec<(usize, Case)>, work: &mut [u8], rows: &mut Str
 
 fn main() {
     let file = std::env::args().nth(1).unwrap_or("series.csv".to_string());
-    let random = &mut Random::from_seed(1);
     let work = &mut vec![0; 64_000];
-    let worst = table(random, work);
+    let cases = cases();
+    let worst = table(&cases.table, work);
     for (name, worst) in ["five words", "from 20 nodes up"].iter().zip(worst) {
         println!(
             "worst ratio to plain, {name}: {:.2} for T = 50, {:.2} for T of 300 and 1,000",
             worst[0], worst[1]
         );
     }
-    let arcs = decode_inputs::over_arcs(random);
-    let words = decode_inputs::over_words(random);
-    let mut case = |input, length| Case::of(input, length, 3, random);
-    let lengths = [50, 100, 200, 300, 400, 500, 600, 700, 800, 900, 1_000];
-    let over_frames = lengths.map(|length| (length, case(&arcs[2], length)));
-    let over_arcs = arcs.iter().map(|input| (input.arcs, case(input, 300)));
-    let over_arcs = over_arcs.collect();
-    let over_words = words
-        .iter()
-        .map(|input| (input.words as usize, case(input, 50)));
-    let over_words = over_words.collect();
     let mut rows = "series,size,product,plain,word by word\n".to_string();
-    series("frames", over_frames.into(), work, &mut rows);
-    series("arcs", over_arcs, work, &mut rows);
-    series("words", over_words, work, &mut rows);
+    for series in &cases.series {
+        print_series(series, work, &mut rows);
+    }
     match std::fs::write(&file, rows) {
         Ok(()) => println!("written: {file}"),
         Err(error) => println!("not written: {file}: {error}"),

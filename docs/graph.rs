@@ -1,5 +1,5 @@
-//! Draws the graph of a lexicon: each vertex with its letter and number, each arc with its increment, and below them the
-//! words with their codes.
+//! Draws the graph of a lexicon: each vertex with its letter and number, each arc with its increment, and below them
+//! the words with their codes.
 
 #[allow(dead_code)]
 #[path = "../tests/running/image.rs"]
@@ -7,6 +7,8 @@ mod image;
 
 mod graph_layout;
 mod graph_words;
+#[path = "../include/wundaleth.rs"]
+mod wundaleth;
 
 use graph_layout::{distance, labels, Curve, Label, Layout, Place, DIGIT, RADIUS};
 use graph_words::{words_of, Graph, Word};
@@ -21,6 +23,12 @@ const LINE: f64 = 20.0;
 const COLUMN_GAP: f64 = 20.0;
 /// How wide a print byte is.
 const PRINT_BYTE: f64 = 9.0;
+
+/// A drawing of more is too large to be read.
+const NODES: usize = 100;
+const ARCS: usize = 200;
+/// One increment in so many may cover another arc than its own. With more of them, arcs cannot be followed.
+const COVERING: usize = 10;
 
 const CAPTION: [&str; 2] = [
     "On each arc its increment: the number of paths to the sink through the successors stored before it.",
@@ -58,10 +66,13 @@ fn arrow(samples: &[Place]) -> String {
 }
 
 fn vertex(graph: &Graph, vertex: usize, (x, y): Place) -> String {
-    let ring = |radius: f64| {
-        format!("<circle cx=\"{x:.1}\" cy=\"{y:.1}\" r=\"{radius}\" fill=\"#ffffff\" stroke=\"#000000\"/>\n")
-    };
-    let number = format!("<text x=\"{x:.1}\" y=\"{:.1}\" text-anchor=\"middle\" font-size=\"10\" fill=\"#555555\">{vertex}</text>\n", y + 15.0);
+    let ring = format!(
+        "<circle cx=\"{x:.1}\" cy=\"{y:.1}\" r=\"{RADIUS}\" fill=\"#ffffff\" stroke=\"#000000\"/>\n"
+    );
+    let number = format!(
+        "<text x=\"{x:.1}\" y=\"{:.1}\" text-anchor=\"middle\" font-size=\"10\" fill=\"#555555\">{vertex}</text>\n",
+        y + 15.0
+    );
     let name = match vertex {
         0 => text(x, y + 2.0, "middle", "root"),
         v if v == graph.sink() => text(x, y + 2.0, "middle", "sink"),
@@ -71,7 +82,7 @@ fn vertex(graph: &Graph, vertex: usize, (x, y): Place) -> String {
             escaped(&graph.letters[v].to_string())
         ),
     };
-    ring(RADIUS) + &name + &number
+    ring + &name + &number
 }
 
 /// White, so that no line runs through the label.
@@ -137,8 +148,13 @@ fn places(layout: &Layout, width: f64) -> Vec<Place> {
     places
 }
 
-/// The arcs with their increments, and the vertices over them.
-fn picture(graph: &Graph, layout: &Layout, places: &[Place], increments: &[String]) -> String {
+/// The arcs with their increments, and the vertices over them; or why they could not be read.
+fn picture(
+    graph: &Graph,
+    layout: &Layout,
+    places: &[Place],
+    increments: &[String],
+) -> Result<String, String> {
     let curve = |row: &Vec<usize>| Curve {
         places: row.iter().map(|point| places[*point]).collect(),
     };
@@ -151,17 +167,21 @@ fn picture(graph: &Graph, layout: &Layout, places: &[Place], increments: &[Strin
         svg += &format!("<path d=\"{path}\" fill=\"none\" stroke=\"#000000\"/>\n");
         svg += &arrow(samples);
     }
-    for (label, increment) in labels(increments, &samples, vertices)
-        .iter()
-        .zip(increments)
-    {
+    let labels = labels(increments, &samples, vertices);
+    let (all, covering) = (labels.len(), labels.iter().filter(|l| !l.is_alone).count());
+    if covering * COVERING > all {
+        return Err(format!(
+            "not drawn: {covering} of {all} increments would cover other arcs"
+        ));
+    }
+    for (label, increment) in labels.iter().zip(increments) {
         svg += &ground(label);
         svg += &text(label.middle.0, label.middle.1 + 4.0, "middle", increment);
     }
     for (k, place) in vertices.iter().enumerate() {
         svg += &vertex(graph, k, *place);
     }
-    svg
+    Ok(svg)
 }
 
 fn heading(graph: &Graph, arcs: usize, words: u64, middle: f64) -> String {
@@ -174,10 +194,16 @@ fn heading(graph: &Graph, arcs: usize, words: u64, middle: f64) -> String {
     svg
 }
 
-fn drawn(graph: &Graph) -> String {
+fn drawn(graph: &Graph) -> Result<String, String> {
     let counts = graph.path_counts();
     let increments = graph.increments(&counts);
     let on_arcs: Vec<String> = increments.iter().flatten().map(u64::to_string).collect();
+    let (nodes, arcs) = (graph.sink() - 1, on_arcs.len());
+    if nodes > NODES || arcs > ARCS {
+        return Err(format!(
+            "not drawn: {nodes} nodes and {arcs} arcs; a drawing can be read up to {NODES} and {ARCS}"
+        ));
+    }
     let mut layout = Layout::of(graph);
     layout.order();
     let gaps = (layout.layers.len() - 1) as f64;
@@ -190,12 +216,13 @@ fn drawn(graph: &Graph) -> String {
     let (table, table_height) = table(&words, counts[0], below, width);
     let height = below + table_height + 10.0;
     let mut svg = format!(
-        "<svg xmlns=\"http://www.w3.org/2000/svg\" width=\"{width}\" height=\"{height:.0}\" viewBox=\"0 0 {width} {height:.0}\" font-family=\"sans-serif\" font-size=\"12\">\n"
+        "<svg xmlns=\"http://www.w3.org/2000/svg\" width=\"{width}\" height=\"{height:.0}\" \
+         viewBox=\"0 0 {width} {height:.0}\" font-family=\"sans-serif\" font-size=\"12\">\n"
     );
     svg += "<rect width=\"100%\" height=\"100%\" fill=\"#ffffff\"/>\n";
-    svg += &heading(graph, on_arcs.len(), counts[0], width / 2.0);
-    svg += &picture(graph, &layout, &places, &on_arcs);
-    svg + &table + "</svg>\n"
+    svg += &heading(graph, arcs, counts[0], width / 2.0);
+    svg += &picture(graph, &layout, &places, &on_arcs)?;
+    Ok(svg + &table + "</svg>\n")
 }
 
 /// The small lexicon, or the images in two files, and where the drawing goes.
@@ -212,10 +239,40 @@ fn asked(words: &[String]) -> Result<(Vec<u8>, Vec<u8>, &String), String> {
     }
 }
 
+/// The library's verdict on the images: nothing, or its refusal.
+fn judged(voice: &[u8], lexicon: &[u8]) -> Result<(), String> {
+    let mut work = vec![0; 64_000];
+    // Each pointer is valid for its length, and the buffers are memory of their own.
+    let answer = unsafe {
+        wundaleth::wundaleth_check(
+            voice.as_ptr(),
+            voice.len(),
+            lexicon.as_ptr(),
+            lexicon.len(),
+            work.as_mut_ptr(),
+            work.len(),
+        )
+    };
+    let why = match -answer {
+        2 => "the voice model ends inside a field, or has bytes after its last",
+        3 => "a field of the voice model is out of its range",
+        4 => "the lexicon ends inside a field, or has bytes after its last",
+        5 => "a field of the lexicon is out of its range",
+        6 => "a node is nobody's successor",
+        7 => "there are more than 1,000 places",
+        8 => "a word has more than 32 letters",
+        9 => "there are more than 1,048,576 words",
+        10 => "two different full paths have the same letters",
+        _ => return Ok(()),
+    };
+    Err(format!("refused {}: {why}", -answer))
+}
+
 fn draw(words: &[String]) -> Result<(), String> {
     let (voice, lexicon, drawing) = asked(words)?;
-    let graph = Graph::read(&voice, &lexicon).ok_or("these images are not accepted")?;
-    std::fs::write(drawing, drawn(&graph)).map_err(|error| format!("{drawing}: {error}"))
+    judged(&voice, &lexicon)?;
+    let svg = drawn(&Graph::of_accepted(&voice, &lexicon))?;
+    std::fs::write(drawing, svg).map_err(|error| format!("{drawing}: {error}"))
 }
 
 fn main() -> ExitCode {
@@ -223,7 +280,7 @@ fn main() -> ExitCode {
     match draw(&words) {
         Ok(()) => ExitCode::SUCCESS,
         Err(why) => {
-            println!("{why}");
+            eprintln!("docs/graph: {why}");
             ExitCode::FAILURE
         }
     }

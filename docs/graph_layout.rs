@@ -1,5 +1,6 @@
-//! Where the vertices, arcs and increments of a graph are drawn: vertices in layers by their longest distance from the root,
-//! with few crossings; arcs as curves between the vertices of the layers that they pass; increments on their arcs.
+//! Where the vertices, arcs and increments of a graph are drawn: vertices in layers by their longest distance from the
+//! root, with few crossings; arcs as curves between the vertices of the layers that they pass; increments on their
+//! arcs.
 
 use crate::graph_words::Graph;
 
@@ -13,8 +14,8 @@ pub const DIGIT: f64 = 7.0;
 
 pub type Place = (f64, f64);
 
-/// What is laid out: the vertices, by their numbers, and after them the bends of arcs that pass over layers. Each arc is a
-/// row of points, one in each layer from its tail to its head.
+/// What is laid out: the vertices, by their numbers, and after them the bends of arcs that pass over layers. Each arc
+/// is a row of points, one in each layer from its tail to its head.
 pub struct Layout {
     pub layers: Vec<Vec<usize>>,
     pub arcs: Vec<Vec<usize>>,
@@ -88,7 +89,8 @@ impl Layout {
         crossings
     }
 
-    /// Orders each layer by the mean position of its neighbours, to and fro, and keeps the order with the fewest crossings.
+    /// Orders each layer by the mean position of its neighbours, to and fro, and keeps the order with the fewest
+    /// crossings.
     pub fn order(&mut self) {
         let mut best = (self.crossings(), self.layers.clone());
         for round in 0..24 {
@@ -147,8 +149,8 @@ impl Layout {
     }
 }
 
-/// The heights nearest to the wanted ones that keep their order and leave each its room: those that come too close form one
-/// block around their mean.
+/// The heights nearest to the wanted ones that keep their order and leave each its room: those that come too close form
+/// one block around their mean.
 fn spread(wanted: &[f64], rooms: &[f64]) -> Vec<f64> {
     let mut offset = 0.0;
     let mut blocks: Vec<(f64, f64)> = Vec::new();
@@ -234,11 +236,12 @@ pub fn distance(one: Place, other: Place) -> f64 {
     (one.0 - other.0).hypot(one.1 - other.1)
 }
 
-/// A label's middle and half its size.
+/// A label's middle and half its size, and whether there is nothing but its own arc under it.
 #[derive(Clone, Copy)]
 pub struct Label {
     pub middle: Place,
     pub half: Place,
+    pub is_alone: bool,
 }
 
 impl Label {
@@ -284,12 +287,17 @@ pub fn labels(texts: &[String], samples: &[Vec<Place>], vertices: &[Place]) -> V
             let label = Label {
                 middle: *middle,
                 half,
+                is_alone: false,
             };
             let along = step as f64 / samples[k].len() as f64;
             (cost(&label, k, along, &labels, samples, vertices), label)
         });
         let best = judged.min_by(|one, other| one.0.total_cmp(&other.0));
-        labels.extend(best.map(|(_, label)| label));
+        // an arc under it counts 2, a text or a vertex more
+        labels.extend(best.map(|(cost, label)| Label {
+            is_alone: cost < 2.0,
+            ..label
+        }));
     }
     labels
 }

@@ -1,4 +1,4 @@
-//! The word graph of two images: paths to the sink, increments, and words with their codes (the scope paper, Lexicon).
+//! The word graph of two images: paths to the sink, increments, and words with their codes (docs/FORMAT.md).
 
 /// More words than this are not written out.
 const WORDS: usize = 60;
@@ -10,64 +10,51 @@ pub struct Graph {
     pub successors: Vec<Vec<usize>>,
 }
 
+/// Reads the fields of an image in order.
 struct Reader<'a> {
     rest: &'a [u8],
 }
 
 impl Reader<'_> {
-    fn byte(&mut self) -> Option<usize> {
-        let (first, rest) = self.rest.split_first()?;
-        self.rest = rest;
-        Some(usize::from(*first))
+    fn byte(&mut self) -> usize {
+        let first = self.rest[0];
+        self.rest = &self.rest[1..];
+        usize::from(first)
     }
 
-    fn number(&mut self) -> Option<usize> {
-        Some(self.byte()? + 256 * self.byte()?)
+    fn number(&mut self) -> usize {
+        self.byte() + 256 * self.byte()
     }
 }
 
-fn print_bytes(voice: &[u8]) -> Option<Vec<char>> {
+fn print_bytes(voice: &[u8]) -> Vec<char> {
     let mut reader = Reader { rest: voice };
-    let count = reader.byte()?;
-    let letters = (0..count).map(|_| {
-        let print_byte = reader.byte()? as u8;
-        let _states = reader.byte()?;
-        Some(char::from(print_byte))
+    let letters = (0..reader.byte()).map(|_| {
+        let print_byte = reader.byte() as u8;
+        let _states = reader.byte();
+        char::from(print_byte)
     });
     letters.collect()
 }
 
 impl Graph {
-    /// The graph of two images, if each field that it is made of is in its range and each node is a successor.
-    pub fn read(voice: &[u8], lexicon: &[u8]) -> Option<Graph> {
-        let print_bytes = print_bytes(voice)?;
+    /// The graph of two images that are accepted: each field is there and in its range.
+    pub fn of_accepted(voice: &[u8], lexicon: &[u8]) -> Graph {
+        let print_bytes = print_bytes(voice);
         let mut reader = Reader { rest: lexicon };
-        let nodes = reader.number()?;
-        let sink = nodes + 1;
+        let nodes = reader.number();
         let mut letters = vec![' '; nodes + 2];
-        for letter in &mut letters[1..sink] {
-            *letter = *print_bytes.get(reader.byte()?)?;
+        for letter in &mut letters[1..=nodes] {
+            *letter = print_bytes[reader.byte()];
         }
         let mut successors = vec![Vec::new(); nodes + 2];
-        let mut is_successor = vec![false; nodes + 2];
-        for (vertex, list) in successors[..sink].iter_mut().enumerate() {
-            for _ in 0..reader.number()? {
-                let successor = reader.number()?;
-                if successor <= vertex || successor > sink || list.contains(&successor) {
-                    return None;
-                }
-                is_successor[successor] = true;
-                list.push(successor);
-            }
+        for list in &mut successors[..=nodes] {
+            *list = (0..reader.number()).map(|_| reader.number()).collect();
         }
-        let is_whole = reader.number()? == 0 && reader.rest.is_empty();
-        let is_led_on = successors[..sink].iter().all(|list| !list.is_empty())
-            && !successors[0].contains(&sink);
-        let is_reached = is_successor[1..].iter().all(|is| *is);
-        (is_whole && is_led_on && is_reached).then_some(Graph {
+        Graph {
             letters,
             successors,
-        })
+        }
     }
 
     pub fn sink(&self) -> usize {
@@ -79,7 +66,7 @@ impl Graph {
         let mut counts = vec![1; self.letters.len()];
         for vertex in (0..self.sink()).rev() {
             let through = self.successors[vertex].iter().map(|s| counts[*s]);
-            counts[vertex] = through.fold(0, u64::saturating_add);
+            counts[vertex] = through.sum();
         }
         counts
     }
@@ -89,7 +76,7 @@ impl Graph {
         let of_list = |list: &Vec<usize>| {
             let sums = list.iter().scan(0u64, |sum, successor| {
                 let before = *sum;
-                *sum = sum.saturating_add(counts[*successor]);
+                *sum += counts[*successor];
                 Some(before)
             });
             sums.collect()

@@ -56,7 +56,8 @@ static int32_t made(const struct call *call, const struct lent *lent)
     case LIST:
         return wundaleth_list(v, v_length, l, l_length, work, call->work, out, call->out);
     case DECODE:
-        return wundaleth_decode(v, v_length, l, l_length, given, given_length, call->number, work, call->work, out, call->out);
+        return wundaleth_decode(v, v_length, l, l_length, given, given_length, call->number, work, call->work, out,
+                                call->out);
     case PACK:
         return wundaleth_pack(call->words, (const uint32_t *)(const void *)given, given_length / 4, out, call->out);
     default:
@@ -82,7 +83,8 @@ static void test_work(const struct call *call, const struct lent *work, int32_t 
         must(verdict < 0 ? answer == verdict : answer >= 0 || answer < -10, "the images' verdict is not that of check");
 }
 
-/* Makes a call with buffers full of old bytes, and tests it. The bytes written are put into `written`, if there is one. */
+/* Makes a call with buffers full of old bytes, and tests it. The bytes written are put into `written`, if there is
+ * one. */
 static int32_t once(const struct call *call, uint8_t *written)
 {
     static struct bytes nothing;
@@ -122,13 +124,15 @@ static int32_t once(const struct call *call, uint8_t *written)
 
 static uint8_t first_written[OUTPUT], second_written[OUTPUT];
 
-/* Makes a call twice, with other old bytes and at other addresses: the answers are equal. The bytes are in first_written. */
+/* Makes a call twice, with other old bytes and at other addresses: the answers are equal. The bytes are in
+ * first_written. */
 static int32_t twice(const struct call *call)
 {
     int32_t answer = once(call, first_written);
     must(once(call, second_written) == answer, "two equal calls answered differently");
     if (answer > 0)
-        must(memcmp(first_written, second_written, functions[called].unit * (size_t)answer) == 0, "two equal calls wrote different bytes");
+        must(memcmp(first_written, second_written, functions[called].unit * (size_t)answer) == 0,
+             "two equal calls wrote different bytes");
     return answer;
 }
 

@@ -1,18 +1,20 @@
-/* Libraries with one fault each, to show that tests/fuzz finds it: the linker leads each call here (--wrap), and the fault is added to what the
-   library does. -DFAULT=k chooses it. */
+/* Libraries with one fault each, to show that tests/fuzz finds it: the linker leads each call here (--wrap), and the
+ * fault is added to what the library does. -DFAULT=k chooses it. */
 #include "../../include/wundaleth.h"
 
-int32_t __real_wundaleth_check(const uint8_t *, size_t, const uint8_t *, size_t, uint8_t *, size_t);
-int32_t __real_wundaleth_word_to_code(const uint8_t *, size_t, const uint8_t *, size_t, const uint8_t *, size_t, uint8_t *, size_t);
-int32_t __real_wundaleth_code_to_word(const uint8_t *, size_t, const uint8_t *, size_t, uint32_t, uint8_t *, size_t, uint8_t *, size_t);
-int32_t __real_wundaleth_list(const uint8_t *, size_t, const uint8_t *, size_t, uint8_t *, size_t, uint8_t *, size_t);
-int32_t __real_wundaleth_decode(const uint8_t *, size_t, const uint8_t *, size_t, const uint8_t *, size_t, uint32_t, uint8_t *, size_t, uint8_t *,
-                                size_t);
-int32_t __real_wundaleth_pack(uint32_t, const uint32_t *, size_t, uint8_t *, size_t);
-int32_t __real_wundaleth_unpack(uint32_t, uint32_t, const uint8_t *, size_t, uint8_t *, size_t);
+/* The library's own function, and the one that is called in its place, of the type that the header gives it. */
+#define WRAPPED(name) extern __typeof__(wundaleth_##name) __real_wundaleth_##name, __wrap_wundaleth_##name
 
-int32_t __wrap_wundaleth_check(const uint8_t *voice, size_t voice_length, const uint8_t *lexicon, size_t lexicon_length, uint8_t *work,
-                               size_t work_length)
+WRAPPED(check);
+WRAPPED(word_to_code);
+WRAPPED(code_to_word);
+WRAPPED(list);
+WRAPPED(decode);
+WRAPPED(pack);
+WRAPPED(unpack);
+
+int32_t __wrap_wundaleth_check(const uint8_t *voice, size_t voice_length, const uint8_t *lexicon,
+                               size_t lexicon_length, uint8_t *work, size_t work_length)
 {
     int32_t answer = __real_wundaleth_check(voice, voice_length, lexicon, lexicon_length, work, work_length);
     if (FAULT == 1 && answer == -10)
@@ -26,14 +28,15 @@ int32_t __wrap_wundaleth_check(const uint8_t *voice, size_t voice_length, const 
     return answer;
 }
 
-int32_t __wrap_wundaleth_word_to_code(const uint8_t *voice, size_t voice_length, const uint8_t *lexicon, size_t lexicon_length,
-                                      const uint8_t *word, size_t word_length, uint8_t *work, size_t work_length)
+int32_t __wrap_wundaleth_word_to_code(const uint8_t *voice, size_t voice_length, const uint8_t *lexicon,
+                                      size_t lexicon_length, const uint8_t *word, size_t word_length, uint8_t *work,
+                                      size_t work_length)
 {
     /* the length is cut off at 8 bits */
     if (FAULT == 5)
         word_length &= 255;
-    int32_t answer =
-        __real_wundaleth_word_to_code(voice, voice_length, lexicon, lexicon_length, word, word_length, work, work_length);
+    int32_t answer = __real_wundaleth_word_to_code(voice, voice_length, lexicon, lexicon_length, word, word_length,
+                                                   work, work_length);
     if (FAULT == 6 && answer > 300)
         return answer ^ 1;
     /* the byte after the word is read */
@@ -42,11 +45,12 @@ int32_t __wrap_wundaleth_word_to_code(const uint8_t *voice, size_t voice_length,
     return answer;
 }
 
-int32_t __wrap_wundaleth_code_to_word(const uint8_t *voice, size_t voice_length, const uint8_t *lexicon, size_t lexicon_length, uint32_t code,
-                                      uint8_t *work, size_t work_length, uint8_t *out, size_t out_length)
+int32_t __wrap_wundaleth_code_to_word(const uint8_t *voice, size_t voice_length, const uint8_t *lexicon,
+                                      size_t lexicon_length, uint32_t code, uint8_t *work, size_t work_length,
+                                      uint8_t *out, size_t out_length)
 {
-    int32_t answer =
-        __real_wundaleth_code_to_word(voice, voice_length, lexicon, lexicon_length, code, work, work_length, out, out_length);
+    int32_t answer = __real_wundaleth_code_to_word(voice, voice_length, lexicon, lexicon_length, code, work,
+                                                   work_length, out, out_length);
     /* a zero byte ends the word, and may lie behind the output */
     if (FAULT == 8 && answer > 0)
         out[answer] = 0;
@@ -55,22 +59,23 @@ int32_t __wrap_wundaleth_code_to_word(const uint8_t *voice, size_t voice_length,
     return answer;
 }
 
-int32_t __wrap_wundaleth_list(const uint8_t *voice, size_t voice_length, const uint8_t *lexicon, size_t lexicon_length, uint8_t *work,
-                              size_t work_length, uint8_t *out, size_t out_length)
+int32_t __wrap_wundaleth_list(const uint8_t *voice, size_t voice_length, const uint8_t *lexicon, size_t lexicon_length,
+                              uint8_t *work, size_t work_length, uint8_t *out, size_t out_length)
 {
-    int32_t answer = __real_wundaleth_list(voice, voice_length, lexicon, lexicon_length, work, work_length, out, out_length);
+    int32_t answer = __real_wundaleth_list(voice, voice_length, lexicon, lexicon_length, work, work_length, out,
+                                           out_length);
     if (FAULT == 10 && answer == -16 && out_length > 0)
         out[0] = 0;
     return answer;
 }
 
-int32_t __wrap_wundaleth_decode(const uint8_t *voice, size_t voice_length, const uint8_t *lexicon, size_t lexicon_length,
-                                const uint8_t *frames, size_t frames_length, uint32_t n, uint8_t *work, size_t work_length, uint8_t *out,
-                                size_t out_length)
+int32_t __wrap_wundaleth_decode(const uint8_t *voice, size_t voice_length, const uint8_t *lexicon,
+                                size_t lexicon_length, const uint8_t *frames, size_t frames_length, uint32_t n,
+                                uint8_t *work, size_t work_length, uint8_t *out, size_t out_length)
 {
     uint8_t old = work_length > 0 ? work[0] : 0;
-    int32_t answer = __real_wundaleth_decode(voice, voice_length, lexicon, lexicon_length, frames, frames_length, n, work, work_length, out,
-                                             out_length);
+    int32_t answer = __real_wundaleth_decode(voice, voice_length, lexicon, lexicon_length, frames, frames_length, n,
+                                             work, work_length, out, out_length);
     /* the hits depend on what the work space held */
     if (FAULT == 11 && answer > 0 && old < 8)
         out[0] ^= 1;
@@ -88,7 +93,8 @@ int32_t __wrap_wundaleth_decode(const uint8_t *voice, size_t voice_length, const
     return answer;
 }
 
-int32_t __wrap_wundaleth_pack(uint32_t words, const uint32_t *codes, size_t codes_length, uint8_t *out, size_t out_length)
+int32_t __wrap_wundaleth_pack(uint32_t words, const uint32_t *codes, size_t codes_length, uint8_t *out,
+                              size_t out_length)
 {
     int32_t answer = __real_wundaleth_pack(words, codes, codes_length, out, out_length);
     if (FAULT == 15 && answer > 0 && words == 1u << 20)
@@ -96,7 +102,8 @@ int32_t __wrap_wundaleth_pack(uint32_t words, const uint32_t *codes, size_t code
     return answer;
 }
 
-int32_t __wrap_wundaleth_unpack(uint32_t words, uint32_t n, const uint8_t *packed, size_t packed_length, uint8_t *out, size_t out_length)
+int32_t __wrap_wundaleth_unpack(uint32_t words, uint32_t n, const uint8_t *packed, size_t packed_length, uint8_t *out,
+                                size_t out_length)
 {
     int32_t answer = __real_wundaleth_unpack(words, n, packed, packed_length, out, out_length);
     if (FAULT == 16 && answer == -15)

@@ -28,7 +28,8 @@ static const struct {
     {"unpack", BIT(9) | BIT(12) | BIT(14) | BIT(15) | BIT(16), 4, false},
 };
 
-enum { MOST_WORDS = 1 << 20, HIGHEST_SCORE = 65501233, NODES = 400, IMAGE = 40 << 10, OUTPUT = 700 << 10, LISTED = 3000 };
+enum { HIGHEST_SCORE = 65501233, NODES = 400 };
+enum { IMAGE = 40 << 10, OUTPUT = 700 << 10, LISTED = 3000 };
 
 /* So many findings are printed, and end the run. */
 enum { SHOWN = 20 };
@@ -40,7 +41,8 @@ static enum function called;
 static void found(const char *what)
 {
     if (++findings <= SHOWN)
-        printf("FOUND in %s: %s (again: tests/fuzz plain 0 %llu %llu)\n", functions[called].name, what, seed, round_now);
+        printf("FOUND in %s: %s (again: tests/fuzz plain 0 %llu %llu)\n", functions[called].name, what, seed,
+               round_now);
 }
 
 static void must(bool is_true, const char *what)
@@ -71,7 +73,8 @@ static void print_counts(void)
 
 static void stopped(int which)
 {
-    found(which == SIGALRM ? "the call does not end" : "a byte outside the buffers was touched, or the call stopped the program");
+    found(which == SIGALRM ? "the call does not end"
+                           : "a byte outside the buffers was touched, or the call stopped the program");
     print_counts();
     _exit(1);
 }

@@ -42,13 +42,14 @@ static void draw_voice(uint32_t letters, uint32_t most_states, uint32_t symbols)
         put_number(&voice, score());
 }
 
-/* Each vertex and its successors so far. A list has no letter twice, so that no word is spelled twice, unless that is wanted. */
+/* Each vertex and its successors so far. A list has no letter twice, so that no word is spelled twice, unless that is
+ * wanted. */
 static struct {
     uint32_t letter, depth, count, list[66];
 } vertices[NODES + 1];
 
-/* What graphs are drawn: how long words get, once in how many times a node does not follow the last one, up to how many further arcs lead to
- * a node. */
+/* What graphs are drawn: how long words get, once in how many times a node does not follow the last one, up to how many
+ * further arcs lead to a node. */
 static struct {
     uint32_t nodes, letters, longest, branch, more;
     bool twice_too;
@@ -118,7 +119,8 @@ static void draw_lexicon(void)
 /* The small lexicon of the scope paper: an, at, i, in, it. */
 static void small(void)
 {
-    static const uint8_t arcs[] = {4, 0, 0, 1, 2, 3, 2, 0, 1, 0, 2, 0, 2, 0, 3, 0, 4, 0, 3, 0, 5, 0, 3, 0, 4, 0, 1, 0, 5, 0, 1, 0, 5, 0, 0, 0};
+    static const uint8_t arcs[] = {4, 0, 0, 1, 2, 3, 2, 0, 1, 0, 2, 0, 2, 0, 3, 0, 4, 0,
+                                   3, 0, 5, 0, 3, 0, 4, 0, 1, 0, 5, 0, 1, 0, 5, 0, 0, 0};
     memcpy(lexicon.at, arcs, lexicon.length = sizeof arcs);
     voice.length = 0;
     put(&voice, 4);
@@ -145,7 +147,8 @@ static size_t links_at(void)
     return states + 2 + 4 * (voice.at[states] + 256u * voice.at[states + 1]);
 }
 
-/* Where a field of a whole image begins, and its size: in a voice model a count, a print byte, a number of states, a step or the links. */
+/* Where a field of a whole image begins, and its size: in a voice model a count, a print byte, a number of states, a
+ * step or the links. */
 static size_t voice_field(size_t *size)
 {
     size_t letters = voice.at[0], states = 1 + 2 * letters, links = links_at();

@@ -1,8 +1,10 @@
-/* Random calls of the C interface, each held to what has to be true of any call, with no reference beside it. tests/fuzz builds and runs it.
+/* Random calls of the C interface, each held to what has to be true of any call, with no reference beside it.
+ * tests/fuzz builds and runs it.
  *
- * A round draws two images (the small lexicon, or random ones, then damaged or not) and makes calls with them, and calls of packing and
- * unpacking. Buffers are just as long as the call is told. They lie against a page that may not be touched, behind them or before them, so
- * that a byte outside ends the run, or they come from malloc, for valgrind and the sanitizers to watch. Seed and round make a round again.
+ * A round draws two images (the small lexicon, or random ones, then damaged or not) and makes calls with them, and
+ * calls of packing and unpacking. Buffers are just as long as the call is told. They lie against a page that may not be
+ * touched, behind them or before them, so that a byte outside ends the run, or they come from malloc, for valgrind and
+ * the sanitizers to watch. Seed and round make a round again.
  */
 #define _GNU_SOURCE
 #include "packing.h"

@@ -37,7 +37,11 @@ static void test_pack(void)
     size_t need = (count * packed_bits(words) + 7) / 8;
     struct call call = {PACK, &codes, 0, words, 0, around(need)};
     int32_t answer = twice(&call);
-    int due = words == 0 || words > MOST_WORDS ? -9 : count < 1 || count > 8 ? -12 : !all_below ? -15 : call.out < need ? -16 : 0;
+    int due = words == 0 || words > WUNDALETH_MOST_WORDS  ? -9
+              : count < 1 || count > WUNDALETH_MOST_HITS ? -12
+              : !all_below                               ? -15
+              : call.out < need                          ? -16
+                                                         : 0;
     must(refusal(answer) == due, "neither packed bytes nor the refusal that is due");
     if (answer < 0)
         return;
@@ -62,8 +66,12 @@ static void test_unpack(void)
     bool fits = packed.length == need && (need == 0 || (packed.at[need - 1] & ((1u << (8 * need - bits)) - 1)) == 0);
     struct call call = {UNPACK, &packed, n, words, 0, around(n <= 300 ? 4 * n : 32)};
     int32_t answer = twice(&call);
-    int due = words == 0 || words > MOST_WORDS ? -9 : n < 1 || n > 8 ? -12 : !fits ? -14 : 0;
-    must(due != 0 ? answer == due : answer == -15 || answer == (call.out < 4 * n ? -16 : (int32_t)n), "neither n nor the refusal that is due");
+    int due = words == 0 || words > WUNDALETH_MOST_WORDS ? -9
+              : n < 1 || n > WUNDALETH_MOST_HITS         ? -12
+              : !fits                                    ? -14
+                                                         : 0;
+    must(due != 0 ? answer == due : answer == -15 || answer == (call.out < 4 * n ? -16 : (int32_t)n),
+         "neither n nor the refusal that is due");
     if (answer < 0 || answer > 8)
         return;
     memcpy(codes.at, first_written, codes.length = 4 * (size_t)answer);

@@ -21,10 +21,10 @@ static struct call with_images(enum function which, struct bytes *given, uint32_
 /* The word of a code that is below W, and back. */
 static int32_t spelled(uint32_t code, struct bytes *word)
 {
-    struct call call = with_images(CODE_TO_WORD, NULL, code, 32);
+    struct call call = with_images(CODE_TO_WORD, NULL, code, WUNDALETH_MOST_LETTERS);
     int32_t length = once(&call, word->at);
-    must(length >= 1 && length <= 32, "a code below W has no word of 1 to 32 letters");
-    word->length = length > 0 && length <= 32 ? (size_t)length : 0;
+    must(length >= 1 && length <= WUNDALETH_MOST_LETTERS, "a code below W has no word of 1 to 32 letters");
+    word->length = length > 0 && length <= WUNDALETH_MOST_LETTERS ? (size_t)length : 0;
     call = with_images(WORD_TO_CODE, word, 0, 0);
     must(once(&call, NULL) == (int32_t)code, "the word of a code has another code");
     return length;
@@ -38,7 +38,7 @@ static void test_check(void)
 {
     struct call call = with_images(CHECK, NULL, 0, 0);
     verdict = twice(&call);
-    must(verdict != 0 && verdict <= MOST_WORDS, "W is out of its range");
+    must(verdict != 0 && verdict <= WUNDALETH_MOST_WORDS, "W is out of its range");
     call.work = work_bytes();
     int32_t answer = once(&call, NULL);
     must(answer == -1 || answer == verdict, "W or the refusal depends on the work space");
@@ -52,11 +52,13 @@ static void test_lines(void)
         size_t end = from;
         while (end < listing_length && listing[end] != 10)
             end++;
-        must(end < listing_length && end > from && end - from <= 32, "a line of the listing is no word");
+        must(end < listing_length && end > from && end - from <= WUNDALETH_MOST_LETTERS,
+             "a line of the listing is no word");
         if (code == chosen) {
             size_t length = (size_t)spelled(code, &word);
             called = LIST;
-            must(length == end - from && memcmp(word.at, listing + from, length) == 0, "a line of the listing is not its code's word");
+            must(length == end - from && memcmp(word.at, listing + from, length) == 0,
+                 "a line of the listing is not its code's word");
         }
         from = end + 1;
     }
@@ -80,7 +82,8 @@ static void test_list(void)
     call.work = work_bytes();
     int32_t answer = once(&call, first_written);
     if (listing_length > 0 && answer != -1) {
-        must(answer == (call.out < listing_length ? -16 : (int32_t)listing_length), "16 does not fit the listing's length");
+        must(answer == (call.out < listing_length ? -16 : (int32_t)listing_length),
+             "16 does not fit the listing's length");
         if (answer > 0)
             must(memcmp(first_written, listing, listing_length) == 0, "the listing depends on the output's size");
     }
@@ -114,7 +117,8 @@ static void draw_word(struct bytes *word)
         fill(word->at + word->length, 256);
         word->length += 256;
     } else if (once_in(2) && word->length > 0)
-        word->at[below((uint32_t)word->length)] = once_in(3) ? (uint8_t)next() : voice.at[1 + 2 * below(voice.length > 8 ? 4 : 1)];
+        word->at[below((uint32_t)word->length)] =
+            once_in(3) ? (uint8_t)next() : voice.at[1 + 2 * below(voice.length > 8 ? 4 : 1)];
     else if (once_in(2) && word->length > 0)
         word->length--;
     else
@@ -135,7 +139,8 @@ static void test_word_to_code(void)
         must(answer == looked_up(&word), "the code is not the word's line in the listing");
     if (answer >= 0) {
         spelled((uint32_t)answer, &back);
-        must(back.length == word.length && memcmp(back.at, word.at, word.length) == 0, "the code of a word has another word");
+        must(back.length == word.length && memcmp(back.at, word.at, word.length) == 0,
+             "the code of a word has another word");
     }
 }
 
@@ -182,30 +187,31 @@ static void draw_frames(struct bytes *frames)
 static int due_in_decoding(const struct call *call)
 {
     uint32_t bound = symbols();
-    if (call->given->length == 0 || call->given->length > 1000)
+    if (call->given->length == 0 || call->given->length > WUNDALETH_MOST_FRAMES)
         return -11;
     for (size_t k = 0; k < call->given->length; k++)
         if (call->given->at[k] >= bound)
             return -11;
-    return call->number < 1 || call->number > 8 ? -12 : call->out < 8 * (size_t)call->number ? -16 : 0;
+    if (call->number < 1 || call->number > WUNDALETH_MOST_HITS)
+        return -12;
+    return call->out < WUNDALETH_HIT_BYTES * (size_t)call->number ? -16 : 0;
 }
 
 static void test_hits(const uint8_t *hits, int32_t count)
 {
     static struct bytes word;
     for (int32_t k = 0; k < count; k++) {
-        int32_t score = (int32_t)number(hits + 8 * k);
-        uint32_t code = number(hits + 8 * k + 4);
-        must(score >= -HIGHEST_SCORE && score <= HIGHEST_SCORE, "a score out of its range");
-        must(code < (uint32_t)verdict, "a hit's code is not below W");
-        if (code < (uint32_t)verdict)
-            spelled(code, &word);
+        struct wundaleth_hit hit = wundaleth_hit_at(hits, (size_t)k);
+        must(hit.score >= -HIGHEST_SCORE && hit.score <= HIGHEST_SCORE, "a score out of its range");
+        must(hit.code < (uint32_t)verdict, "a hit's code is not below W");
+        if (hit.code < (uint32_t)verdict)
+            spelled(hit.code, &word);
         called = DECODE;
         for (int32_t i = 0; i < k; i++) {
-            int32_t before = (int32_t)number(hits + 8 * i);
-            uint32_t other = number(hits + 8 * i + 4);
-            must(before > score || (before == score && other < code), "hits are not by falling score and rising code");
-            must(other != code, "a word is listed twice");
+            struct wundaleth_hit before = wundaleth_hit_at(hits, (size_t)i);
+            must(before.score > hit.score || (before.score == hit.score && before.code < hit.code),
+                 "hits are not by falling score and rising code");
+            must(before.code != hit.code, "a word is listed twice");
         }
     }
 }

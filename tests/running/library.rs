@@ -1,76 +1,10 @@
 //! The product's C interface, called with lent buffers.
 
-use crate::buffers::{Buffer, Numbers};
+#[path = "../../include/wundaleth.rs"]
+mod wundaleth;
 
-extern "C" {
-    fn wundaleth_check(
-        voice: *const u8,
-        voice_len: usize,
-        lexicon: *const u8,
-        lexicon_len: usize,
-        work: *mut u8,
-        work_len: usize,
-    ) -> i32;
-    fn wundaleth_word_to_code(
-        voice: *const u8,
-        voice_len: usize,
-        lexicon: *const u8,
-        lexicon_len: usize,
-        word: *const u8,
-        word_len: usize,
-        work: *mut u8,
-        work_len: usize,
-    ) -> i32;
-    fn wundaleth_code_to_word(
-        voice: *const u8,
-        voice_len: usize,
-        lexicon: *const u8,
-        lexicon_len: usize,
-        code: u32,
-        work: *mut u8,
-        work_len: usize,
-        out: *mut u8,
-        out_len: usize,
-    ) -> i32;
-    fn wundaleth_list(
-        voice: *const u8,
-        voice_len: usize,
-        lexicon: *const u8,
-        lexicon_len: usize,
-        work: *mut u8,
-        work_len: usize,
-        out: *mut u8,
-        out_len: usize,
-    ) -> i32;
-    fn wundaleth_decode(
-        voice: *const u8,
-        voice_len: usize,
-        lexicon: *const u8,
-        lexicon_len: usize,
-        frames: *const u8,
-        frames_len: usize,
-        n: u32,
-        work: *mut u8,
-        work_len: usize,
-        out: *mut u8,
-        out_len: usize,
-    ) -> i32;
-    fn wundaleth_pack(
-        words: u32,
-        codes: *const u32,
-        codes_len: usize,
-        out: *mut u8,
-        out_len: usize,
-    ) -> i32;
-    fn wundaleth_unpack(
-        words: u32,
-        n: u32,
-        packed: *const u8,
-        packed_len: usize,
-        out: *mut u8,
-        out_len: usize,
-    ) -> i32;
-}
+use crate::buffers::{Buffer, Numbers};
+use wundaleth::*;
 
 // In each call every pointer is valid for its length, and the buffers are memory of their own.
 

@@ -12,6 +12,8 @@ mod damage;
 mod decoding;
 mod draw;
 mod faults;
+#[allow(dead_code)]
+mod format;
 mod image;
 mod library;
 #[allow(dead_code)]
@@ -31,6 +33,7 @@ type Part = fn(u64) -> usize;
 
 /// What is run. A library that does not export some calls is tested with the line of their part commented out.
 const PARTS: &[(&str, Part)] = &[
+    ("the format page", format::run),
     ("checking", checking::run),
     ("words and codes", codes::run),
     ("packed codes", packing::run),

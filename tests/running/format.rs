@@ -1,0 +1,174 @@
+//! The examples of docs/FORMAT.md: every byte, offset and answer that they show, held to the images of these tests, to
+//! the example of the program hits and to the library.
+
+use crate::buffers::{whole, Buffer, Numbers};
+use crate::image::{small_lexicon, small_voice};
+use crate::library;
+use crate::random::Random;
+use crate::reference::WORK_SPACE;
+
+const PAGE: &str = include_str!("../../docs/FORMAT.md");
+/// The file of the page's last example.
+const FILE: &[u8] = include_bytes!("../../crates/hits/stdin");
+/// What the page decodes and packs.
+const FRAMES: [u8; 2] = [0, 2];
+const HITS: u32 = 3;
+const WORDS: u32 = 5;
+const CODES: [u32; 3] = [0, 1, 3];
+
+struct Page {
+    random: Random,
+    voice: Vec<u8>,
+    lexicon: Vec<u8>,
+    compared: usize,
+    differences: usize,
+}
+
+/// Compares the page's examples; says how many faults there are.
+pub fn run(seed: u64) -> usize {
+    let mut page = Page {
+        random: Random::from_seed(seed),
+        voice: small_voice().bytes(),
+        lexicon: small_lexicon().bytes(),
+        compared: 0,
+        differences: 0,
+    };
+    page.images();
+    page.changes();
+    page.codes();
+    page.hits();
+    page.packed();
+    println!(
+        "docs/FORMAT.md: {} comparisons, {} differences",
+        page.compared, page.differences
+    );
+    page.differences
+}
+
+/// The cells of the table in the page's example of this name, row by row, without its head.
+fn rows(example: &str) -> Vec<Vec<&'static str>> {
+    let heading = format!("### Example: {example}");
+    let after = PAGE.lines().skip_while(|line| *line != heading).skip(1);
+    let table = after
+        .take_while(|line| !line.starts_with('#'))
+        .filter(|line| line.starts_with('|'));
+    let cells = |row: &'static str| row.trim_matches('|').split('|').map(str::trim).collect();
+    table.skip(2).map(cells).collect()
+}
+
+impl Page {
+    fn compare(&mut self, what: &str, is_same: bool) {
+        self.compared += 1;
+        if !is_same {
+            self.differences += 1;
+            println!("DIFFERENCE in docs/FORMAT.md: {what}");
+        }
+    }
+
+    /// The bytes of an example's table, whose cells are offset, decimal, hex and meaning. Instead of bytes a row may
+    /// have the name of an image, for all its bytes.
+    fn bytes(&mut self, example: &str) -> Vec<u8> {
+        let mut bytes = Vec::new();
+        for row in rows(example) {
+            let what = format!("{example}, the row of offset {}", row[0]);
+            let is_here = row[0].parse() == Ok(bytes.len());
+            self.compare(&what, is_here);
+            match row[1] {
+                "voice model" => bytes.extend_from_slice(&self.voice),
+                "lexicon" => bytes.extend_from_slice(&self.lexicon),
+                decimal => {
+                    let words = || {
+                        decimal
+                            .split(' ')
+                            .filter_map(|word| word.parse::<u8>().ok())
+                    };
+                    let hex: Vec<String> = words().map(|byte| format!("{byte:02x}")).collect();
+                    let is_same =
+                        hex.len() == decimal.split(' ').count() && hex.join(" ") == row[2];
+                    self.compare(&what, is_same);
+                    bytes.extend(words());
+                }
+            }
+        }
+        bytes
+    }
+
+    fn images(&mut self) {
+        let voice = self.bytes("voice model");
+        self.compare("the voice model", voice == self.voice);
+        let lexicon = self.bytes("lexicon");
+        self.compare("the lexicon", lexicon == self.lexicon);
+        let file = self.bytes("file");
+        self.compare("the file", file == FILE);
+    }
+
+    fn lent(&mut self, bytes: &[u8]) -> Buffer {
+        let mut buffer = Buffer::new();
+        buffer.hold(whole(bytes), &mut self.random);
+        buffer
+    }
+
+    /// Both images and a work space.
+    fn lent_images(&mut self) -> [Buffer; 3] {
+        let (voice, lexicon) = (self.voice.clone(), self.lexicon.clone());
+        [voice, lexicon, vec![0; WORK_SPACE]].map(|bytes| self.lent(&bytes))
+    }
+
+    fn changes(&mut self) {
+        let changes = rows("one byte changed");
+        self.compare("one byte changed: no rows", !changes.is_empty());
+        for row in changes {
+            let what = format!("{} {} {}", row[0], row[1], row[2]);
+            let at: usize = row[1].parse().unwrap_or(0);
+            let (voice, lexicon) = (self.voice.clone(), self.lexicon.clone());
+            let image = match row[0] {
+                "lexicon" => &mut self.lexicon,
+                _ => &mut self.voice,
+            };
+            match row[2].parse() {
+                Ok(byte) if at < image.len() => image[at] = byte,
+                Ok(byte) => image.push(byte),
+                Err(_) => image.truncate(at),
+            }
+            let [mut v, mut l, mut work] = self.lent_images();
+            let answer = library::check(&mut v, &mut l, &mut work);
+            self.compare(&what, row[3].parse() == Ok(answer));
+            (self.voice, self.lexicon) = (voice, lexicon);
+        }
+    }
+
+    fn codes(&mut self) {
+        let words = rows("codes");
+        self.compare("codes: not all words", words.len() == WORDS as usize);
+        for row in words {
+            let [mut v, mut l, mut work] = self.lent_images();
+            let mut word = self.lent(row[0].as_bytes());
+            let code = library::word_to_code(&mut v, &mut l, &mut word, &mut work);
+            let sum = row[2]
+                .split(" + ")
+                .filter_map(|part| part.parse::<i32>().ok())
+                .sum();
+            self.compare(row[0], code == sum && row[3].parse() == Ok(code));
+        }
+    }
+
+    fn hits(&mut self) {
+        let hits = self.bytes("hits");
+        let [mut v, mut l, mut work] = self.lent_images();
+        let (mut frames, mut out) = (self.lent(&FRAMES), self.lent(&[0; 8 * HITS as usize]));
+        library::decode(&mut v, &mut l, &mut frames, HITS, &mut work, &mut out);
+        self.compare("the hits", hits == out.contents());
+    }
+
+    fn packed(&mut self) {
+        let (packed, unpacked) = (self.bytes("packed codes"), self.bytes("unpacked codes"));
+        let mut codes = Numbers::new();
+        codes.hold(&CODES, &mut self.random);
+        let mut out = self.lent(&[255; 2]);
+        library::pack(WORDS, &mut codes, &mut out);
+        self.compare("the packed codes", packed == out.contents());
+        let (mut given, mut out) = (self.lent(&packed), self.lent(&[255; 12]));
+        library::unpack(WORDS, CODES.len() as u32, &mut given, &mut out);
+        self.compare("the unpacked codes", unpacked == out.contents());
+    }
+}
