@@ -12,14 +12,13 @@ use Rattle.call.proofs.Table.{unless-value, value-passed, refused-with}
 use Rattle.call.proofs.Buffers.{written-refused}
 use Rattle.graph.specs.Graph.{graphOf}
 use Rattle.ranking.specs.Hits.{Hit, hitBytes}
-use Rattle.decoder.specs.StatePaths.{scoreLimit}
 use Rattle.decoder.specs.Decoding.{row, hits, decodeRows, decodeAnswer, decodeOut}
 use Rattle.decoder.proofs.Listed.{Answered, answered, within-limits}
-use Rattle.search.specs.Held.{held, Storable}
+use Rattle.search.specs.Held.{held}
 use Rattle.search.specs.Found.{searchAnswer, found, searchTokens}
 use Rattle.search.proofs.Held.{length-held}
 use Rattle.decoding.specs.Listing.{hitsOf, Listable}
-use Rattle.decoding.proofs.Listing.{hits-held, held-small}
+use Rattle.decoding.proofs.Listing.{Within, hits-held}
 
 module _ (v x frames work out : List ℕ) (n : ℕ) where
   -- ---- a refusal
@@ -50,11 +49,9 @@ module _ (v x frames work out : List ℕ) (n : ℕ) where
     abbrev call : Answered v x frames out n (length (hits v (graphOf x) frames n))
     call = answered v x frames work out n _ call-answer
 
-    storable : (h : Hit) → List·Memᴰ h (hits v (graphOf x) frames n) → Storable h
-    unfolding hits scoreLimit
-    storable h m =
-        let l = within-limits v x frames (call .images) (call .short) h (take-out n (row v (graphOf x) frames) m) in
-        record { score = omega (arith, l .0); code = omega (arith, l .1) }
+    within : (h : Hit) → List·Memᴰ h (hits v (graphOf x) frames n) → Within h
+    unfolding hits
+    within h m = within-limits v x frames (call .images) (call .short) h (take-out n (row v (graphOf x) frames) m)
 
     module _ {tokens : List ℕ} (f : tokens ≡ searchTokens v x frames n work out) where
       held-so : tokens ≡ held 8 (hits v (graphOf x) frames n)
@@ -62,11 +59,10 @@ module _ (v x frames work out : List ℕ) (n : ℕ) where
       held-so = f ∙ ap (λ a. found a (hits v (graphOf x) frames n)) e
 
       pub says-hits : hitsOf tokens ≡ hits v (graphOf x) frames n
-      says-hits = rw held-so (hits-held 8 (hits v (graphOf x) frames n) (omega (arith, few-hits, call .few-wanted)) storable)
+      says-hits = rw held-so (hits-held 8 (hits v (graphOf x) frames n) (omega (arith, few-hits, call .few-wanted)) within)
 
       pub listable : Listable tokens out
       listable = record {
         eight = rw held-so (length-held 8 (hits v (graphOf x) frames n));
-        small = λ y i. held-small 8 (hits v (graphOf x) frames n) storable y (rw held-so at i);
         room = rw says-hits (omega (arith, few-hits, call .room));
       }

@@ -1,7 +1,7 @@
 // The list of hits as bytes.
 ghost use mathlib.Core.Path.{_≡_};
 ghost use mathlib.Core.List.{_++_};
-ghost use Prim.Native.Nat.{_+_, _^_, _≤_, _<_};
+ghost use Prim.Native.Nat.{_+_, _≤_};
 ghost use lib.ListN.{length, drop};
 ghost use lib.Seq.{sets};
 ghost use Rattle.endian.specs.Bytes.{i32Bytes, u32Bytes};
@@ -9,6 +9,7 @@ ghost use Rattle.ranking.specs.Hits.{hitBytes};
 ghost use Rattle.decoding.specs.Listing.{hitOf, hitsOf, Listable};
 use endian::i32_bytes;
 use endian::u32_bytes;
+use search::tokens::Token;
 
 fn put_bytes(out: &mut [u8], at: usize, bytes: [u8; 4])
     requires { ⌜ (at + 4 ≤ length (now out)) × (length bytes ≡ 4) ⌝ }
@@ -20,16 +21,14 @@ fn put_bytes(out: &mut [u8], at: usize, bytes: [u8; 4])
     out[at + 3] = bytes[3];
 }
 
-// A hit is written in 8 bytes: i32 score, u32 code. A token holds the score plus 2^27 in its high half, and 2^32 - 1 less the code in its low
-// half (search/src/tokens.rt).
-fn put_hit(out: &mut [u8], at: usize, token: u64)
-    requires { ⌜ (at + 8 ≤ length (now out)) × (token < 2 ^ 60) ⌝ }
-    ensures { λ _. ⌜ now (out .exit) ≡ sets (now (out .entry)) at (i32Bytes (hitOf token .score) ++ u32Bytes (hitOf token .code)) ⌝ }
+// A hit is written in 8 bytes: i32 score, u32 code.
+fn put_hit(out: &mut [u8], at: usize, token: Token)
+    requires { ⌜ at + 8 ≤ length (now out) ⌝ }
+    ensures { λ _. ⌜ now (out .exit) ≡ sets (now (out .entry)) at (i32Bytes (hitOf (token .0) .score) ++ u32Bytes (hitOf (token .0) .code)) ⌝ }
 {
-    let score = (token / 4294967296) as i32 - 134217728;
-    let code = 4294967295 - (token % 4294967296) as u32;
-    put_bytes(out, at, i32_bytes(score));
-    put_bytes(out, at + 4, u32_bytes(code));
+    let score = token.score();
+    put_bytes(out, at, i32_bytes(score.value()));
+    put_bytes(out, at + 4, u32_bytes(token.code()));
 }
 
 // Writes the hits of a list of tokens, up to no token, and answers how many; the bytes after them keep their values.
@@ -40,8 +39,8 @@ pub(crate) fn put_hits(tokens: &[u64; 8], out: &mut [u8]) -> u32
 {
     let mut i = 0;
     while i < 8 {
-        let token = tokens[i];
-        if token == 0 {
+        let token = Token(tokens[i]);
+        if token.is_none() {
             return i as u32;
         }
         put_hit(out, 8 * i, token);

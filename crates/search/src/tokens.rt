@@ -2,12 +2,12 @@
 // So a token outranks another exactly if its number is greater, and a move adds to it and takes from it. It is stored in
 // 8 bytes, little-endian: slot k is bytes 8k to 8k + 7.
 ghost use mathlib.Core.Path.{_≡_};
-ghost use Prim.Native.Nat.{_+_, _-_, _*_, _/_, _<_, _≤_};
+ghost use Prim.Native.Nat.{_+_, _-_, _*_, _/_, _%_, _≤_};
 ghost use lib.Dec.{ltb, eqb};
 ghost use lib.ListN.{length};
 ghost use lib.Seq.{sets};
 ghost use Rattle.endian.specs.Bytes.{u32, u32Bytes};
-ghost use Rattle.search.specs.Slots.{tokenAt, codePart, SlotPut, sameCode, MoveFits};
+ghost use Rattle.search.specs.Slots.{tokenAt, SlotPut, sameCode, MoveFits};
 use decoder::score::Score;
 use endian::u32_bytes;
 use endian::u32_of;
@@ -44,7 +44,7 @@ impl Token {
     }
 
     pub fn code(self) -> u32
-        ensures { λ r. ⌜ r ≡ 4294967295 - codePart (self .0) ⌝ }
+        ensures { λ r. ⌜ r ≡ 4294967295 - (self .0) % 4294967296 ⌝ }
     {
         4294967295 - (self.0 % UNIT) as u32
     }

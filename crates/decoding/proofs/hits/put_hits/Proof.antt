@@ -4,8 +4,9 @@ use Prim.Native.Nat.{_-_, _<_}
 use mathlib.Core.Path.{_≡_, _∙_}
 use native.Mathlib.Omega.{arith}
 use borrow.Author.Needs.{needs}
-use lib.ListN.{length}
-use Rattle.decoding.proofs.Listing.{Written, write-start, write-stop, write-all, write-done, write-room, write-small, write-next}
+use lib.ListN.{length, getD}
+use Rattle.search.proofs.Told.{same-told, other-told}
+use Rattle.decoding.proofs.Listing.{Written, write-start, write-stop, write-all, write-done, write-room, write-next}
 use Rattle.decoding.proofs.hits.put_hits.Statement.{statement}
 use Rattle.decoding.proofs.hits.put_hits.Tie as tie
 
@@ -26,27 +27,31 @@ slot : (c : tie.In-loop Inv-loop μ-loop) → c .before .loop .i < length (c .be
 slot c = let h = c .loop-test .taken in omega (arith, eight (c .before .before .before))
 
 same-length : tie.Need-same-length Inv-loop μ-loop
-same-length c = c .before .before .before .loop .inv .long
+same-length c = c .before .before .before .before .loop .inv .long
 
 returns : tie.Need-returns Inv-loop μ-loop
 returns c =
-    let l = c .before .before in
-    let p = l .before .before .before .pre in
-    let w = l .before .loop .inv in
-    write-done p w (write-stop p w (slot l) (c .if1 .taken))
-
-put-hit-requires : tie.Need-put-hit-requires Inv-loop μ-loop
-put-hit-requires c κs =
     let l = c .before .before .before in
     let p = l .before .before .before .pre in
     let w = l .before .loop .inv in
-    (write-room p w (slot l) (c .before .if1 .left), write-small p w (slot l) (c .before .if1 .left))
+    write-done p w (write-stop p w (slot l) (same-told (c .before .is-none .ensures) (c .if1 .taken)))
+
+-- there is a token
+there : (c : tie.Else1 Inv-loop μ-loop) →
+    let l = c .before .before .before in ¬ (getD (l .before .before .before .args .tokens .now) (l .before .loop .i) 0 ≡ 0)
+there c = other-told (c .before .is-none .ensures) (c .if1 .left)
+
+put-hit-requires : tie.Need-put-hit-requires Inv-loop μ-loop
+put-hit-requires c κs =
+    let e = c .before in
+    let l = e .before .before .before in
+    write-room (l .before .before .before .pre) (l .before .loop .inv) (slot l) (there e)
 
 loop-again : tie.Need-loop-again Inv-loop μ-loop
 loop-again c =
     let e = c .before .before .before .before in
-    let l = e .before .before in
-    write-next (l .before .before .before .pre) (l .before .loop .inv) (slot l) (e .if1 .left) (c .before .before .put-hit .ensures)
+    let l = e .before .before .before in
+    write-next (l .before .before .before .pre) (l .before .loop .inv) (slot l) (there e) (c .before .before .put-hit .ensures)
 
 same-length-2 : tie.Need-same-length-2 Inv-loop μ-loop
 same-length-2 c = c .before .loop .inv .long
@@ -68,6 +73,7 @@ put-hits-spec =
     loop-holds
     (λ c. search needs)
     (λ c. search needs)
+    (λ c κs. search needs)
     (λ c. search needs)
     same-length
     returns
