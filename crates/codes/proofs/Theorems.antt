@@ -1,5 +1,5 @@
--- The theorems of specs/Theorems.antt: the first path that spells a word is the only one, since different full paths spell different words.
--- Assumes nothing.
+-- The theorems of specs/Theorems.antt: the first path that spells a word is the only one, since different full paths spell
+-- different words. Assumes nothing.
 use Prim.Native.Nat.{ℕ, _<_}
 use mathlib.Core.Path.{_≡_, refl, sym, ap, _∙_}
 use mathlib.Core.Bool.{Bool, true, false, true≢false}
@@ -21,7 +21,7 @@ use Rattle.graph.proofs.Paths.{at-code}
 use Rattle.graph.proofs.Accepted.{accepted}
 use Rattle.graph.proofs.Theorems.{path-theorems}
 use Rattle.codes.specs.Lookup.{listing}
-use Rattle.codes.specs.Theorems.{CodeTheorems}
+use Rattle.codes.specs.Theorems.{LookupsUndoEachOther}
 
 -- the full path of index c, and its word
 abbrev pathAt : List ℕ → ℕ → List ℕ
@@ -91,7 +91,7 @@ module _ (v x : List ℕ) (h : Accepted v x) where
       ∙ flatMap-cong _ _ (from 0 (wordCount (graphOf x)))
       (λ c m. ap (λ w. w ++ (10 ∷ [])) (sym (known .word-of-code c (omega (arith, from-out 0 (wordCount (graphOf x)) m)))))
 
-pub code-theorems : (v x : List ℕ) → Accepted v x → CodeTheorems v (graphOf x)
+pub code-theorems : LookupsUndoEachOther
 code-theorems v x h =
     let T = known v x h in
     record {

@@ -1,13 +1,14 @@
--- What is proved of words and codes of every accepted lexicon, in document 01's words (Lexicon; demand 2). proofs/Theorems.antt proves it.
--- Assumes nothing.
+-- What is proved of words and codes of every accepted lexicon, in document 01's words (Lexicon; demand 2). The record lists
+-- the sentences, and `LookupsUndoEachOther` says of what they hold; proofs/Theorems.antt proves it. Assumes nothing.
 use Prim.Native.Nat.{ℕ, _<_}
 use mathlib.Core.Path.{_≡_}
 use mathlib.Core.Bool.{true}
 use mathlib.Core.Logic.{_↔_}
 use mathlib.Core.List.{List, [], _∷_, _++_, flatMap}
 use Rattle.endian.specs.Lists.{from, isNone}
-use Rattle.graph.specs.Graph.{Graph, wordCount}
+use Rattle.graph.specs.Graph.{Graph, graphOf, wordCount}
 use Rattle.graph.specs.Words.{LexiconWord, pathOfWord, codeOf, wordOfCode}
+use Rattle.graph.specs.Checking.{Accepted}
 use Rattle.codes.specs.Lookup.{listing}
 
 pub record CodeTheorems (v : List ℕ) (g : Graph) : Type 0 where
@@ -21,3 +22,7 @@ pub record CodeTheorems (v : List ℕ) (g : Graph) : Type 0 where
   pub code-back : (c : ℕ) → c < wordCount g → codeOf g (pathOfWord v g (wordOfCode v g c)) ≡ c
   -- the listing is the words of the codes 0, 1, .., W - 1, each followed by byte 10
   pub listed : listing v g ≡ flatMap (λ c. wordOfCode v g c ++ (10 ∷ [])) (from 0 (wordCount g))
+
+-- of every accepted voice model and lexicon
+abbrev pub LookupsUndoEachOther : Type 0
+LookupsUndoEachOther = (v x : List ℕ) → Accepted v x → CodeTheorems v (graphOf x)
