@@ -13,6 +13,7 @@ use lib.Seq.{take-append-seam}
 use lib.ListN.{length, getD, take, drop}
 use Rattle.endian.specs.Lists.{from, same, first, isNone}
 use Rattle.endian.proofs.Lists.{mem-getD, first-none, first-at, same-eq, same-refl, from-out, flatMap-cong, flatMap-map, by-index}
+use Rattle.endian.proofs.Search.{Passing}
 use Rattle.call.specs.declared.Refusal.the-variants.{NoWord, Code, Output}
 use Rattle.call.specs.Table.{value, on, noneApplies, unless}
 use Rattle.call.specs.Limits.{badCode}
@@ -114,17 +115,12 @@ code-theorems v x h =
 -- ---- of the calls
 
 -- what is found is in the list, and passes the test
-record Found (p : List ℕ → Bool) (l : List (List ℕ)) : Type 0 where
-  one : List ℕ
-  member : List·Memᴰ one l
-  passes : p one ≡ true
-
-first-out : (p : List ℕ → Bool) (l : List (List ℕ)) → isNone (first p l) ≡ false → Found p l
+first-out : (p : List ℕ → Bool) (l : List (List ℕ)) → isNone (first p l) ≡ false → Passing p l
 unfolding first isNone
 first-out p [] e = absurd (true≢false e)
 first-out p (a ∷ l) e = go (p a) refl (first-out p l)
   where
-    go : (b : Bool) → p a ≡ b → (isNone (first p l) ≡ false → Found p l) → Found p (a ∷ l)
+    go : (b : Bool) → p a ≡ b → (isNone (first p l) ≡ false → Passing p l) → Passing p (a ∷ l)
     go true q later = record { one = a; member = here refl; passes = q }
     go false q later = let r = later (rw q at e) in record { one = r .one; member = there (r .member); passes = r .passes }
 

@@ -3,11 +3,13 @@
 use Prim.Native.Nat.{ℕ, _*_, _-_, _/_, _%_, _^_, _≤_, _<_}
 use mathlib.Core.Path.{_≡_}
 use mathlib.Core.Bool.{true}
-use mathlib.Core.List.{List, List·Memᴰ}
+use mathlib.Core.List.{List, _++_, flatMap, List·Memᴰ}
 use lib.ListN.{length, take, drop, getD}
-use Rattle.endian.specs.Bytes.{Bytes}
+use Rattle.endian.specs.Bytes.{Bytes, u32, u32Bytes}
+use Rattle.call.specs.Table.{value}
 use Rattle.packing.specs.Width.{width}
 use Rattle.packing.specs.Packing.{bits, toBits, packedSize, packed, unpacked, paddedWithZeros}
+use Rattle.packing.specs.Packing.{packAnswer, packOut, unpackAnswer, unpackOut}
 
 -- b is the least number of bits that tells W codes apart
 pub record WidthTheorems (W : ℕ) : Type 0 where
@@ -38,3 +40,20 @@ pub record PackingTheorems (b : ℕ) : Type 0 where
 -- of codes of any width
 abbrev pub PackingIsUndone : Type 0
 PackingIsUndone = (b : ℕ) → PackingTheorems b
+
+-- The same of the calls, whatever they are given: the k bytes that codes are packed into give the codes back, each as u32, in an
+-- output with room for them;
+abbrev pub CodesComeBack : Type 0
+CodesComeBack =
+    (W k : ℕ) (codes out room : List ℕ) → packAnswer W codes out ≡ value k → 4 * length codes ≤ length room
+    → (unpackAnswer W (length codes) (take k (packOut W codes out)) room ≡ value (length codes))
+    × (unpackOut W (length codes) (take k (packOut W codes out)) room
+    ≡ flatMap u32Bytes codes ++ drop (4 * length codes) room)
+
+-- and codes that unpacking has written, each as u32, pack to the bytes that they were unpacked from.
+abbrev pub BytesComeBack : Type 0
+BytesComeBack =
+    (W n k : ℕ) (bytes out codes room : List ℕ) → Bytes bytes → unpackAnswer W n bytes out ≡ value k
+    → length codes ≡ n → ((i : ℕ) → i < n → getD codes i 0 ≡ u32 (unpackOut W n bytes out) (i * 4))
+    → length bytes ≤ length room
+    → (packAnswer W codes room ≡ value (length bytes)) × (packOut W codes room ≡ bytes ++ drop (length bytes) room)
