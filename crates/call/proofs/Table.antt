@@ -95,8 +95,8 @@ module _ {A : Type 0} where
           record { earlier = q ∷ f .earlier; later = f .later; split = ap (λ (l : List Row). q ∷ l) (f .split); none-before = rw e (f .none-before) }
 
   -- what a table answers, whatever its rows and its value
-  pub answers-by : (rows : List Row) (a : A) → AnswersBy rows a (unless rows a)
-  answers-by rows a = go (unless rows a) refl
+  pub answers-by : {rows : List Row} {a : A} → AnswersBy rows a (unless rows a)
+  answers-by {rows} {a} = go (unless rows a) refl
     where
       go : (b : Answer A) → unless rows a ≡ b → AnswersBy rows a b
       go (value b) e = let u = value-passed rows a b e in rw (← u .1) (by-value (u .0))
