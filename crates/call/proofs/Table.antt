@@ -9,7 +9,8 @@ use borrow.Author.Tests.{not-true}
 use Rattle.endian.specs.Lists.{all}
 use Rattle.endian.proofs.Booleans.{and-in, and-out}
 use Rattle.call.specs.declared.Refusal.{Refusal}
-use Rattle.call.specs.Table.{Answer, value, refused, Row, on, noneApplies, unless, FirstApplies, AnswersBy, by-value, by-refusal}
+use Rattle.call.specs.Table.{Answer, value, refused, Row, on, noneApplies, unless}
+use Rattle.call.specs.Table.{FirstApplies, AnswersBy, by-value, by-refusal}
 
 none-append : (rows more : List Row) → noneApplies (rows ++ more) ≡ noneApplies rows && noneApplies more
 unfolding noneApplies all

@@ -1,5 +1,5 @@
--- The theorems of specs/Theorems.antt: the first path that spells a word is the only one, since different full paths spell
--- different words. Assumes nothing.
+-- The theorems of specs/Theorems.antt: the first path that spells a word is the only one, since different full paths
+-- spell different words. Assumes nothing.
 use Prim.Native.Nat.{ℕ, _≤_, _<_}
 use mathlib.Core.Path.{_≡_, refl, sym, ap, _∙_}
 use mathlib.Core.Bool.{Bool, true, false, true≢false}
@@ -29,7 +29,8 @@ use Rattle.graph.proofs.Codes.{code-at}
 use Rattle.graph.proofs.Paths.{at-code}
 use Rattle.graph.proofs.Accepted.{accepted}
 use Rattle.graph.proofs.Theorems.{path-theorems}
-use Rattle.codes.specs.Lookup.{wordToCodeRows, wordToCodeAnswer, codeToWordRows, codeToWordAnswer, codeToWordOut, listing}
+use Rattle.codes.specs.Lookup.{wordToCodeRows, wordToCodeAnswer, listing}
+use Rattle.codes.specs.Lookup.{codeToWordRows, codeToWordAnswer, codeToWordOut}
 use Rattle.codes.specs.Theorems.{LookupsUndoEachOther, WordComesBack, CodeComesBack}
 
 -- the full path of index c, and its word
@@ -122,7 +123,9 @@ first-out p (a ∷ l) e = go (p a) refl (first-out p l)
   where
     go : (b : Bool) → p a ≡ b → (isNone (first p l) ≡ false → Passing p l) → Passing p (a ∷ l)
     go true q later = record { one = a; member = here refl; passes = q }
-    go false q later = let r = later (rw q at e) in record { one = r .one; member = there (r .member); passes = r .passes }
+    go false q later =
+        let r = later (rw q at e) in
+        record { one = r .one; member = there (r .member); passes = r .passes }
 
 module _ (v x work : List ℕ) where
   images-of : noneApplies (firstRows v x work) ≡ true → Accepted v x
@@ -130,7 +133,8 @@ module _ (v x work : List ℕ) where
   images-of h = none-parts (spaceRows work) (imageRows v x) h .1
 
   -- where word to code answers, the word is a lexicon word
-  is-word : (word : List ℕ) → Accepted v x → isNone (pathOfWord v (graphOf x) word) ≡ false → LexiconWord v (graphOf x) word
+  is-word : (word : List ℕ) → Accepted v x → isNone (pathOfWord v (graphOf x) word) ≡ false
+      → LexiconWord v (graphOf x) word
   unfolding pathOfWord
   is-word word h e =
       let r = first-out (λ p. same (wordOfPath v (graphOf x) p) word) (fullPaths (graphOf x)) e in
@@ -157,7 +161,8 @@ module _ (v x work : List ℕ) where
       unless-value (wordToCodeRows v x word work) (codeOf (graphOf x) (pathOfWord v (graphOf x) word))
       (none-join (firstRows v x work) _ h (passed-none _ (there-is (isNone (pathOfWord v (graphOf x) word)) refl, tt)))
     where
-      there-is : (b : Bool) → isNone (pathOfWord v (graphOf x) word) ≡ b → isNone (pathOfWord v (graphOf x) word) ≡ false
+      there-is : (b : Bool) → isNone (pathOfWord v (graphOf x) word) ≡ b
+          → isNone (pathOfWord v (graphOf x) word) ≡ false
       there-is true e = absurd (nowhere v x (images-of h) word .0 e w)
       there-is false e = e
 
@@ -171,7 +176,8 @@ word-comes-back v x word work out code e fits =
     let T = code-theorems v x images in
     let back : wordOfCode v (graphOf x) code ≡ word = rw (u .1) at (T .word-back word w) in
     let below : code < wordCount (graphOf x) = rw (u .1) at (T .code-below word w) in
-    let answer : codeToWordAnswer v x code work out ≡ value (length word) = rw back at (word-fits v x work code out (p .0) below (rw back fits)) in
+    let answer : codeToWordAnswer v x code work out ≡ value (length word) =
+    rw back at (word-fits v x work code out (p .0) below (rw back fits)) in
     (answer, rw (answer, back))
 
 pub code-comes-back : CodeComesBack
@@ -183,5 +189,6 @@ code-comes-back v x work out code k e =
     let p = none-parts (firstRows v x work) own (u .0) in
     let T = code-theorems v x (images-of v x work (p .0)) in
     let below = leb-false (wordCount (graphOf x)) code (none-says own (p .1) .0) in
-    let text : take k (codeToWordOut v x code work out) ≡ word = rw (e, ← u .1) (take-append-seam word (drop (length word) out)) in
+    let text : take k (codeToWordOut v x code work out) ≡ word =
+    rw (e, ← u .1) (take-append-seam word (drop (length word) out)) in
     rw text (word-found v x work word (p .0) (T .word-there code below) ∙ ap value (T .code-back code below))

@@ -1,5 +1,6 @@
--- What is proved of words and codes of every accepted lexicon, in document 01's words (Lexicon; demand 2). The record lists
--- the sentences, and `LookupsUndoEachOther` says of what they hold; proofs/Theorems.antt proves it. Assumes nothing.
+-- What is proved of words and codes of every accepted lexicon, in document 01's words (Lexicon; demand 2). The record
+-- lists the sentences, and `LookupsUndoEachOther` says of what they hold; proofs/Theorems.antt proves it.
+-- Assumes nothing.
 use Prim.Native.Nat.{ℕ, _≤_, _<_}
 use mathlib.Core.Path.{_≡_}
 use mathlib.Core.Bool.{true}
@@ -29,7 +30,7 @@ pub record CodeTheorems (v : List ℕ) (g : Graph) : Type 0 where
 abbrev pub LookupsUndoEachOther : Type 0
 LookupsUndoEachOther = (v x : List ℕ) → Accepted v x → CodeTheorems v (graphOf x)
 
--- The same of the calls, whatever they are given: the code that a word has gives the word back, in an output with room for it;
+-- The same of the calls, whatever they are given: the code that a word has gives the word back, in an output with room;
 abbrev pub WordComesBack : Type 0
 WordComesBack =
     (v x word work out : List ℕ) (code : ℕ) → wordToCodeAnswer v x word work ≡ value code → length word ≤ length out

@@ -1,5 +1,5 @@
--- The theorems of specs/Theorems.antt: on an accepted lexicon's paths all letters have states, and no row of decoding applies
--- where each part of it does not. Assumes nothing.
+-- The theorems of specs/Theorems.antt: on an accepted lexicon's paths all letters have states, and no row of decoding
+-- applies where none of any part of its table does. Assumes nothing.
 use Prim.Native.Nat.{ℕ, _*_, _≤_}
 use mathlib.Core.Path.{_≡_, refl}
 use mathlib.Core.Bool.{true}

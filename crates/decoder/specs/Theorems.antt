@@ -1,6 +1,6 @@
--- What is proved of true scores and of decoding, in document 01's words (State paths and hits; demands 1 and 2). The record
--- lists the sentences on scores, and `TrueScoresAreHighest` says of what they hold; proofs/Theorems.antt proves it. Demand 3
--- stands in Demand.antt. Assumes nothing.
+-- What is proved of true scores and of decoding, in document 01's words (State paths and hits; demands 1 and 2). The
+-- record lists the sentences on scores, and `TrueScoresAreHighest` says of what they hold. proofs/Theorems.antt proves
+-- it; demand 3 stands in Demand.antt. Assumes nothing.
 use Prim.Native.Nat.{ℕ, _*_, _≤_}
 use mathlib.Core.Path.{_≡_}
 use mathlib.Core.Logic.{_↔_}
@@ -36,4 +36,5 @@ TrueScoresAreHighest =
 abbrev pub AcceptedDecodes : Type 0
 AcceptedDecodes =
     (v x frames work out : List ℕ) (n : ℕ) → Accepted v x → AcceptedFrames v frames → 1 ≤ n → n ≤ 8
-    → workSpace ≤ length work → 8 * n ≤ length out → decodeAnswer v x frames n work out ≡ value (length (hits v (graphOf x) frames n))
+    → workSpace ≤ length work → 8 * n ≤ length out
+    → decodeAnswer v x frames n work out ≡ value (length (hits v (graphOf x) frames n))

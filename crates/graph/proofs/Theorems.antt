@@ -1,4 +1,4 @@
--- The theorems of specs/Theorems.antt: an accepted lexicon's graph is sound, and its letters are known. Assumes nothing.
+-- The theorems of specs/Theorems.antt: an accepted lexicon's graph is sound, its letters are known. Assumes nothing.
 use Prim.Native.Nat.{ℕ, _<_}
 use mathlib.Core.Path.{_≡_, refl, sym, ap, _∙_}
 use mathlib.Core.Bool.{true≢false}

@@ -1,5 +1,5 @@
--- What is proved of every accepted lexicon's graph, in document 01's words (Lexicon; demand 2). The record lists the sentences, and
--- `FullPathsAreCoded` says of what they hold; proofs/Theorems.antt proves it. Assumes nothing.
+-- What is proved of every accepted lexicon's graph, in document 01's words (Lexicon; demand 2). The record lists the
+-- sentences, and `FullPathsAreCoded` says of what they hold; proofs/Theorems.antt proves it. Assumes nothing.
 use Prim.Native.Nat.{ℕ, _<_}
 use mathlib.Core.Path.{_≡_}
 use mathlib.Core.Logic.{_↔_}

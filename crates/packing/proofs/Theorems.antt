@@ -40,7 +40,7 @@ codes-come-back W k codes out room answer enough =
     let four = length-flat u32Bytes 4 (λ v. refl) codes in (
       unpack-packed W codes out k answer room enough,
       unpack-packed-out W codes out k answer room enough
-      ∙ from-start (flatMap u32Bytes codes) room (4 * length codes) (omega arith),
+          ∙ from-start (flatMap u32Bytes codes) room (4 * length codes) (omega arith),
     )
 
 pub bytes-come-back : BytesComeBack

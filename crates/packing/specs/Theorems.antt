@@ -1,5 +1,5 @@
--- What is proved of widths and packed codes, in document 01's words (Lexicon). Each record lists sentences, and the statement
--- after it says of what they hold; proofs/Theorems.antt proves it. Assumes nothing.
+-- What is proved of widths and packed codes, in document 01's words (Lexicon). Each record lists sentences, and the
+-- statement after it says of what they hold; proofs/Theorems.antt proves it. Assumes nothing.
 use Prim.Native.Nat.{ℕ, _*_, _-_, _/_, _%_, _^_, _≤_, _<_}
 use mathlib.Core.Path.{_≡_}
 use mathlib.Core.Bool.{true}
@@ -41,8 +41,8 @@ pub record PackingTheorems (b : ℕ) : Type 0 where
 abbrev pub PackingIsUndone : Type 0
 PackingIsUndone = (b : ℕ) → PackingTheorems b
 
--- The same of the calls, whatever they are given: the k bytes that codes are packed into give the codes back, each as u32, in an
--- output with room for them;
+-- The same of the calls, whatever they are given: the k bytes that codes are packed into give the codes back, each as
+-- u32, in an output with room for them;
 abbrev pub CodesComeBack : Type 0
 CodesComeBack =
     (W k : ℕ) (codes out room : List ℕ) → packAnswer W codes out ≡ value k → 4 * length codes ≤ length room
