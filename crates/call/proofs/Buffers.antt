@@ -11,7 +11,7 @@ use lib.Dec.{ltb}
 use borrow.Author.Tests.{lt-ltb, le-ltb, ltb-true, ltb-false}
 use Rattle.call.specs.declared.Refusal.{Refusal}
 use Rattle.call.specs.Table.{Answer, value, refused}
-use Rattle.call.specs.Buffers.{zeroed, cleared, written}
+use Rattle.call.specs.Buffers.{zeroed, cleared, written, Clears, Writes}
 
 pub cleared-short : (w : List ℕ) → length w < 64000 → cleared w ≡ w
 unfolding cleared
@@ -20,6 +20,10 @@ cleared-short w h = rw (lt-ltb (length w) 64000 h)
 pub cleared-long : (w : List ℕ) → 64000 ≤ length w → cleared w ≡ zeroed 64000 w
 unfolding cleared
 cleared-long w h = rw (le-ltb (length w) 64000 h)
+
+pub clears : {w : List ℕ} → Clears w (cleared w)
+unfolding zeroed
+clears {w} = record { short = cleared-short w; long = cleared-long w }
 
 pub zeroed-length : (n : ℕ) (w : List ℕ) → n ≤ length w → length (zeroed n w) ≡ length w
 unfolding zeroed
@@ -70,3 +74,7 @@ module _ {A : Type 0} where
   pub written-refused : {a : Answer A} {r : Refusal} (bytes out : List ℕ) → a ≡ refused r → written a bytes out ≡ out
   unfolding written
   written-refused bytes out e = rw e
+
+  pub writes : {a : Answer A} {bytes out : List ℕ} → Writes a bytes out (written a bytes out)
+  unfolding written
+  writes {a} {bytes} {out} = record { on-value = λ b e. rw e; on-refusal = λ r e. written-refused bytes out e }

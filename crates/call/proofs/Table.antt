@@ -9,7 +9,8 @@ use borrow.Author.Tests.{not-true}
 use Rattle.endian.specs.Lists.{all}
 use Rattle.endian.proofs.Booleans.{and-in, and-out}
 use Rattle.call.specs.declared.Refusal.{Refusal}
-use Rattle.call.specs.Table.{value, refused, Row, on, noneApplies, unless}
+use Rattle.call.specs.Table.{Answer, value, refused, Row, on, noneApplies, unless}
+use Rattle.call.specs.Table.{FirstApplies, AnswersBy, by-value, by-refusal}
 
 none-append : (rows more : List Row) → noneApplies (rows ++ more) ≡ noneApplies rows && noneApplies more
 unfolding noneApplies all
@@ -40,13 +41,6 @@ pub passed-none : (rows : List Row) → EachPassed rows → noneApplies rows ≡
 unfolding noneApplies all
 passed-none [] u = refl
 passed-none (r ∷ rows) u = rw (u .0) (passed-none rows (u .1))
-
--- a row of this refusal applies, and none before it does
-pub record FirstApplies (rows : List Row) (r : Refusal) : Type 0 where
-  pub earlier : List Row
-  pub later : List Row
-  pub split : rows ≡ earlier ++ on r true ∷ later
-  pub none-before : noneApplies earlier ≡ true
 
 module _ {A : Type 0} where
   -- rows that do not apply are passed over
@@ -100,6 +94,14 @@ module _ {A : Type 0} where
       go false e h ih =
           let f = ih (rw e at h) in
           record { earlier = q ∷ f .earlier; later = f .later; split = ap (λ (l : List Row). q ∷ l) (f .split); none-before = rw e (f .none-before) }
+
+  -- what a table answers, whatever its rows and its value
+  pub answers-by : {rows : List Row} {a : A} → AnswersBy rows a (unless rows a)
+  answers-by {rows} {a} = go (unless rows a) refl
+    where
+      go : (b : Answer A) → unless rows a ≡ b → AnswersBy rows a b
+      go (value b) e = let u = value-passed rows a b e in rw (← u .1) (by-value (u .0))
+      go (refused r) e = by-refusal (refused-first rows a r e)
 
 module _ {A B : Type 0} where
   -- neither rows after the one that decides nor the value change a refusal

@@ -1,10 +1,12 @@
 -- What a call leaves in the buffers that it is lent (document 01, under the refusal table). The work space is the call's scratch memory.
 -- Assumes nothing.
-use Prim.Native.Nat.{ℕ}
+use Prim.Native.Nat.{ℕ, _≤_, _<_}
+use mathlib.Core.Path.{_≡_}
 use mathlib.Core.Bool.{cond}
 use mathlib.Core.List.{List, [], _∷_, _++_}
 use lib.ListN.{length, drop, replicate}
 use lib.Dec.{ltb}
+use Rattle.call.specs.declared.Refusal.{Refusal}
 use Rattle.call.specs.declared.Refusal.the-variants.{WorkSpace}
 use Rattle.call.specs.Limits.{workSpace}
 use Rattle.call.specs.Table.{Answer, value, refused, Row, on}
@@ -26,3 +28,15 @@ module _ {A : Type 0} where
   unfoldable pub written : Answer A → List ℕ → List ℕ → List ℕ
   written (value a) bytes out = bytes ++ drop (length bytes) out
   written (refused r) bytes out = out
+
+-- ---- the same as sentences; that `cleared` and `written` leave so is proved in proofs/Buffers.antt
+
+-- refusal 1 leaves all as it was; after every other call the first 64,000 work bytes are zero and later ones unchanged
+pub record Clears (work left : List ℕ) : Type 0 where
+  pub short : length work < workSpace → left ≡ work
+  pub long : workSpace ≤ length work → left ≡ replicate workSpace 0 ++ drop workSpace work
+
+-- a value comes with its bytes at the output's start and later ones unchanged; a refusal leaves the output unchanged
+pub record Writes {A : Type 0} (answer : Answer A) (bytes out left : List ℕ) : Type 0 where
+  pub on-value : (a : A) → answer ≡ value a → left ≡ bytes ++ drop (length bytes) out
+  pub on-refusal : (r : Refusal) → answer ≡ refused r → left ≡ out

@@ -1,7 +1,8 @@
 -- The refusal table of document 01: each refusal's number, and how a call goes through its rows. Assumes nothing.
 use Prim.Native.Nat.{ℕ}
-use mathlib.Core.Bool.{Bool, cond, not}
-use mathlib.Core.List.{List, [], _∷_, map}
+use mathlib.Core.Path.{_≡_}
+use mathlib.Core.Bool.{Bool, true, cond, not}
+use mathlib.Core.List.{List, [], _∷_, _++_, map}
 use lib.IntN.{ℤ, pos, negℤ}
 use Rattle.endian.specs.Lists.{all}
 use Rattle.call.specs.declared.Refusal.{Refusal}
@@ -64,3 +65,17 @@ module _ {A : Type 0} where
   unfoldable pub unless : List Row → A → Answer A
   unless [] a = value a
   unless (r ∷ rows) a = let rest = unless rows a in cond (r .applies) (refused (r .refusal)) rest
+
+-- ---- the same as a sentence; that `unless` answers so is proved in proofs/Table.antt
+
+-- a row of this refusal applies, and none before it does
+pub record FirstApplies (rows : List Row) (r : Refusal) : Type 0 where
+  pub earlier : List Row
+  pub later : List Row
+  pub split : rows ≡ earlier ++ on r true ∷ later
+  pub none-before : noneApplies earlier ≡ true
+
+-- an answer by a table: the value where no row applies, or the first refusal that applies
+pub data AnswersBy {A : Type 0} (rows : List Row) (a : A) : Answer A → Type 0 where
+  by-value : noneApplies rows ≡ true → AnswersBy rows a (value a)
+  by-refusal : {r : Refusal} → FirstApplies rows r → AnswersBy rows a (refused r)

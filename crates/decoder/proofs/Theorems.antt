@@ -1,4 +1,5 @@
--- The theorems of specs/Theorems.antt, for every accepted voice model and lexicon. Assumes nothing.
+-- The theorems of specs/Theorems.antt: on an accepted lexicon's paths all letters have states, and no row of decoding
+-- applies where none of any part of its table does. Assumes nothing.
 use Prim.Native.Nat.{ℕ, _*_, _≤_}
 use mathlib.Core.Path.{_≡_, refl}
 use mathlib.Core.Bool.{true}
@@ -12,17 +13,17 @@ use Rattle.call.specs.Buffers.{spaceRows}
 use Rattle.call.proofs.Table.{none-join, passed-none, unless-value}
 use Rattle.call.specs.declared.Refusal.the-variants.{Count, Output}
 use Rattle.voice.specs.Voice.{voiceRows}
-use Rattle.graph.specs.Graph.{graphOf, pathLetters}
-use Rattle.graph.specs.Checking.{Accepted, lexiconRows, imageRows, firstRows}
+use Rattle.graph.specs.Graph.{graphOf}
+use Rattle.graph.specs.Checking.{lexiconRows, imageRows, firstRows}
 use Rattle.graph.proofs.Accepted.{accepted, letters-known}
 use Rattle.call.specs.Limits.{badCount}
 use Rattle.decoder.specs.Decoding.{hits, frameRows, decodeRows, decodeAnswer}
-use Rattle.decoder.specs.Theorems.{ScoreTheorems, AcceptedDecodes}
+use Rattle.decoder.specs.Theorems.{TrueScoresAreHighest, AcceptedDecodes}
 use Rattle.decoder.proofs.StatePaths.{accepted-stated}
 use Rattle.decoder.proofs.Literal.{true-some, true-none}
 use Rattle.decoder.proofs.Limits.{attained-within}
 
-pub score-theorems : (v x frames path : List ℕ) → Accepted v x → ScoreTheorems v (pathLetters (graphOf x) path) frames
+pub score-theorems : TrueScoresAreHighest
 score-theorems v x frames path h =
     let images = accepted h in
     let stated = accepted-stated v (images .voice) (letters-known images path) in

@@ -1,4 +1,4 @@
--- The theorems of specs/Theorems.antt, for every accepted voice model and lexicon. Assumes nothing.
+-- The theorems of specs/Theorems.antt: an accepted lexicon's graph is sound, its letters are known. Assumes nothing.
 use Prim.Native.Nat.{ℕ, _<_}
 use mathlib.Core.Path.{_≡_, refl, sym, ap, _∙_}
 use mathlib.Core.Bool.{true≢false}
@@ -12,8 +12,8 @@ use Rattle.call.specs.Buffers.{spaceRows}
 use Rattle.voice.specs.Voice.{letterCount, printByte, voiceRows}
 use Rattle.graph.specs.Graph.{graphOf, fullPaths, wordCount, pathLetters}
 use Rattle.graph.specs.Words.{spelled, wordOfPath, LexiconWord}
-use Rattle.graph.specs.Checking.{lexiconRows, imageRows, Accepted, firstRows}
-use Rattle.graph.specs.Theorems.{PathTheorems}
+use Rattle.graph.specs.Checking.{lexiconRows, imageRows, firstRows}
+use Rattle.graph.specs.Theorems.{FullPathsAreCoded}
 use Rattle.graph.proofs.Sound.{Sound, sound}
 use Rattle.graph.proofs.Codes.{length-fullPaths, pathCount-sink, pathCount-below, codes}
 use Rattle.graph.proofs.Paths.{full-paths, distinct, same-letters, has-letter, wordOfCode-at}
@@ -51,7 +51,7 @@ module _ (v x : List ℕ) (images : AcceptedImages v x) where
       let e = ap length (w .spells) in
       omega (arith, has-letter ok (full-paths ok .1 (w .full)), length-map (pathLetters (graphOf x) (w .path)) (printByte v))
 
-pub path-theorems : (v x : List ℕ) → Accepted v x → PathTheorems v (graphOf x)
+pub path-theorems : FullPathsAreCoded
 path-theorems v x h =
     let images = accepted h in
     let s = ok v x images in

@@ -1,5 +1,5 @@
 -- The test `outranks` is the order of hits, and reading hits undoes writing them: eight bytes each, of a score and a code. Assumes nothing.
-use Prim.Native.Nat.{ℕ, _*_, _^_, _<_}
+use Prim.Native.Nat.{ℕ, zero, suc, _+_, _*_, _^_, _<_}
 use mathlib.Core.Path.{_≡_, refl, _∙_, ap, ap₂}
 use mathlib.Core.Bool.{Bool, true, false, _||_, _&&_, or-true}
 use mathlib.Core.Logic.{_↔_}
@@ -78,3 +78,13 @@ pub hits-written : (hs : List Hit) (after : List ℕ) → ((h : Hit) → List·M
     → hitsRead (hitBytes hs ++ after) (length hs) ≡ hs
 unfolding hitsRead
 hits-written hs after f = hits-behind [] hs after f
+
+-- k hits are read, whatever the bytes
+length-at : (b : List ℕ) (at k : ℕ) → length (hitsAt b at k) ≡ k
+unfolding hitsAt
+length-at b at zero = refl
+length-at b at (suc k) = ap suc (length-at b (at + 8) k)
+
+pub length-read : (b : List ℕ) (k : ℕ) → length (hitsRead b k) ≡ k
+unfolding hitsRead
+length-read b k = length-at b 0 k

@@ -9,7 +9,8 @@ use native.Mathlib.Omega.{arith}
 use lib.Dec.{le→leb, lt→ltb}
 use lib.IntN.{ℤ, pos, negsuc, negℤ, _+ℤ_, _*ℤ_}
 use lib.Signed.{_≤ℤ_, _<ℤ_, leZ-yes, ltZ-yes}
-use Rattle.ranking.specs.Mean.{mean, floorQuotient, RoundedDown}
+use Rattle.ranking.specs.Mean.{mean, floorQuotient}
+use Rattle.ranking.specs.Theorems.{MeanRoundsDown}
 
 minus-le : (m n : ℕ) → n < m → negℤ (pos m) ≤ℤ negsuc n
 minus-le zero n h = absurd (omega arith)
@@ -29,7 +30,7 @@ times-minus : (T q : ℕ) → pos T *ℤ negℤ (pos q) ≡ negℤ (pos (T * q))
 times-minus T zero = rw (mul-zero T)
 times-minus T (suc q) = refl
 
-pub mean-rounds-down : (score : ℤ) (T : ℕ) → 1 ≤ T → RoundedDown score T (mean score T)
+pub mean-rounds-down : MeanRoundsDown
 unfolding mean floorQuotient
 mean-rounds-down (pos n) T h = record {
   at-most = leZ-yes (le→leb (T * (n / T)) n (mul-div-le n T));

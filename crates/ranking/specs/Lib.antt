@@ -1,2 +1,3 @@
 pub mod Hits
 pub mod Mean
+pub mod Theorems

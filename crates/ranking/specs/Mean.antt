@@ -1,8 +1,7 @@
 -- The mean of a score over T frames (document 01, State paths and hits): the score divided by T, rounded down. Assumes nothing.
 use Prim.Native.Nat.{ℕ, _/_}
 use mathlib.Core.List.{[], _∷_}
-use lib.IntN.{ℤ, pos, negsuc, _+ℤ_, _*ℤ_}
-use lib.Signed.{_≤ℤ_, _<ℤ_}
+use lib.IntN.{ℤ, pos, negsuc}
 use Rattle.call.specs.declared.Refusal.the-variants.{Frames}
 use Rattle.call.specs.Table.{Answer, value, refused, on, unless}
 use Rattle.call.specs.Limits.{badFrameCount}
@@ -25,8 +24,3 @@ meanAnswer score T = unless (on Frames (badFrameCount T) ∷ []) (mean score T)
 abbrev pub meanOf : MeanScore → Answer ℤ
 meanOf (Value z) = value z
 meanOf (Refused r) = refused r
-
--- rounded down: T × m ≤ score < T × (m + 1); that the mean is it is proved in proofs/Rounding.antt
-pub record RoundedDown (score : ℤ) (T : ℕ) (m : ℤ) : Type 0 where
-  pub at-most : (pos T *ℤ m) ≤ℤ score
-  pub next-above : score <ℤ (pos T *ℤ (m +ℤ pos 1))

@@ -1,0 +1,199 @@
+-- The main theorems: each demand of the customer and each promise of the README, as a statement whose proof cites its
+-- law. They speak of the definitions that the contracts name: a call answers its `..Answer`, and leaves its `..Out` in
+-- the output and its `..Work` in the work space. v is a voice model, x a lexicon, g its graph; out and work are what
+-- output and work space held before the call. Assumes nothing.
+use Prim.Native.Nat.{ℕ, _*_, _-_, _^_, _≤_, _<_}
+use mathlib.Core.Path.{_≡_, refl}
+use mathlib.Core.Bool.{true}
+use mathlib.Core.Logic.{_↔_}
+use mathlib.Core.List.{List, [], _∷_, _++_, map, flatMap, List·Memᴰ}
+use mathlib.Core.Option.{some}
+use lib.IntN.{ℤ, pos, natAbs, _+ℤ_, _*ℤ_}
+use lib.Signed.{_≤ℤ_, _<ℤ_}
+use lib.ListN.{length, take, getD}
+use Rattle.endian.specs.Lists.{from}
+use Rattle.endian.specs.Bytes.{Bytes, u32Bytes}
+use Rattle.call.specs.declared.Refusal.the-variants.{Frames}
+use Rattle.call.specs.Table.{value, on, numbers, AnswersBy}
+use Rattle.call.specs.Limits.{badFrameCount}
+use Rattle.call.specs.Buffers.{Clears, Writes}
+use Rattle.call.proofs.Table.{answers-by}
+use Rattle.call.proofs.Buffers.{clears, writes}
+use Rattle.graph.specs.Graph.{Graph, graphOf, FullPath, fullPaths, wordCount, pathCode, pathLetters}
+use Rattle.graph.specs.Words.{LexiconWord, pathOfWord, codeOf, wordOfCode}
+use Rattle.graph.specs.Checking.{Accepted, firstRows, checkAnswer, checkWork}
+use Rattle.graph.proofs.Theorems.{path-theorems, check-numbers}
+use Rattle.packing.specs.Width.{width, givenRows, widthAnswer}
+use Rattle.packing.specs.Packing.{packedSize, packed, unpacked, paddedWithZeros}
+use Rattle.packing.specs.Packing.{packRows, packAnswer, packOut, unpackRows, unpackAnswer, unpackOut}
+use Rattle.packing.proofs.Theorems.{width-theorems, packing-theorems, pack-numbers, unpack-numbers}
+use Rattle.codes.specs.Lookup.{wordToCodeRows, wordToCodeAnswer, wordToCodeWork}
+use Rattle.codes.specs.Lookup.{codeToWordRows, codeToWordAnswer, codeToWordOut, codeToWordWork}
+use Rattle.codes.specs.Lookup.{listing, listRows, listAnswer, listOut, listWork}
+use Rattle.codes.proofs.Rows.{word-to-code-numbers, code-to-word-numbers, list-numbers}
+use Rattle.codes.proofs.Theorems.{code-theorems}
+use Rattle.ranking.specs.Hits.{Hit, hitBytes, hitsRead}
+use Rattle.ranking.specs.Mean.{mean, meanAnswer}
+use Rattle.ranking.proofs.Hits.{length-read}
+use Rattle.ranking.proofs.Rounding.{mean-rounds-down}
+use Rattle.decoder.specs.StatePaths.{Attains, scoreLimit}
+use Rattle.decoder.specs.TrueScore.{trueScore}
+use Rattle.decoder.specs.Decoding.{AcceptedFrames, hits, decodeRows, decodeAnswer, decodeOut, decodeWork}
+use Rattle.decoder.specs.Demand.{Demand3, FirstOfRow, Off, HasNoPath}
+use Rattle.decoder.proofs.Theorems.{score-theorems, accepted-decodes, decode-numbers}
+use Rattle.decoder.proofs.Demanded.{left-meets, demand-3-determines}
+use Rattle.passing.specs.Tokens.{decoded}
+use Rattle.passing.proofs.Theorems.{graph-decoding}
+use Rattle.report.specs.Report.{report}
+use Rattle.report.proofs.Theorems.{cut-reports-the-same}
+
+module _ (v x : List ℕ) where
+  abbrev g : Graph
+  g = graphOf x
+
+  -- ---- Demand 1: any call, whatever it is given
+
+  module _ (frames word work out codes bytes : List ℕ) (n c W T : ℕ) (score : ℤ) where
+    -- A call answers its value where no row of its table applies, else the first refusal that applies: with a lexicon,
+    lexicon-calls-answer :
+        AnswersBy (firstRows v x work) (wordCount g) (checkAnswer v x work)
+        × AnswersBy (wordToCodeRows v x word work) (codeOf g (pathOfWord v g word)) (wordToCodeAnswer v x word work)
+        × AnswersBy (codeToWordRows v x c work out) (length (wordOfCode v g c)) (codeToWordAnswer v x c work out)
+        × AnswersBy (listRows v x work out) (length (listing v g)) (listAnswer v x work out)
+        × AnswersBy (decodeRows v x frames n work out) (length (hits v g frames n)) (decodeAnswer v x frames n work out)
+    unfolding checkAnswer wordToCodeAnswer codeToWordAnswer listAnswer decodeAnswer
+    lexicon-calls-answer = (answers-by, answers-by, answers-by, answers-by, answers-by)
+
+    -- and without one.
+    other-calls-answer :
+        AnswersBy (packRows W codes out) (packedSize (width W) (length codes)) (packAnswer W codes out)
+        × AnswersBy (unpackRows W n bytes out) n (unpackAnswer W n bytes out)
+        × AnswersBy (givenRows W) (width W) (widthAnswer W)
+        × AnswersBy (on Frames (badFrameCount T) ∷ []) (mean score T) (meanAnswer score T)
+    unfolding packAnswer unpackAnswer widthAnswer meanAnswer
+    other-calls-answer = (answers-by, answers-by, answers-by, answers-by)
+
+    -- The numbers of each table rise, so the first refusal that applies is the lowest.
+    numbers-rise :
+        (numbers (firstRows v x work) ≡ from 1 10)
+        × (numbers (wordToCodeRows v x word work) ≡ from 1 10 ++ 13 ∷ [])
+        × (numbers (codeToWordRows v x c work out) ≡ from 1 10 ++ 15 ∷ 16 ∷ [])
+        × (numbers (listRows v x work out) ≡ from 1 10 ++ 16 ∷ [])
+        × (numbers (decodeRows v x frames n work out) ≡ from 1 12 ++ 16 ∷ [])
+        × (numbers (packRows W codes out) ≡ 9 ∷ 12 ∷ 15 ∷ 16 ∷ [])
+        × (numbers (unpackRows W n bytes out) ≡ 9 ∷ 12 ∷ 14 ∷ 15 ∷ 16 ∷ [])
+    unfolding from
+    numbers-rise = (
+      check-numbers v x work,
+      word-to-code-numbers v x work word,
+      code-to-word-numbers v x work c out,
+      list-numbers v x work out,
+      decode-numbers v x frames work out n,
+      pack-numbers W codes out,
+      unpack-numbers W n bytes out,
+    )
+
+    -- A value comes with its bytes at the output's start, later ones unchanged; a refusal leaves the output unchanged.
+    output-left :
+        Writes (codeToWordAnswer v x c work out) (wordOfCode v g c) out (codeToWordOut v x c work out)
+        × Writes (listAnswer v x work out) (listing v g) out (listOut v x work out)
+        × Writes (decodeAnswer v x frames n work out) (hitBytes (hits v g frames n)) out
+        (decodeOut v x frames n work out)
+        × Writes (packAnswer W codes out) (packed (width W) codes) out (packOut W codes out)
+        × Writes (unpackAnswer W n bytes out) (flatMap u32Bytes (unpacked (width W) n bytes)) out
+        (unpackOut W n bytes out)
+    unfolding codeToWordOut listOut decodeOut packOut unpackOut
+    output-left = (writes, writes, writes, writes, writes)
+
+    -- Refusal 1 leaves the work space as it was; after any other call its first 64,000 bytes are zero, the rest kept.
+    work-left :
+        Clears work (checkWork v x work) × Clears work (wordToCodeWork v x word work)
+        × Clears work (codeToWordWork v x c work) × Clears work (listWork v x work)
+        × Clears work (decodeWork v x frames n work)
+    work-left = (clears, clears, clears, clears, clears)
+
+  -- ---- Demand 2: any accepted voice model and lexicon
+
+  module _ (accepted : Accepted v x) where
+    -- The full paths, in the order of a depth-first walk, are exactly the paths of arcs from root to sink.
+    full-paths : (p : List ℕ) → List·Memᴰ p (fullPaths g) ↔ FullPath g p
+    full-paths = path-theorems v x accepted .full
+
+    -- No two of them are the same.
+    different : (i j : ℕ) → i < wordCount g → j < wordCount g
+        → getD (fullPaths g) i [] ≡ getD (fullPaths g) j [] → i ≡ j
+    different = path-theorems v x accepted .different
+
+    -- A code is the number of full paths completed before: in this order the codes are 0, 1, .., W - 1.
+    codes-in-order : map (pathCode g) (fullPaths g) ≡ from 0 (wordCount g)
+    codes-in-order = path-theorems v x accepted .codes
+
+    -- Word to code and code to word undo each other, over all words and all numbers below the word count.
+    lookups-undo : ((word : List ℕ) → LexiconWord v g word → wordOfCode v g (codeOf g (pathOfWord v g word)) ≡ word)
+        × ((c : ℕ) → c < wordCount g → codeOf g (pathOfWord v g (wordOfCode v g c)) ≡ c)
+    lookups-undo = (code-theorems v x accepted .word-back, code-theorems v x accepted .code-back)
+
+    -- A word's true score is attained by a permitted state path and exceeded by none.
+    true-score : (path frames : List ℕ) (a : ℤ) → (trueScore v (pathLetters g path) frames ≡ some a)
+        ↔ (Attains v (pathLetters g path) frames a × ((b : ℤ) → Attains v (pathLetters g path) frames b → b ≤ℤ a))
+    true-score path frames = score-theorems v x frames path accepted .highest
+
+    -- Scores lie within ±65,501,233.
+    scores-within : (path frames : List ℕ) (a : ℤ) → length frames ≤ 1000 → Attains v (pathLetters g path) frames a
+        → natAbs a ≤ 65501233
+    unfolding scoreLimit
+    scores-within path frames a few = score-theorems v x frames path accepted .within few a
+
+    -- ---- Demand 3: any accepted frames and any n from 1 to 8
+
+    -- Only the listed conditions refuse: with work space and room, decoding answers how many hits there are.
+    decoding-answers : (frames work out : List ℕ) (n : ℕ) → AcceptedFrames v frames → 1 ≤ n → n ≤ 8
+        → 64000 ≤ length work → 8 * n ≤ length out
+        → decodeAnswer v x frames n work out ≡ value (length (hits v g frames n))
+    decoding-answers frames work out n = accepted-decodes v x frames work out n accepted
+
+    -- Demand 3 determines the list: two lists that meet it are equal.
+    one-list : (frames : List ℕ) (n : ℕ) (hs ks : List Hit) → Demand3 v g frames n hs → Demand3 v g frames n ks
+        → hs ≡ ks
+    one-list frames n hs ks = demand-3-determines v x frames n hs ks accepted
+
+    -- Document 001's theorem: decoding over the graph lists what decoding word by word lists.
+    graph-lists-hits : (frames : List ℕ) (n : ℕ) → decoded v g frames n ≡ hits v g frames n
+    graph-lists-hits frames n = graph-decoding v x frames n accepted
+
+  -- What decoding leaves where it answers k: from the output's start, k hits.
+  module _ (frames work out : List ℕ) (n k : ℕ) (answered : decodeAnswer v x frames n work out ≡ value k) where
+    abbrev listed : List Hit
+    listed = hitsRead (decodeOut v x frames n work out) k
+
+    -- This list meets demand 3, and it is the first n of the row of all hits, or all of it if that is shorter.
+    list-left : Demand3 v g frames n listed × FirstOfRow v g frames n listed
+    list-left = left-meets v x frames work out n _ _ refl refl k answered
+
+    -- If fewer than n are listed, no word off the list has a permitted state path at all.
+    short-list : k < n → (word : List ℕ) → LexiconWord v g word → Off v g frames listed word → HasNoPath v g frames word
+    short-list few = list-left .0 .short (rw (length-read (decodeOut v x frames n work out) k) few)
+
+-- ---- Packed codes, the mean, the program
+
+-- A code takes the least number of bits that tells W codes apart.
+width-least : (W : ℕ) → (W ≤ 2 ^ width W) × (1 < W → 2 ^ (width W - 1) < W)
+width-least W = (width-theorems W .enough, width-theorems W .least)
+
+-- Packing and unpacking undo each other, over all codes of b bits and all bytes that 14 does not refuse.
+packing-undoes : (b : ℕ) (codes : List ℕ) → ((c : ℕ) → List·Memᴰ c codes → c < 2 ^ b)
+    → unpacked b (length codes) (packed b codes) ≡ codes
+packing-undoes b = packing-theorems b .unpack-pack
+
+unpacking-undoes : (b n : ℕ) (bytes : List ℕ) → Bytes bytes → length bytes ≡ packedSize b n
+    → paddedWithZeros b n bytes ≡ true → packed b (unpacked b n bytes) ≡ bytes
+unpacking-undoes b = packing-theorems b .pack-unpack
+
+-- T × mean ≤ score < T × (mean + 1).
+mean-down : (score : ℤ) (T : ℕ) → 1 ≤ T
+    → ((pos T *ℤ mean score T) ≤ℤ score) × (score <ℤ (pos T *ℤ (mean score T +ℤ pos 1)))
+mean-down score T h = let m = mean-rounds-down score T h in (m .at-most, m .next-above)
+
+-- The program hits needs no more than the first 132,076 bytes of its input.
+cut-input : (input : List ℕ) → ((i : ℕ) → getD input i 0 < 256) → report (take 132076 input) ≡ report input
+cut-input = cut-reports-the-same

@@ -1,0 +1,1 @@
+// The main theorems, of the definitions that the contracts cite: proofs/Main.antt. Read that first.
