@@ -7,9 +7,9 @@ ghost use lib.Seq.{sets};
 ghost use Rattle.endian.specs.Bytes.{i32Bytes, u32Bytes};
 ghost use Rattle.ranking.specs.Hits.{hitBytes};
 ghost use Rattle.decoding.specs.Listing.{hitOf, hitsOf, Listable};
+use decoder::token::Token;
 use endian::i32_bytes;
 use endian::u32_bytes;
-use search::tokens::Token;
 
 fn put_bytes(out: &mut [u8], at: usize, bytes: [u8; 4])
     requires { ⌜ (at + 4 ≤ length (now out)) × (length bytes ≡ 4) ⌝ }

@@ -15,7 +15,8 @@ use Rattle.ranking.proofs.Hits.{outranks-is}
 use Rattle.decoder.specs.Score.{bias, frameLimit, raised}
 use Rattle.decoder.proofs.Biased.{raised-is}
 use Rattle.passing.specs.Best.{shift}
-use Rattle.search.specs.Slots.{codePart, sameCode, MoveFits}
+use Rattle.decoder.specs.Token.{codePart, sameCode}
+use Rattle.search.specs.Slots.{MoveFits}
 use Rattle.search.specs.Held.{tokenOf, Storable, upOf, downOf}
 
 biased-is : (h : Hit) → Storable h → raised bias (h .score) + down (h .score) ≡ bias + up (h .score)

@@ -1,13 +1,14 @@
 -- Tokens in bytes, as numbers: what slots hold, and what is done to the list of a place's n tokens. What they mean as candidates is said in
 -- Held.antt. No public contract cites these. Assumes nothing.
-use Prim.Native.Nat.{ℕ, zero, suc, _+_, _-_, _*_, _%_, _^_, _<_, _≤_}
+use Prim.Native.Nat.{ℕ, zero, suc, _+_, _-_, _*_, _^_, _<_, _≤_}
 use mathlib.Core.Path.{_≡_}
 use mathlib.Core.Logic.{_⊎_}
-use mathlib.Core.Bool.{Bool, cond, _||_}
+use mathlib.Core.Bool.{cond, _||_}
 use mathlib.Core.List.{List, [], _∷_, List·Memᴰ}
 use lib.Dec.{ltb, eqb}
 use lib.ListN.{length, take}
 use Rattle.endian.specs.Bytes.{u32}
+use Rattle.decoder.specs.Token.{codePart, sameCode}
 
 -- ---- bytes
 
@@ -32,13 +33,6 @@ pub record Changed (k n : ℕ) (l b b′ : List ℕ) : Type 0 where
   pub outside : (j : ℕ) → (j < k) ⊎ (k + n ≤ j) → tokenAt b′ j ≡ tokenAt b j
 
 -- ---- a candidate
-
--- the half that tells the code
-unfoldable pub codePart : ℕ → ℕ
-codePart x = x % 4294967296
-
-abbrev pub sameCode : ℕ → ℕ → Bool
-sameCode x y = eqb (codePart x) (codePart y)
 
 -- where x enters: before the first token that it outranks, unless one of its code stands before it; else past the end
 unfoldable pub position : ℕ → List ℕ → ℕ

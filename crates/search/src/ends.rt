@@ -10,10 +10,10 @@ ghost use Rattle.search.specs.Running.{Arcs, LastArc, Ending, Ended, Run
 use crate::frames::all_frames;
 use crate::store::copy_place;
 use crate::store::offer;
-use crate::tokens::LIFT;
 use checking::ARCS_AT;
 use checking::FIRST_SLOT;
 use checking::PATHS;
+use decoder::token::LIFT;
 use endian::u16_at;
 
 // The increment of the arc to the sink: the path counts of the successors stored before it. Without such an arc it is the

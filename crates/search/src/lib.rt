@@ -18,7 +18,7 @@ mod letters;
 mod parts;
 mod places;
 mod store;
-pub mod tokens;
+mod tokens;
 mod turns;
 
 // The answer is the first refusal that applies to decoding, or 0 where none does. The tokens are the hits, best first, with no token after them.

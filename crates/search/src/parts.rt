@@ -3,6 +3,7 @@
 ghost use Prim.Native.Nat.{_+_, _≤_};
 ghost use Rattle.search.specs.Slots.{slots, offered, Offer, Changed};
 use crate::store::insert;
+use crate::tokens::moved;
 use crate::tokens::token_at;
 
 // The tokens of an earlier place, moved, are candidates for this one, as in `offer`. They need no copy, since only this
@@ -19,7 +20,7 @@ pub(crate) fn offer_from(store: &mut [u8], n: usize, from: usize, slot: usize, u
         if token.is_none() {
             return;
         }
-        let candidate = token.moved(up, down);
+        let candidate = moved(token, up, down);
         let last = token_at(store, slot + n - 1);
         if last.outranks(candidate) {
             return;

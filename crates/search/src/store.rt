@@ -3,10 +3,12 @@ ghost use mathlib.Core.Path.{_≡_};
 ghost use mathlib.Core.List.{_++_};
 ghost use Prim.Native.Nat.{_+_, _-_, _*_, _≤_};
 ghost use lib.ListN.{length, replicate};
-ghost use Rattle.search.specs.Slots.{slots, codePart, position, push, enter, offered, shifted, PlaceRoom, Movable, Falling, Offer};
-use crate::tokens::Token;
+ghost use Rattle.decoder.specs.Token.{codePart};
+ghost use Rattle.search.specs.Slots.{slots, position, push, enter, offered, shifted, PlaceRoom, Movable, Falling, Offer};
+use crate::tokens::moved;
 use crate::tokens::put_token;
 use crate::tokens::token_at;
+use decoder::token::Token;
 
 // A candidate enters a list at the first position whose token it outranks; n: nowhere, since none is outranked, or one
 // of its code stands before.
@@ -74,7 +76,7 @@ pub(crate) fn offer(list: &mut [u8], n: usize, store: &[u8], from: usize, up: u6
         if token.is_none() {
             return;
         }
-        let candidate = token.moved(up, down);
+        let candidate = moved(token, up, down);
         let last = token_at(list, n - 1);
         if last.outranks(candidate) {
             return;
@@ -96,7 +98,7 @@ pub(crate) fn shift(part: &mut [u8], n: usize, up: u64, down: u64)
         if token.is_none() {
             return;
         }
-        put_token(part, k, token.moved(up, down));
+        put_token(part, k, moved(token, up, down));
         k += 1;
     }
 }

@@ -1,74 +1,22 @@
-// A token is a candidate as one number: (score + bias) × 2^32 + (2^32 - 1 - code). Its high half is a `Score`'s number.
-// So a token outranks another exactly if its number is greater, and a move adds to it and takes from it. It is stored in
-// 8 bytes, little-endian: slot k is bytes 8k to 8k + 7.
+// Tokens in the store: slot k is bytes 8k to 8k + 7, little-endian.
 ghost use mathlib.Core.Path.{_≡_};
-ghost use Prim.Native.Nat.{_+_, _-_, _*_, _/_, _%_, _≤_};
-ghost use lib.Dec.{ltb, eqb};
+ghost use Prim.Native.Nat.{_+_, _-_, _*_, _≤_};
 ghost use lib.ListN.{length};
 ghost use lib.Seq.{sets};
 ghost use Rattle.endian.specs.Bytes.{u32, u32Bytes};
-ghost use Rattle.search.specs.Slots.{tokenAt, SlotPut, sameCode, MoveFits};
-use decoder::score::Score;
+ghost use Rattle.search.specs.Slots.{tokenAt, SlotPut, MoveFits};
+use decoder::token::Token;
+use decoder::token::UNIT;
 use endian::u32_bytes;
 use endian::u32_of;
 
-// One point of score in a token.
-pub(crate) const UNIT: u64 = 4294967296;
-
-// The bias in a token: what a gain holds above the score that it adds, since it is a `Score`'s number too.
-pub(crate) const LIFT: u64 = 576460752303423488;
-
-pub struct Token(pub u64);
-
-impl Token {
-    // No token: `Score::IMPOSSIBLE`, with nothing below it.
-    pub const NONE: Token = Token(0);
-
-    pub(crate) fn of(score: Score, code: u32) -> Token
-        ensures { λ r. ⌜ r .0 ≡ (score .0) * 4294967296 + (4294967295 - code) ⌝ }
-    {
-        Token(score.0 as u64 * UNIT + (4294967295 - code) as u64)
-    }
-
-    pub fn is_none(self) -> bool
-        ensures { λ r. ⌜ r ≡ eqb (self .0) 0 ⌝ }
-    {
-        let none = Token::NONE;
-        self.0 == none.0
-    }
-
-    pub fn score(self) -> Score
-        ensures { λ r. ⌜ r .0 ≡ (self .0) / 4294967296 ⌝ }
-    {
-        Score((self.0 / UNIT) as u32)
-    }
-
-    pub fn code(self) -> u32
-        ensures { λ r. ⌜ r ≡ 4294967295 - (self .0) % 4294967296 ⌝ }
-    {
-        4294967295 - (self.0 % UNIT) as u32
-    }
-
-    pub(crate) fn outranks(self, other: Token) -> bool
-        ensures { λ r. ⌜ r ≡ ltb (other .0) (self .0) ⌝ }
-    {
-        other.0 < self.0
-    }
-
-    // The low half tells the code.
-    pub(crate) fn has_code_of(self, other: Token) -> bool
-        ensures { λ r. ⌜ r ≡ sameCode (self .0) (other .0) ⌝ }
-    {
-        self.0 % UNIT == other.0 % UNIT
-    }
-
-    // The token after a move: `up` is the gain's number in units, `down` the bias and the increment.
-    pub(crate) fn moved(self, up: u64, down: u64) -> Token
-        requires { ⌜ MoveFits up down (self .0) ⌝ }
-        ensures { λ r. ⌜ r .0 ≡ (self .0) + up - down ⌝ }
-    {
-        Token(self.0 + up - down)
-    }
+// A token after a move: `up` is the number of the move's score in units, `down` the bias and the increment. It stands here,
+// and not with the type, since it asks that the sum fits.
+pub(crate) fn moved(token: Token, up: u64, down: u64) -> Token
+    requires { ⌜ MoveFits up down (token .0) ⌝ }
+    ensures { λ r. ⌜ r .0 ≡ (token .0) + up - down ⌝ }
+{
+    Token(token.0 + up - down)
 }
 
 fn u32_at(part: &[u8], at: usize) -> u32

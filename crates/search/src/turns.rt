@@ -20,14 +20,14 @@ use crate::places::NO_PLACE;
 use crate::store::clear_place;
 use crate::store::insert;
 use crate::store::shift;
-use crate::tokens::LIFT;
-use crate::tokens::Token;
-use crate::tokens::UNIT;
 use crate::tokens::token_at;
 use checking::ARCS_AT;
 use checking::FIRST_SLOT;
 use checking::PATHS;
 use decoder::score::Score;
+use decoder::token::LIFT;
+use decoder::token::Token;
+use decoder::token::UNIT;
 use endian::u16_of;
 
 // The number at an offset inside the image.

@@ -7,7 +7,8 @@ use mathlib.Core.Bool.{true}
 use native.Mathlib.Omega.{arith}
 use borrow.Author.Needs.{needs}
 use lib.ListN.{length}
-use Rattle.search.specs.Slots.{tokenAt, slots, codePart, push}
+use Rattle.decoder.specs.Token.{codePart}
+use Rattle.search.specs.Slots.{tokenAt, slots, push}
 use Rattle.search.proofs.Told.{same-told, other-told}
 use Rattle.search.proofs.Entering.{stops, ends, goes, all-pushed, stop-none, stop-test}
 use Rattle.search.proofs.store.push_down.Statement.{statement}

@@ -1,8 +1,8 @@
 -- `Token::has_code_of` compares the low halves. Assumes nothing.
 use mathlib.Core.Path.{refl}
-use Rattle.search.specs.Slots.{codePart}
-use Rattle.search.proofs.tokens.Token.has_code_of.Statement.{statement}
-use Rattle.search.proofs.tokens.Token.has_code_of.Tie as tie
+use Rattle.decoder.specs.Token.{codePart}
+use Rattle.decoder.proofs.token.Token.has_code_of.Statement.{statement}
+use Rattle.decoder.proofs.token.Token.has_code_of.Tie as tie
 
 returns : tie.Need-returns
 unfolding codePart

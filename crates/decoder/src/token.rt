@@ -1,0 +1,58 @@
+// A token is a candidate as one number: (score + bias) × 2^32 + (2^32 - 1 - code). Its high half is a `Score`'s number. So a
+// token outranks another exactly if its number is greater, and a move adds to it and takes from it.
+ghost use mathlib.Core.Path.{_≡_};
+ghost use Prim.Native.Nat.{_+_, _-_, _*_, _/_};
+ghost use lib.Dec.{ltb, eqb};
+ghost use Rattle.decoder.specs.Token.{unit, codePart, sameCode};
+use crate::score::Score;
+
+// One point of score in a token.
+pub const UNIT: u64 = 4294967296;
+
+// The bias in a token: what a gain holds above the score that it adds, since it is a `Score`'s number too.
+pub const LIFT: u64 = 576460752303423488;
+
+pub struct Token(pub u64);
+
+impl Token {
+    // No token: `Score::IMPOSSIBLE`, with nothing below it.
+    pub const NONE: Token = Token(0);
+
+    pub fn of(score: Score, code: u32) -> Token
+        ensures { λ r. ⌜ r .0 ≡ (score .0) * unit + (unit - 1 - code) ⌝ }
+    {
+        Token(score.0 as u64 * UNIT + (UNIT - 1 - code as u64))
+    }
+
+    pub fn is_none(self) -> bool
+        ensures { λ r. ⌜ r ≡ eqb (self .0) 0 ⌝ }
+    {
+        let none = Token::NONE;
+        self.0 == none.0
+    }
+
+    pub fn score(self) -> Score
+        ensures { λ r. ⌜ r .0 ≡ (self .0) / unit ⌝ }
+    {
+        Score((self.0 / UNIT) as u32)
+    }
+
+    pub fn code(self) -> u32
+        ensures { λ r. ⌜ r ≡ unit - 1 - codePart (self .0) ⌝ }
+    {
+        (UNIT - 1 - self.0 % UNIT) as u32
+    }
+
+    pub fn outranks(self, other: Token) -> bool
+        ensures { λ r. ⌜ r ≡ ltb (other .0) (self .0) ⌝ }
+    {
+        other.0 < self.0
+    }
+
+    // The low half tells the code.
+    pub fn has_code_of(self, other: Token) -> bool
+        ensures { λ r. ⌜ r ≡ sameCode (self .0) (other .0) ⌝ }
+    {
+        self.0 % UNIT == other.0 % UNIT
+    }
+}
