@@ -1,5 +1,5 @@
 pub mod Report
-pub mod Put
+pub mod Text
 pub mod Lines
 pub mod Page
 pub mod Theorems

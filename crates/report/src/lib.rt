@@ -6,9 +6,9 @@ ghost use lib.ListN.{length};
 ghost use Rattle.call.specs.Limits.{workSpace};
 ghost use Rattle.graph.specs.Graph.{graphOf, wordCount};
 ghost use Rattle.ranking.specs.Hits.{hitsRead};
-ghost use Rattle.report.specs.Lines.{Ready, Listed, lentAnswer};
+ghost use Rattle.report.specs.Lines.{AcceptedArguments, HoldsHits, lentAnswer};
 ghost use Rattle.report.specs.Page.{blankPage, Shows};
-ghost use Rattle.report.specs.Put.{Put};
+ghost use Rattle.report.specs.Text.{TextPut};
 ghost use Rattle.report.specs.Report.{firstLine, hitLine, reported, report};
 use crate::input::after_image;
 use crate::input::count;
@@ -55,10 +55,10 @@ fn put_list(
     work: &mut [u8],
     out: &mut [u8],
 ) -> usize
-    requires { ⌜ Ready (now voice) (now lexicon) frames (now work) ⌝ }
-    requires { ⌜ Listed (now lexicon) (now list) k ⌝ }
+    requires { ⌜ AcceptedArguments (now voice) (now lexicon) frames (now work) ⌝ }
+    requires { ⌜ HoldsHits (now lexicon) (now list) k ⌝ }
     requires { ⌜ 593 ≤ length (now out) ⌝ }
-    ensures { λ r. ⌜ Put (firstLine k (wordCount (graphOf (now (lexicon .entry)))) ++ flatMap (hitLine (now (voice .entry)) (graphOf (now (lexicon .entry))) frames) (hitsRead (now (list .entry)) k)) 0 (now (out .entry)) (now (out .exit)) r ⌝ }
+    ensures { λ r. ⌜ TextPut (firstLine k (wordCount (graphOf (now (lexicon .entry)))) ++ flatMap (hitLine (now (voice .entry)) (graphOf (now (lexicon .entry))) frames) (hitsRead (now (list .entry)) k)) 0 (now (out .entry)) (now (out .exit)) r ⌝ }
 {
     let checked = check(voice, lexicon, work);
     let Answer::Value(words) = checked else {
@@ -75,7 +75,7 @@ fn put_list(
 // Decodes, with room for 8 hits, and puts what is printed for the answer.
 fn put_report(voice: &[u8], lexicon: &[u8], frames: &[u8], n: u32, out: &mut [u8]) -> usize
     requires { ⌜ 593 ≤ length (now out) ⌝ }
-    ensures { λ r. ⌜ Put (reported (now (voice .entry)) (graphOf (now (lexicon .entry))) (now (frames .entry)) n (lentAnswer (now (voice .entry)) (now (lexicon .entry)) (now (frames .entry)) n)) 0 (now (out .entry)) (now (out .exit)) r ⌝ }
+    ensures { λ r. ⌜ TextPut (reported (now (voice .entry)) (graphOf (now (lexicon .entry))) (now (frames .entry)) n (lentAnswer (now (voice .entry)) (now (lexicon .entry)) (now (frames .entry)) n)) 0 (now (out .entry)) (now (out .exit)) r ⌝ }
 {
     let mut work = work_space();
     let mut list = [0u8; 64];

@@ -23,7 +23,7 @@ use Rattle.checking.proofs.Arcs.{shape-of, sound-of, nodes-there, has-entry, Li
 use Rattle.checking.proofs.Increments.{CountsPassed, counts-start, split-here, increment-here, counts-below, counts-next}
 use Rattle.ranking.specs.Hits.{Hit}
 use Rattle.decoder.specs.Score.{plus}
-use Rattle.passing.specs.Tokens.{Store, bestTokens, stateOf, heard, overArc}
+use Rattle.passing.specs.Tokens.{Store, bestTokens, stateOf, symbolScore, overArc}
 use Rattle.passing.specs.InPlace.{passOn}
 use Rattle.passing.proofs.Order.{hits-strict}
 use Rattle.passing.proofs.Best.{best-from, best-best}
@@ -107,8 +107,8 @@ module _ {x : List ℕ} {n nodes : ℕ} {firsts entries : List ℕ} {root : Bool
   words : wordCount g < 2 ^ 32
   words = words-few (h .v) x (h .ready .accepted)
 
-  worth : u ≤ nodeCount x → Worth (getD entries (getD x (1 + u) 0) 0) (plus (h .score) (heard (h .v) g (h .k) u 0))
-  unfolding nodeLetter entryGain heard stateOf
+  worth : u ≤ nodeCount x → Worth (getD entries (getD x (1 + u) 0) 0) (plus (h .score) (symbolScore (h .v) g (h .k) u 0))
+  unfolding nodeLetter entryGain symbolScore stateOf
   worth k =
       worth-by (h .moved) (emission (h .v) (firstState (h .v) (nodeLetter x u) + 0) (h .k)) (h .score-is) (h .small) (emission-range (h .v) _ (h .k))
       (h .gains .entry u (omega (arith, rises .0)) k)
@@ -136,7 +136,7 @@ module _ {x : List ℕ} {n nodes : ℕ} {firsts entries : List ℕ} {root : Bool
 
     pub arc-offering : Offering n (getD firsts u 0) (getD entries (getD x (1 + u) 0) 0) down (source root n from b) b
     arc-offering = record {
-      score = plus (h .score) (heard (h .v) g (h .k) u 0);
+      score = plus (h .score) (symbolScore (h .v) g (h .k) u 0);
       d = increment g (w) u;
       l = h .l;
       s = h .Q u 0;
