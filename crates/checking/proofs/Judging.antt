@@ -10,13 +10,13 @@ use lib.Dec.{ltb}
 use borrow.Author.Tests.{lt-ltb, le-ltb, ltb-true, ltb-false}
 use Rattle.call.specs.declared.Refusal.{Refusal}
 use Rattle.call.specs.declared.Refusal.the-variants.{WorkSpace, VoiceLength, VoiceRange, LexiconLength, LexiconRange}
-use Rattle.call.specs.Table.{Answer, value, refused, Row, unless}
+use Rattle.call.specs.Table.{Answer, value, refused, Row, isRefusal, unless}
 use Rattle.call.specs.Limits.{mostWords, workSpace}
 use Rattle.call.specs.Buffers.{spaceRows}
-use Rattle.voice.specs.Fields.{wellFormed, wrongLength, outOfRange, hasWrongLength, isOutOfRange}
-use Rattle.voice.specs.Voice.{letterCount, voiceFields, voiceVerdict, voiceRows}
+use Rattle.voice.specs.Fields.{wellFormed, wrongLength, outOfRange}
+use Rattle.voice.specs.Voice.{letterCount, voiceFields, voiceVerdict, voiceRefusal, voiceRefused, voiceRows}
 use Rattle.voice.proofs.Fields.{well-formed-says}
-use Rattle.lexicon.specs.Lexicon.{sinkOf, arcsAt, lexiconVerdict}
+use Rattle.lexicon.specs.Lexicon.{sinkOf, arcsAt, lexiconVerdict, lexiconRefusal, lexiconRefused}
 use Rattle.graph.specs.Graph.{graphOf, sink, pathCount, wordCount}
 use Rattle.graph.specs.Conditions.{orphan, manyWords}
 use Rattle.graph.specs.Checking.{lexiconRows, imageRows, firstRows, checkAnswer}
@@ -46,31 +46,31 @@ module _ (v : List ℕ) {x lists counts : List ℕ} where
   -- ---- 2 and 3
 
   pub voice-length : voiceVerdict v ≡ wrongLength → Judged (imageRows v x) (refused VoiceLength) x lists counts
-  unfolding imageRows voiceRows unless hasWrongLength
+  unfolding imageRows voiceRows voiceRefused voiceRefusal isRefusal unless
   voice-length e = refusal (rw e)
 
   pub voice-range : voiceVerdict v ≡ outOfRange → Judged (imageRows v x) (refused VoiceRange) x lists counts
-  unfolding imageRows voiceRows unless hasWrongLength isOutOfRange
+  unfolding imageRows voiceRows voiceRefused voiceRefusal isRefusal unless
   voice-range e = refusal (rw e)
 
   pub voice-passed : {answer : Answer ℕ} → voiceVerdict v ≡ wellFormed → Judged (lexiconRows v x) answer x lists counts
       → Judged (imageRows v x) answer x lists counts
-  unfolding imageRows voiceRows unless hasWrongLength isOutOfRange
+  unfolding imageRows voiceRows voiceRefused voiceRefusal isRefusal unless
   voice-passed e j = passed (rw e) j
 
   -- ---- 4 and 5
 
   pub lexicon-length : lexiconVerdict (letterCount v) x ≡ wrongLength → Judged (lexiconRows v x) (refused LexiconLength) x lists counts
-  unfolding lexiconRows unless hasWrongLength
+  unfolding lexiconRows lexiconRefused lexiconRefusal isRefusal unless
   lexicon-length e = refusal (rw e)
 
   pub lexicon-range : lexiconVerdict (letterCount v) x ≡ outOfRange → Judged (lexiconRows v x) (refused LexiconRange) x lists counts
-  unfolding lexiconRows unless hasWrongLength isOutOfRange
+  unfolding lexiconRows lexiconRefused lexiconRefusal isRefusal unless
   lexicon-range e = refusal (rw e)
 
   pub lexicon-passed : {answer : Answer ℕ} → lexiconVerdict (letterCount v) x ≡ wellFormed → Judged (graphRows v x) answer x lists counts
       → Judged (lexiconRows v x) answer x lists counts
-  unfolding lexiconRows graphRows unless hasWrongLength isOutOfRange
+  unfolding lexiconRows lexiconRefused lexiconRefusal graphRows isRefusal unless
   lexicon-passed e j = passed (rw e) j
 
 -- a voice model has a first byte, L
