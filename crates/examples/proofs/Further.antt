@@ -104,4 +104,6 @@ program-examples = record {
   reports-cut = refl;
   counts-cut = refl;
   no-hits-printed = refl;
+  arcs-printed = refl;
+  arcs-refused = refl;
 }

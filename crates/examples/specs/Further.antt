@@ -21,6 +21,7 @@ use Rattle.codes.specs.Lookup.{wordToCodeAnswer, codeToWordAnswer, listAnswer, 
 use Rattle.ranking.specs.Hits.{Hit, hit}
 use Rattle.decoder.specs.Decoding.{hits, decodeAnswer, decodeOut}
 use Rattle.report.specs.Report.{countIn, report}
+use Rattle.report.specs.Arcs.{arcsText}
 use Rattle.examples.specs.SmallLexicon.{voice, P, it, work, minus, thirdRow}
 
 -- ---- small images
@@ -218,3 +219,12 @@ pub record ProgramExamples : Type 0 where
   -- no hits: one line
   pub no-hits-printed : report (length fiveStates ∷ 0 ∷ fiveStates ++ length fiveWords ∷ 0 ∷ fiveWords ++ 8 ∷ 0 ∷ [])
       ≡ 104 ∷ 105 ∷ 116 ∷ 115 ∷ 32 ∷ 48 ∷ 32 ∷ 119 ∷ 111 ∷ 114 ∷ 100 ∷ 115 ∷ 32 ∷ 53 ∷ 32 ∷ 98 ∷ 105 ∷ 116 ∷ 115 ∷ 32 ∷ 51 ∷ 10 ∷ []
+  -- the program arcs: a line for each vertex of P, and the refusals of a lexicon
+  pub arcs-printed : arcsText P
+      ≡ 48 ∷ 58 ∷ 32 ∷ 49 ∷ 32 ∷ 50 ∷ 10
+      ∷ 49 ∷ 32 ∷ 48 ∷ 58 ∷ 32 ∷ 51 ∷ 32 ∷ 52 ∷ 10
+      ∷ 50 ∷ 32 ∷ 49 ∷ 58 ∷ 32 ∷ 53 ∷ 32 ∷ 51 ∷ 32 ∷ 52 ∷ 10
+      ∷ 51 ∷ 32 ∷ 50 ∷ 58 ∷ 32 ∷ 53 ∷ 10
+      ∷ 52 ∷ 32 ∷ 51 ∷ 58 ∷ 32 ∷ 53 ∷ 10
+      ∷ []
+  pub arcs-refused : map arcsText ((0 ∷ []) ∷ (0 ∷ 0 ∷ []) ∷ []) ≡ refusedLine (52 ∷ []) ∷ refusedLine (53 ∷ []) ∷ []

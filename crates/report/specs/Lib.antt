@@ -3,3 +3,4 @@ pub mod Text
 pub mod Lines
 pub mod Page
 pub mod Theorems
+pub mod Arcs

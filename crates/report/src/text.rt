@@ -21,7 +21,7 @@ pub(crate) fn put_bytes(text: &[u8], out: &mut [u8], at: usize) -> usize
 }
 
 // Puts one byte.
-fn put_byte(byte: u8, out: &mut [u8], at: usize) -> usize
+pub(crate) fn put_byte(byte: u8, out: &mut [u8], at: usize) -> usize
     requires { ⌜ at + 1 ≤ length (now out) ⌝ }
     ensures { λ r. ⌜ TextPut (byte ∷ []) at (now (out .entry)) (now (out .exit)) r ⌝ }
 {
@@ -67,7 +67,7 @@ pub(crate) fn put_signed(z: i32, out: &mut [u8], at: usize) -> usize
 }
 
 // Puts a number with its label before it.
-fn put_labelled(label: &[u8], v: u32, out: &mut [u8], at: usize) -> usize
+pub(crate) fn put_labelled(label: &[u8], v: u32, out: &mut [u8], at: usize) -> usize
     requires { ⌜ at + length (now label) + 10 ≤ length (now out) ⌝ }
     ensures { λ r. ⌜ TextPut (now (label .entry) ++ decimal v) at (now (out .entry)) (now (out .exit)) r ⌝ }
 {
