@@ -101,7 +101,11 @@ module _ {g : Graph} (ok : Sound g) where
   height-below {u} h =
       ap greatest (map-cong _ _ (ways g (sink g) u) (λ p m. letters-cons g u p) ∙ sym (map-map (λ a. ownLetters g u + a) letters (ways g (sink g) u)))
       ∙ greatest-add (ownLetters g u) (map letters (ways g (sink g) u))
-      (omega (arith, length-map (ways g (sink g) u) letters, index-of [] (some-way ok {u = u} (omega arith) .1) .inside))
+      (omega (
+        arith,
+        length-map (ways g (sink g) u) letters,
+        index-of [] (some-way ok {u = u} (omega arith) .1) .inside,
+      ))
       ∙ ap (λ (n : ℕ). ownLetters g u + n) by-successor
     where
       by-successor : greatest (map letters (ways g (sink g) u)) ≡ greatest (map (height g) (g .successors u))

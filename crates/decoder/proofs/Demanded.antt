@@ -117,7 +117,9 @@ module _ (v x frames : List ℕ) (ok : Accepted v x) where
         full = λ ws d f k. omega (arith, length-take n r, enough ws d f);
         off = λ word w o. ⊎-elim inl (λ B. inr (behind-last wanted B)) (off-first w o);
         short = λ k word w o.
-            ⊎-elim (λ z. z) (λ B. absurd (omega (arith, length-take n r, index-of nothing (B .in-row) .inside, B .past))) (off-first w o);
+            ⊎-elim (λ z. z)
+            (λ B. absurd (omega (arith, length-take n r, index-of nothing (B .in-row) .inside, B .past)))
+            (off-first w o);
       }
         where
           true-at : (i : ℕ) → i < length (take n r) → TrueHit v x frames (hitAt (take n r) i)

@@ -46,7 +46,8 @@ move-range v word q r =
 
 part-range : (v word frames : List ℕ) (path : List Spot) {a : ℤ} → List·Memᴰ a (partsOf v word frames path) → mag a < 2 ^ 15
 unfolding partsOf
-part-range v word frames path {a} m = ⊎-elim emitted moved (append-cases (map (pathEmission v word frames path) (from 0 (length path))) m)
+part-range v word frames path {a} m =
+    ⊎-elim emitted moved (append-cases (map (pathEmission v word frames path) (from 0 (length path))) m)
   where
     emitted : List·Memᴰ a (map (pathEmission v word frames path) (from 0 (length path))) → mag a < 2 ^ 15
     emitted k =

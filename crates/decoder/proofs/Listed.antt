@@ -140,7 +140,8 @@ pub record AcceptedDecoding (v x frames out : List ℕ) (n k : ℕ) : Type 0 whe
   pub room : 8 * n ≤ length out
   pub counted : length (hits v (graphOf x) frames n) ≡ k
 
-pub answered : (v x frames work out : List ℕ) (n k : ℕ) → decodeAnswer v x frames n work out ≡ value k → AcceptedDecoding v x frames out n k
+pub answered : (v x frames work out : List ℕ) (n k : ℕ) → decodeAnswer v x frames n work out ≡ value k
+    → AcceptedDecoding v x frames out n k
 unfolding decodeAnswer decodeRows firstRows frameRows badFrameCount badCount
 answered v x frames work out n k e =
     let own = on Count (badCount n) ∷ on Output (ltb (length out) (8 * n)) ∷ [] in

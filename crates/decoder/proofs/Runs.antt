@@ -41,9 +41,11 @@ module _ (v frames : List ℕ) where
   -- over the frames 0 to t, through these letters and to this state of the latest, with this score
   pub data Run : ℕ → List ℕ → ℕ → ℤ → Type 0 where
     begin : {l : ℕ} {a : ℤ} → eqZ a impossible ≡ false → a ≡ runEmission 0 (l ∷ []) 0 → Run zero (l ∷ []) zero a
-    loop : {t s : ℕ} {ls : List ℕ} {a b : ℤ} → Run t ls s b → Adds (loopScore v (stateIn v ls s)) (runEmission (suc t) ls s) b a
+    loop : {t s : ℕ} {ls : List ℕ} {a b : ℤ} → Run t ls s b
+        → Adds (loopScore v (stateIn v ls s)) (runEmission (suc t) ls s) b a
         → Run (suc t) ls s a
-    step : {t s : ℕ} {ls : List ℕ} {a b : ℤ} → Run t ls s b → Adds (stepScore v (stateIn v ls s)) (runEmission (suc t) ls (suc s)) b a
+    step : {t s : ℕ} {ls : List ℕ} {a b : ℤ} → Run t ls s b
+        → Adds (stepScore v (stateIn v ls s)) (runEmission (suc t) ls (suc s)) b a
         → Run (suc t) ls (suc s) a
     link : {t l s : ℕ} {ls : List ℕ} {a b : ℤ} → Run t ls s b → s ≡ states v (latest ls) - 1
         → Adds (linkScore v (latest ls)) (runEmission (suc t) (l ∷ ls) 0) b a → Run (suc t) (l ∷ ls) zero a

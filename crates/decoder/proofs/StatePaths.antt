@@ -20,7 +20,8 @@ use Rattle.voice.proofs.Letters.{states-range}
 use Rattle.graph.proofs.Spelling.{Known}
 use Rattle.endian.specs.Integers.{eqZ}
 use Rattle.decoder.specs.StatePaths.{Spot, spot, letterAt, stateAt, lastSpot, spotAt, Inside, Follows, stays, steps, links, moveScore, StatePath, partsOf, scoreOf, permitted, Attains}
-use Rattle.decoder.proofs.Runs.{Run, begin, loop, step, link, Adds, latest, passed, latest-passed, first-passed, some-letter, emissionAt, WordRun}
+use Rattle.decoder.proofs.Runs.{Run, begin, loop, step, link, Adds, latest, passed, latest-passed, first-passed}
+use Rattle.decoder.proofs.Runs.{some-letter, emissionAt, WordRun}
 use Rattle.decoder.proofs.Sums.{sumFrom, sum-append, total, total-zero, total-last, total-same}
 
 -- each letter of a word has a state
@@ -119,7 +120,8 @@ module _ (v word frames : List ℕ) where
 
   -- ---- the spots of a run are such a path
 
-  run-ending : Stated v word → {t i s : ℕ} {ls : List ℕ} {a : ℤ} → Run v frames t ls s a → ls ≡ passed word i → Inside v word (spot i s)
+  run-ending : Stated v word → {t i s : ℕ} {ls : List ℕ} {a : ℤ} → Run v frames t ls s a → ls ≡ passed word i
+      → Inside v word (spot i s)
       → PathEnding t (spot i s) a
   unfolding stateAt totalTo
   run-ending st {i} (begin {l} {a} h e) q I =
@@ -148,12 +150,14 @@ module _ (v word frames : List ℕ) where
       let g : latest ls ≡ letterAt word i = ap latest z ∙ latest-passed word i in
       let e : s ≡ states v (letterAt word i) - 1 = h ∙ ap (λ l. states v l - 1) g in
       let b : i < length word = omega (arith, I .letter) in
-      extend (run-ending st r z (record { letter = b; state = omega (arith, st i b) })) (links e) I (rw (score-links i s) (rw (y, g) at d))
+      extend (run-ending st r z (record { letter = b; state = omega (arith, st i b) })) (links e) I
+      (rw (score-links i s) (rw (y, g) at d))
 
   -- ---- such a path is a run
 
   follow-run : {t : ℕ} {q r : Spot} {a b : ℤ} → Follows v word q r → Run v frames t (passed word (q .position)) (q .state) b
-      → Adds (moveScore v word q r) (emissionAt v word frames (suc t) r) b a → Run v frames (suc t) (passed word (r .position)) (r .state) a
+      → Adds (moveScore v word q r) (emissionAt v word frames (suc t) r) b a
+      → Run v frames (suc t) (passed word (r .position)) (r .state) a
   unfolding stateAt
   follow-run (stays {q}) r d = loop r (rw (score-stays q, ← latest-passed word (q .position)) at d)
   follow-run (steps {i} {s}) r d = step r (rw (score-steps i s, ← latest-passed word i) at d)
@@ -211,11 +215,15 @@ module _ (v word frames : List ℕ) where
       };
       moves = λ j k. record {
         follows = P .follows j (omega arith);
-        moved = possible (Memᴰ·append-right (map emitted (from 0 (suc t))) (Memᴰ·map moved (from-in 0 t j (omega arith) (omega arith))));
+        moved =
+            possible
+            (Memᴰ·append-right (map emitted (from 0 (suc t)))
+            (Memᴰ·map moved (from-in 0 t j (omega arith) (omega arith))));
       };
     }
       where
-        possible : {a : ℤ} → List·Memᴰ a (map emitted (from 0 (suc t)) ++ map moved (from 0 t)) → eqZ a impossible ≡ false
+        possible : {a : ℤ} → List·Memᴰ a (map emitted (from 0 (suc t)) ++ map moved (from 0 t))
+            → eqZ a impossible ≡ false
         possible {a} m = not-true (eqZ a impossible) (all-out (λ a. not (eqZ a impossible)) (rw literal-parts at c) m)
 
   -- over all frames, to the last letter
@@ -262,7 +270,8 @@ module _ (v word frames : List ℕ) where
 
 -- ---- the whole word, over all frames
 
-pub word-run-attained : (v word frames : List ℕ) {a : ℤ} → Stated v word → WordRun v word frames a → Attains v word frames a
+pub word-run-attained : (v word frames : List ℕ) {a : ℤ} → Stated v word → WordRun v word frames a
+    → Attains v word frames a
 unfolding lastSpot
 word-run-attained v [] frames st r = absurd r
 word-run-attained v (l ∷ letters) [] st r = absurd r

@@ -39,7 +39,9 @@ module _ {A : Type 0} where
 
   pub index-of : (d : A) {a : A} {l : List A} → List·Memᴰ a l → IndexOf l d a
   index-of d (List·Memᴰ·head e) = record { index = 0; inside = omega arith; holds = sym e }
-  index-of d (List·Memᴰ·tail m) = let u = index-of d m in let h = u .inside in record { index = suc (u .index); inside = omega arith; holds = u .holds }
+  index-of d (List·Memᴰ·tail m) =
+      let u = index-of d m in
+      let h = u .inside in record { index = suc (u .index); inside = omega arith; holds = u .holds }
 
   -- what stands before a member, and what behind it
   pub mem-split : {a : A} {l : List A} → List·Memᴰ a l → (x : List A) × (y : List A) × (l ≡ x ++ a ∷ y)

@@ -16,7 +16,8 @@ module _ {A : Type 0} where
     kept : (b : A) → List·Memᴰ b l → (b ≡ a) ⊎ List·Memᴰ b rest
 
   without : {a : A} {l : List A} → List·Memᴰ a l → Without a l
-  without (here {xs = l} e) = record { rest = l; shorter = refl; kept = λ b m. ⊎-elim (λ q. inl (q ∙ sym e)) inr (cases m) }
+  without (here {xs = l} e) =
+      record { rest = l; shorter = refl; kept = λ b m. ⊎-elim (λ q. inl (q ∙ sym e)) inr (cases m) }
   without (there {x} m) =
       let u = without m in
       record {

@@ -1,6 +1,7 @@
 -- The further examples hold: each is computed. Assumes nothing.
 use mathlib.Core.Path.{refl}
-use Rattle.examples.specs.Further.{FieldExamples, ConditionExamples, ScoreExamples, DecodingExamples, CodeExamples, ProgramExamples}
+use Rattle.examples.specs.Further.{FieldExamples, ConditionExamples, ScoreExamples, DecodingExamples}
+use Rattle.examples.specs.Further.{CodeExamples, ProgramExamples}
 use Rattle.examples.proofs.Open.{everything}
 
 pub field-examples : FieldExamples

@@ -13,5 +13,7 @@ use Rattle.examples.specs.SmallLexicon.{coded, listRead}
 use Rattle.examples.specs.Further.{chain, layers, checkVoice, checkLexicon, hitsOf}
 
 unfoldable pub everything : Unit {0}
-unfolding endian.everything call.everything voice.everything lexicon.everything graph.everything packing.everything codes.everything ranking.everything decoder.everything report.everything coded listRead chain layers checkVoice checkLexicon hitsOf
+unfolding endian.everything call.everything voice.everything lexicon.everything graph.everything packing.everything
+    codes.everything ranking.everything decoder.everything report.everything coded listRead chain layers checkVoice
+    checkLexicon hitsOf
 everything = tt

@@ -12,7 +12,8 @@ use lib.ListN.{length, getD, length-map, List·getD-map}
 use lib.Dec.{eqb}
 use borrow.Author.Tests.{eqb-true, eq-eqb, ne-eqb, lt-ltb, le-leb}
 use Rattle.endian.specs.Lists.{select, same}
-use Rattle.endian.proofs.Lists.{mem-getD, index-of, first-none, first-at, mem-flatMap, of-flatMap, repeats-places, places-repeat}
+use Rattle.endian.proofs.Lists.{mem-getD, index-of, first-none, first-at, mem-flatMap, of-flatMap, repeats-places}
+use Rattle.endian.proofs.Lists.{places-repeat}
 use Rattle.voice.specs.Voice.{printByte}
 use Rattle.graph.specs.Graph.{Graph, sink, ArcPath, arrived, along, FullPath, from-root, ways, fullPaths, wordCount, pathCode, isNode, pathLetters}
 use Rattle.graph.specs.Words.{spelled, wordOfPath, pathOfWord, pathOfCode, wordOf, wordOfCode}

@@ -21,12 +21,13 @@ unfolding lexiconRefused
 lexicon-told w L x e = sym (lexicon-by w) ∙ ap (verdictBy 4) e ∙ lexicon-by (lexiconVerdict L x)
 
 -- neither 4 nor 5
-pub lexicon-clear : (L : ℕ) (x : List ℕ) → isRefusal LexiconLength (lexiconRefused L x) ≡ false → isRefusal LexiconRange (lexiconRefused L x) ≡ false
-    → lexiconVerdict L x ≡ wellFormed
+pub lexicon-clear : (L : ℕ) (x : List ℕ) → isRefusal LexiconLength (lexiconRefused L x) ≡ false
+    → isRefusal LexiconRange (lexiconRefused L x) ≡ false → lexiconVerdict L x ≡ wellFormed
 unfolding lexiconRefused lexiconRefusal isRefusal
 lexicon-clear L x h k = go (lexiconVerdict L x) h k
   where
-    go : (w : Verdict) → isRefusal LexiconLength (lexiconRefusal w) ≡ false → isRefusal LexiconRange (lexiconRefusal w) ≡ false → w ≡ wellFormed
+    go : (w : Verdict) → isRefusal LexiconLength (lexiconRefusal w) ≡ false
+        → isRefusal LexiconRange (lexiconRefusal w) ≡ false → w ≡ wellFormed
     go wellFormed h k = refl
     go wrongLength h k = absurd (true≢false h)
     go outOfRange h k = absurd (true≢false k)

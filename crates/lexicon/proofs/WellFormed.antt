@@ -41,7 +41,8 @@ module _ (x : List ℕ) (u : ℕ) where
       )
 
   module _ {len : ℕ} where
-    arcs-from : (at : ℕ) (earlier l : List ℕ) → AllGood len (successorFields x u at earlier l) → {s : ℕ} → List·Memᴰ s l → GoodArc x u s
+    arcs-from : (at : ℕ) (earlier l : List ℕ) → AllGood len (successorFields x u at earlier l) → {s : ℕ}
+        → List·Memᴰ s l → GoodArc x u s
     unfolding successorFields
     arcs-from at earlier (y ∷ l) g (List·Memᴰ·head e) = rw e (allowed-says earlier y (g _ (List·Memᴰ·head refl) .inRange) .0)
     arcs-from at earlier (y ∷ l) g (List·Memᴰ·tail m) = arcs-from (at + 2) (y ∷ earlier) l (λ f i. g f (List·Memᴰ·tail i)) m
@@ -65,10 +66,13 @@ pub record GoodList (x : List ℕ) (u : ℕ) : Type 0 where
   -- no successor stands twice
   pub once : (l m : List ℕ) (s : ℕ) → successors x u ≡ l ++ s ∷ m → List·Memᴰ s l → ⊥
 
-good-lists-from : {len : ℕ} (x : List ℕ) (u total n v : ℕ) → AllGood len (arcFields x u total n) → u ≤ v → v < u + n → GoodList x v
+good-lists-from : {len : ℕ} (x : List ℕ) (u total n v : ℕ) → AllGood len (arcFields x u total n) → u ≤ v → v < u + n
+    → GoodList x v
 unfolding arcFields
 good-lists-from x u total zero v g h k = absurd (omega arith)
-good-lists-from {len} x u total (suc n) v g h k = go (eqb u v) refl (good-lists-from x (suc u) (total + arcCount x u) n v (λ f i. g f (List·Memᴰ·tail (Memᴰ·append-right mine i))))
+good-lists-from {len} x u total (suc n) v g h k =
+    go (eqb u v) refl
+    (good-lists-from x (suc u) (total + arcCount x u) n v (λ f i. g f (List·Memᴰ·tail (Memᴰ·append-right mine i))))
   where
     mine : List Field
     mine = successorFields x u (arcsAt x u + 2) [] (successors x u)
@@ -78,7 +82,10 @@ good-lists-from {len} x u total (suc n) v g h k = go (eqb u v) refl (good-lists-
 
     go : (b : Bool) → eqb u v ≡ b → (suc u ≤ v → v < suc u + n → GoodList x v) → GoodList x v
     go true e ih = rw (← eqb-true u v e) (record {
-      has-successor = bounds 1 (sinkOf x) (arcCount x u) (and-out (within 1 (sinkOf x) (arcCount x u)) (leb (total + arcCount x u) 4000) (g _ (List·Memᴰ·head refl) .inRange) .0) .0;
+      has-successor =
+          bounds 1 (sinkOf x) (arcCount x u)
+          (and-out (within 1 (sinkOf x) (arcCount x u)) (leb (total + arcCount x u) 4000)
+          (g _ (List·Memᴰ·head refl) .inRange) .0) .0;
       arc = arcs-from x u (arcsAt x u + 2) [] (successors x u) good;
       once = λ l m s q. once-from x u (arcsAt x u + 2) [] l m s (rw q at good) .1;
     })

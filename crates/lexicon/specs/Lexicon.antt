@@ -88,7 +88,8 @@ lexiconFields L x =
 unfoldable pub lexiconVerdict : ℕ → List ℕ → Verdict
 lexiconVerdict L x = verdict (length x) 0 (lexiconFields L x)
 
--- what each verdict on a lexicon returns: no number where it is well formed, 4 for a wrong length, 5 for a field out of its range
+-- what each verdict on a lexicon returns: no number where it is well formed, 4 for a wrong length, 5 for a field out of
+-- its range
 unfoldable pub lexiconRefusal : Verdict → Option Refusal
 lexiconRefusal wellFormed = none
 lexiconRefusal wrongLength = some LexiconLength

@@ -38,7 +38,8 @@ arcAt x at u n seen = unmarked seen (u + 1) (numberAt x at (u + 1) (highestOf u 
 
 -- they are good, and what follows them begins at stop
 abbrev pub FieldsGood : List ℕ → ℕ → List Field → ℕ → Type 0
-FieldsGood x at fields stop = (later : List Field) → verdict (length x) at (fields ++ later) ≡ verdict (length x) stop later
+FieldsGood x at fields stop =
+    (later : List Field) → verdict (length x) at (fields ++ later) ≡ verdict (length x) stop later
 
 -- one of them is bad and decides
 abbrev pub FieldsBad : List ℕ → ℕ → List Field → declared.Verdict → Type 0

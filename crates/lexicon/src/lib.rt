@@ -63,8 +63,8 @@ pub fn successors(lexicon: &[u8], vertex: usize) -> &[u8]
     &lexicon[start..end]
 }
 
-// The verdict on any bytes as a lexicon of words in so many letters, well formed, or 4, or 5: the first field that is missing or out of its
-// range decides, and bytes after the last come last.
+// The verdict on any bytes as a lexicon of words in so many letters, well formed, or 4, or 5: the first field that is
+// missing or out of its range decides, and bytes after the last come last.
 pub fn judge(lexicon: &[u8], letters: usize) -> Verdict
     ensures { λ r. ⌜ lexiconRefusal (verdictOf r) ≡ lexiconRefused letters (now (lexicon .entry)) ⌝ }
 {

@@ -13,7 +13,8 @@ use Rattle.voice.specs.Voice.{loopScore, stepScore, linkScore, emission}
 use Rattle.graph.specs.Graph.{Graph, sink, increment}
 use Rattle.ranking.specs.Hits.{Hit}
 use Rattle.decoder.specs.Score.{possible, plus}
-use Rattle.passing.specs.Tokens.{Store, carried, downFrom, stateOf, lastState, symbolScore, entryScore, finalScore, renewed, entering, enteringFrom, arrivals, ending, arrived}
+use Rattle.passing.specs.Tokens.{Store, carried, downFrom, stateOf, lastState, symbolScore, entryScore}
+use Rattle.passing.specs.Tokens.{finalScore, renewed, entering, enteringFrom, arrivals, ending, arrived}
 use Rattle.passing.proofs.Order.{_∈_}
 use Rattle.passing.proofs.Members.{down-in, down-out}
 use Rattle.passing.proofs.Moves.{Moved, moved-out, moved-in, carried-out, carried-in}

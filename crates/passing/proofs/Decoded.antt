@@ -93,7 +93,8 @@ module _ (v : List ℕ) {g : Graph} (ok : Sound g) (k : ℕ) (frames : List ℕ)
       let u = N .node in
       let letters = ap (pathLetters g) (N .path) ∙ nodes-letters ok (N .chain) (N .below) in
       let word-run = true-word-run v (pathLetters g (r .0)) (k ∷ frames) (H .is-score) in
-      let run = word-run-whole v k frames (g .letter u) (map (g .letter) (N .earlier)) (pathLetters g (r .0)) letters word-run in
+      let run =
+      word-run-whole v k frames (g .letter u) (map (g .letter) (N .earlier)) (pathLetters g (r .0)) letters word-run in
       final-in v g whole (record {
         node = u;
         above = chain-above ok (N .chain);
@@ -127,7 +128,8 @@ module _ (v : List ℕ) {g : Graph} (ok : Sound g) (k : ℕ) (frames : List ℕ)
       highest : UpTo (pathScore v g path (k ∷ frames)) (was .score)
       highest =
           word-run-bound v (pathLetters g path) (k ∷ frames)
-          (whole-word-run v k frames (g .letter u) (map (g .letter) us) (pathLetters g path) (nodes-letters ok chain below) run)
+          (whole-word-run v k frames (g .letter u) (map (g .letter) us) (pathLetters g path)
+          (nodes-letters ok chain below) run)
 
       top : Hit
       top = hit (highest .0) (pathCode g path)
@@ -148,7 +150,10 @@ module _ (v : List ℕ) {g : Graph} (ok : Sound g) (k : ℕ) (frames : List ℕ)
 -- without frames there is no hit
 no-frames : (v : List ℕ) (g : Graph) → row v g [] ≡ []
 unfolding pathScore
-no-frames v g = no-members (row v g []) (λ h i. let H = row-out v g [] i .1 in no-word-run (pathLetters g _) (h .score) (true-word-run v _ [] (H .is-score)))
+no-frames v g =
+    no-members (row v g [])
+    (λ h i. let H = row-out v g [] i .1 in no-word-run (pathLetters g _) (h .score)
+    (true-word-run v _ [] (H .is-score)))
   where
     no-members : (l : List Hit) → ((h : Hit) → ¬ (h ∈ l)) → l ≡ []
     no-members [] f = refl

@@ -71,7 +71,13 @@ moved-out m e d l i =
     record {
       was = C .was;
       listed = C .listed;
-      adds = record { moved = a .0; emitted = b .0; total = C .score ∙ ap (λ k. C .was .score +ℤ k) (p .4 ∙ ap₂ (λ x y. x +ℤ y) (a .1) (b .1)) };
+      adds =
+          record {
+            moved = a .0;
+            emitted = b .0;
+            total = C .score ∙ ap (λ k. C .was .score +ℤ k)
+                (p .4 ∙ ap₂ (λ x y. x +ℤ y) (a .1) (b .1));
+          };
       code = C .code;
     }
 

@@ -1,5 +1,6 @@
--- The lines of the program arcs: numbers put one after another, the part of the image as a vertex's successors, and line after line. How many
--- bytes they take goes by where the lists stand in the image: 12 for each successor, which takes two bytes there. Assumes nothing.
+-- The lines of the program arcs: numbers put one after another, the part of the image as a vertex's successors, and
+-- line after line. How many bytes they take goes by where the lists stand in the image: 12 for each successor, which
+-- takes two bytes there. Assumes nothing.
 use Prim.Native.Nat.{ℕ, zero, suc, _+_, _*_, _/_, _^_, _≤_, _<_}
 use mathlib.Core.Path.{_≡_, refl, ap, _∙_}
 use mathlib.Core.List.{List, [], _∷_, _++_, flatMap, append-nil}
@@ -15,7 +16,8 @@ use Rattle.endian.proofs.Lists.{flatMap-append, from-add}
 use Rattle.call.specs.declared.Refusal.{Refusal}
 use Rattle.call.specs.Table.{number}
 use Rattle.voice.specs.Fields.{wellFormed}
-use Rattle.lexicon.specs.Lexicon.{nodeCount, sinkOf, nodeLetter, arcsAt, arcCount, successors, successorPart, lexiconVerdict, lexiconRefused}
+use Rattle.lexicon.specs.Lexicon.{nodeCount, sinkOf, nodeLetter, arcsAt, arcCount, successors, successorPart}
+use Rattle.lexicon.specs.Lexicon.{lexiconVerdict, lexiconRefused}
 use Rattle.lexicon.proofs.Readers.{part-successors}
 use Rattle.lexicon.proofs.Shape.{shape, arcs-next, arcs-below}
 use Rattle.report.specs.Arcs.{spaced, letterText, vertexLine, arcsPrinted, arcsText}
@@ -31,7 +33,8 @@ unfolding u16s
 numbers-more b at zero = let e : at + 2 * 0 ≡ at = omega arith in rw e
 numbers-more b at (suc n) =
     let e : at + 2 + 2 * n ≡ at + 2 * suc n = omega arith in
-    ap (λ (l : List ℕ). u16 b at ∷ l) (numbers-more b (at + 2) n ∙ ap (λ (j : ℕ). u16s b (at + 2) n ++ (u16 b j ∷ [])) e)
+    ap (λ (l : List ℕ). u16 b at ∷ l)
+    (numbers-more b (at + 2) n ∙ ap (λ (j : ℕ). u16s b (at + 2) n ++ (u16 b j ∷ [])) e)
 
 spaced-more : (b : List ℕ) (i : ℕ) → spaced (u16s b 0 (i + 1)) ≡ spaced (u16s b 0 i) ++ (32 ∷ decimal (u16 b (2 * i)))
 unfolding spaced flatMap
@@ -53,8 +56,9 @@ module _ {part out₀ : List ℕ} {at : ℕ} where
   unfolding u16s spaced flatMap
   numbers-start = record { inside = omega arith; out-long = refl; few-bytes = omega arith; text = put-none at out₀ }
 
-  pub numbers-next : {out out′ : List ℕ} {end end′ i n : ℕ} → at ≤ length out₀ → NumbersPut part out₀ at out end i → i < length part / 2
-      → n ≡ u16 part (2 * i) → n < 2 ^ 32 → length out′ ≡ length out → TextPut ((32 ∷ []) ++ decimal n) end out out′ end′
+  pub numbers-next : {out out′ : List ℕ} {end end′ i n : ℕ} → at ≤ length out₀ → NumbersPut part out₀ at out end i
+      → i < length part / 2 → n ≡ u16 part (2 * i) → n < 2 ^ 32 → length out′ ≡ length out
+      → TextPut ((32 ∷ []) ++ decimal n) end out out′ end′
       → NumbersPut part out₀ at out′ end′ (i + 1)
   numbers-next {out} {out′} {end} {end′} {i} {n} room p h e f o q =
       let one : TextPut (32 ∷ decimal (u16 part (2 * i))) end out out′ end′ = rw e at q in
@@ -97,7 +101,8 @@ module _ (x : List ℕ) (w : lexiconVerdict 256 x ≡ wellFormed) {u : ℕ} (h :
   unfolding successorPart
   part-size =
       let k = list-there in
-      rw (le-leb u (nodeCount x) h, le-leb (arcsAt x (suc u)) (length x) k) (simp (length-take, length-drop) (omega (arith, arcs-next x u)))
+      rw (le-leb u (nodeCount x) h, le-leb (arcsAt x (suc u)) (length x) k)
+      (simp (length-take, length-drop) (omega (arith, arcs-next x u)))
 
   pub part-numbers : u16s (successorPart x u) 0 (length (successorPart x u) / 2) ≡ successors x u
   part-numbers =
@@ -118,13 +123,17 @@ module _ {x out₀ : List ℕ} where
   unfolding from flatMap
   vertices-start = record { inside = omega arith; out-long = refl; few-bytes = omega arith; text = put-none 0 out₀ }
 
-  module _ (w : lexiconVerdict 256 x ≡ wellFormed) {out : List ℕ} {end u : ℕ} (p : VerticesPut x out₀ out end u) (h : u ≤ nodeCount x) where
+  module _ (w : lexiconVerdict 256 x ≡ wellFormed) {out : List ℕ} {end u : ℕ} (p : VerticesPut x out₀ out end u)
+      (h : u ≤ nodeCount x) where
     -- the next line has room
     pub line-room : 60000 ≤ length out₀ → end + 23 + 12 * arcCount x u ≤ length out
     unfolding sinkOf
-    line-room r = omega (arith, p .few-bytes, p .out-long, arcs-next x u, shape 256 x w .few, shape 256 x w .small {u = suc u} (omega arith))
+    line-room r =
+        let s = shape 256 x w in
+        omega (arith, p .few-bytes, p .out-long, arcs-next x u, s .few, s .small {u = suc u} (omega arith))
 
-    pub vertices-next : {out′ : List ℕ} {end′ : ℕ} → length out′ ≡ length out → TextPut (vertexLine x u) end out out′ end′
+    pub vertices-next : {out′ : List ℕ} {end′ : ℕ} → length out′ ≡ length out
+        → TextPut (vertexLine x u) end out out′ end′
         → end′ ≤ end + 23 + 12 * arcCount x u → VerticesPut x out₀ out′ end′ (u + 1)
     unfolding sinkOf flatMap from
     vertices-next o q k = record {

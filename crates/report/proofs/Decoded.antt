@@ -67,7 +67,13 @@ module _ (v x frames : List ℕ) (n : ℕ) where
     frames-few = answered v x frames work out n k e .short
 
     pub accepted-arguments : {work′ : List ℕ} → workSpace ≤ length work′ → AcceptedArguments v x (length frames) work′
-    accepted-arguments h = record { images = answered v x frames work out n k e .images; some-frames = frames-some; few-frames = frames-few; space = h }
+    accepted-arguments h =
+        record {
+          images = answered v x frames work out n k e .images;
+          some-frames = frames-some;
+          few-frames = frames-few;
+          space = h;
+        }
 
     module _ {list : List ℕ} (f : list ≡ decodeOut v x frames n work out) where
       pub hits-are : hitsRead list k ≡ hits v (graphOf x) frames n

@@ -113,7 +113,8 @@ pub record Lined (v x : List ℕ) (T : ℕ) (list : List ℕ) (k : ℕ) (work₀
   pub lines : TextPut (flatMap (hitLine v (graphOf x) T) (hitsRead list i)) at out₀ out end
 
 -- each of them names a word
-pub hit-named : {x list : List ℕ} {k : ℕ} → HoldsHits x list k → (i : ℕ) → i < k → u32 list (8 * i + 4) < wordCount (graphOf x)
+pub hit-named : {x list : List ℕ} {k : ℕ} → HoldsHits x list k → (i : ℕ) → i < k
+    → u32 list (8 * i + 4) < wordCount (graphOf x)
 unfolding hitsRead
 hit-named {list = list} {k} l i h =
     let e : 0 + 8 * i ≡ 8 * i = omega arith in
@@ -124,14 +125,15 @@ module _ {v x : List ℕ} {T : ℕ} {list : List ℕ} {k : ℕ} {work₀ out₀ 
   unfolding hitsRead hitsAt flatMap
   lines-start = record { inside = omega arith; work-long = refl; out-long = refl; few-bytes = omega arith; lines = put-none at out₀ }
 
-  module _ {work out : List ℕ} {end i : ℕ} (r : AcceptedArguments v x T work₀) (l : HoldsHits x list k) (room : at ≤ length out₀)
-      (p : Lined v x T list k work₀ out₀ at work out end i) where
+  module _ {work out : List ℕ} {end i : ℕ} (r : AcceptedArguments v x T work₀) (l : HoldsHits x list k)
+      (room : at ≤ length out₀) (p : Lined v x T list k work₀ out₀ at work out end i) where
     pub still-accepted : AcceptedArguments v x T work
     still-accepted =
         record { images = r .images; some-frames = r .some-frames; few-frames = r .few-frames; space = omega (arith, r .space, p .work-long) }
 
     pub lines-next : {work′ out′ : List ℕ} {end′ : ℕ} {score : ℤ} {code : ℕ} → i < k → score ≡ i32 list (8 * i) → code ≡ u32 list (8 * i + 4)
-        → length work′ ≡ length work → length out′ ≡ length out → TextPut (hitLine v (graphOf x) T (hit score code)) end out out′ end′
+        → length work′ ≡ length work → length out′ ≡ length out
+        → TextPut (hitLine v (graphOf x) T (hit score code)) end out out′ end′
         → Lined v x T list k work₀ out₀ at work′ out′ end′ (i + 1)
     lines-next {out′ = out′} {end′} h s c w o q =
         let one : TextPut (hitLine v (graphOf x) T (oneAt list (8 * i))) end out out′ end′ = rw (s, c) at q in

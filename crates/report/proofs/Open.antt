@@ -6,5 +6,6 @@ use Rattle.report.specs.Report.{imageIn, afterImage, voiceIn, lexiconIn,
 use Rattle.report.specs.Arcs.{spaced, letterText, vertexLine, arcsPrinted, arcsText}
 
 unfoldable pub everything : Unit {0}
-unfolding imageIn afterImage voiceIn lexiconIn countIn framesIn digitsOf decimal signedDecimal firstLine hitLine reported report lentAnswer blankPage spaced letterText vertexLine arcsPrinted arcsText
+unfolding imageIn afterImage voiceIn lexiconIn countIn framesIn digitsOf decimal signedDecimal firstLine hitLine
+    reported report lentAnswer blankPage spaced letterText vertexLine arcsPrinted arcsText
 everything = tt

@@ -25,7 +25,8 @@ drop-replicate zero m a = let e : m - 0 ≡ m = omega arith in rw e
 drop-replicate (suc n) zero a = let e : 0 - suc n ≡ 0 = omega arith in rw e
 drop-replicate (suc n) (suc m) a = let e : suc m - suc n ≡ m - n = omega arith in rw e (drop-replicate n m a)
 
-pub put-shows : (size : ℕ) {text bytes : List ℕ} {end : ℕ} → TextPut text 0 (blankPage size) bytes end → Shows size text bytes end
+pub put-shows : (size : ℕ) {text bytes : List ℕ} {end : ℕ} → TextPut text 0 (blankPage size) bytes end
+    → Shows size text bytes end
 unfolding blankPage
 put-shows size {text} p = record {
   ends = omega (arith, p .ends);
@@ -34,13 +35,15 @@ put-shows size {text} p = record {
 
 -- what is printed lies in the page
 pub shown-within : {size : ℕ} {text bytes : List ℕ} {end : ℕ} → Shows size text bytes end → end ≤ length bytes
-shown-within {size} {text} s = omega (arith, s .ends, ap length (s .shows), length-append text (replicate {A = ℕ} (size - length text) 0))
+shown-within {size} {text} s =
+    omega (arith, s .ends, ap length (s .shows), length-append text (replicate {A = ℕ} (size - length text) 0))
 
 -- the code's cuts, its answer, and its page
 pub report-shown : (input : List ℕ) {v after x rest frames : List ℕ} {n : ℕ} {blank bytes : List ℕ} {end : ℕ}
     → v ≡ imageIn input → after ≡ afterImage input → x ≡ imageIn after → rest ≡ afterImage after → n ≡ u8 rest 0 → frames ≡ drop 1 rest
     → blank ≡ blankPage 640
-    → TextPut (reported v (graphOf x) frames n (lentAnswer v x frames n)) 0 blank bytes end → Shows 640 (report input) bytes end
+    → TextPut (reported v (graphOf x) frames n (lentAnswer v x frames n)) 0 blank bytes end
+    → Shows 640 (report input) bytes end
 unfolding voiceIn lexiconIn countIn framesIn
 report-shown input {rest = rest} {n} a b c d e f g p =
     let whole : rest ≡ afterImage (afterImage input) = d ∙ ap afterImage b in

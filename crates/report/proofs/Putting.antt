@@ -16,7 +16,8 @@ pub put-one : (x at : ℕ) (o : List ℕ) → at + 1 ≤ length o → TextPut (x
 put-one x at o h = record { ends = refl; puts = sets-eq (x ∷ []) o at h }
 
 -- a text that is copied whole
-pub put-copied : (text : List ℕ) (at i : ℕ) (o o′ : List ℕ) → i ≡ length text → o′ ≡ paste o at text i → TextPut text at o o′ (at + i)
+pub put-copied : (text : List ℕ) (at i : ℕ) (o o′ : List ℕ) → i ≡ length text → o′ ≡ paste o at text i
+    → TextPut text at o o′ (at + i)
 put-copied text at i o o′ e p = record {
   ends = ap (λ (k : ℕ). at + k) e;
   puts = p ∙ ap (λ (k : ℕ). paste o at text k) e ∙ ap (λ (t : List ℕ). take at o ++ t ++ drop (at + length text) o) (take-length text);
@@ -42,6 +43,7 @@ module _ {a b : List ℕ} {at m e : ℕ} {o o₁ o₂ : List ℕ} where
       }
 
 -- two texts behind a text
-pub put-pair : (b d : List ℕ) {a : List ℕ} {at m e : ℕ} {o o₁ o₂ : List ℕ} → at ≤ length o → TextPut a at o o₁ m → TextPut (b ++ d) m o₁ o₂ e
+pub put-pair : (b d : List ℕ) {a : List ℕ} {at m e : ℕ} {o o₁ o₂ : List ℕ} → at ≤ length o → TextPut a at o o₁ m
+    → TextPut (b ++ d) m o₁ o₂ e
     → TextPut (a ++ b ++ d) at o o₂ e
 put-pair b d {a} h p q = rw (append-assoc a b d) (put-more h p q)

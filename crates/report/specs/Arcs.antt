@@ -1,5 +1,5 @@
--- The program arcs: the bytes that it prints for a lexicon image. A line for each vertex below the sink: its number, for a node its letter
--- index, a colon, and its successors in stored order. Assumes nothing.
+-- The program arcs: the bytes that it prints for a lexicon image. A line for each vertex below the sink: its number,
+-- for a node its letter index, a colon, and its successors in stored order. Assumes nothing.
 use Prim.Native.Nat.{ℕ, zero, suc}
 use mathlib.Core.List.{List, [], _∷_, _++_, flatMap}
 use mathlib.Core.Option.{Option, none, some}

@@ -61,7 +61,13 @@ fn put_list(
     requires { ⌜ AcceptedArguments (now voice) (now lexicon) frames (now work) ⌝ }
     requires { ⌜ HoldsHits (now lexicon) (now list) k ⌝ }
     requires { ⌜ 593 ≤ length (now out) ⌝ }
-    ensures { λ r. ⌜ TextPut (firstLine k (wordCount (graphOf (now (lexicon .entry)))) ++ flatMap (hitLine (now (voice .entry)) (graphOf (now (lexicon .entry))) frames) (hitsRead (now (list .entry)) k)) 0 (now (out .entry)) (now (out .exit)) r ⌝ }
+    ensures { λ r. ⌜
+        TextPut
+        (firstLine k (wordCount (graphOf (now (lexicon .entry))))
+        ++ flatMap (hitLine (now (voice .entry)) (graphOf (now (lexicon .entry))) frames)
+        (hitsRead (now (list .entry)) k)) 0
+        (now (out .entry)) (now (out .exit)) r
+        ⌝ }
 {
     let checked = check(voice, lexicon, work);
     let Answer::Value(words) = checked else {
@@ -78,7 +84,12 @@ fn put_list(
 // Decodes, with room for 8 hits, and puts what is printed for the answer.
 fn put_report(voice: &[u8], lexicon: &[u8], frames: &[u8], n: u32, out: &mut [u8]) -> usize
     requires { ⌜ 593 ≤ length (now out) ⌝ }
-    ensures { λ r. ⌜ TextPut (reported (now (voice .entry)) (graphOf (now (lexicon .entry))) (now (frames .entry)) n (lentAnswer (now (voice .entry)) (now (lexicon .entry)) (now (frames .entry)) n)) 0 (now (out .entry)) (now (out .exit)) r ⌝ }
+    ensures { λ r. ⌜
+        TextPut
+        (reported (now (voice .entry)) (graphOf (now (lexicon .entry))) (now (frames .entry)) n
+        (lentAnswer (now (voice .entry)) (now (lexicon .entry)) (now (frames .entry)) n)) 0
+        (now (out .entry)) (now (out .exit)) r
+        ⌝ }
 {
     let mut work = work_space();
     let mut list = [0u8; 64];

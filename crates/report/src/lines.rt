@@ -46,7 +46,10 @@ fn put_hit(
     requires { ⌜ AcceptedArguments (now voice) (now lexicon) frames (now work) ⌝ }
     requires { ⌜ code < wordCount (graphOf (now lexicon)) ⌝ }
     requires { ⌜ at + 68 ≤ length (now out) ⌝ }
-    ensures { λ r. ⌜ TextPut (hitLine (now (voice .entry)) (graphOf (now (lexicon .entry))) frames (hit score code)) at (now (out .entry)) (now (out .exit)) r ⌝ }
+    ensures { λ r. ⌜
+        TextPut (hitLine (now (voice .entry)) (graphOf (now (lexicon .entry))) frames (hit score code)) at
+        (now (out .entry)) (now (out .exit)) r
+        ⌝ }
 {
     let mut word = [0u8; 32];
     let spelled = code_to_word(voice, lexicon, code, work, &mut word);
@@ -75,7 +78,12 @@ pub(crate) fn put_lines(
     requires { ⌜ AcceptedArguments (now voice) (now lexicon) frames (now work) ⌝ }
     requires { ⌜ HoldsHits (now lexicon) (now list) k ⌝ }
     requires { ⌜ at + 68 * k ≤ length (now out) ⌝ }
-    ensures { λ r. ⌜ TextPut (flatMap (hitLine (now (voice .entry)) (graphOf (now (lexicon .entry))) frames) (hitsRead (now (list .entry)) k)) at (now (out .entry)) (now (out .exit)) r ⌝ }
+    ensures { λ r. ⌜
+        TextPut
+        (flatMap (hitLine (now (voice .entry)) (graphOf (now (lexicon .entry))) frames)
+        (hitsRead (now (list .entry)) k)) at
+        (now (out .entry)) (now (out .exit)) r
+        ⌝ }
 {
     let mut end = at;
     let mut i = 0;

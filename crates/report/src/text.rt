@@ -115,7 +115,11 @@ pub(crate) fn put_hit_line(
     at: usize,
 ) -> usize
     requires { ⌜ at + 36 + length (now word) ≤ length (now out) ⌝ }
-    ensures { λ r. ⌜ TextPut (decimal code ++ 32 ∷ signedDecimal score ++ 32 ∷ signedDecimal mean ++ 32 ∷ now (word .entry) ++ (10 ∷ [])) at (now (out .entry)) (now (out .exit)) r ⌝ }
+    ensures { λ r. ⌜
+        TextPut
+        (decimal code ++ 32 ∷ signedDecimal score ++ 32 ∷ signedDecimal mean ++ 32 ∷ now (word .entry) ++ (10 ∷ [])) at
+        (now (out .entry)) (now (out .exit)) r
+        ⌝ }
 {
     let mut end = put_decimal(code, out, at);
     end = put_spaced(score, out, end);

@@ -22,7 +22,10 @@ use voice::Verdict;
 // The numbers that a part of the image holds, each behind a space.
 fn put_numbers(part: &[u8], out: &mut [u8], at: usize) -> usize
     requires { ⌜ at + 6 * length (now part) ≤ length (now out) ⌝ }
-    ensures { λ r. ⌜ TextPut (spaced (u16s (now (part .entry)) 0 (length (now (part .entry)) / 2))) at (now (out .entry)) (now (out .exit)) r ⌝ }
+    ensures { λ r. ⌜
+        TextPut (spaced (u16s (now (part .entry)) 0 (length (now (part .entry)) / 2))) at
+        (now (out .entry)) (now (out .exit)) r
+        ⌝ }
     ensures { λ r. ⌜ r ≤ at + 6 * length (now (part .entry)) ⌝ }
 {
     let count = part.len() / 2;
@@ -67,7 +70,10 @@ fn put_vertex(lexicon: &[u8], vertex: usize, out: &mut [u8], at: usize) -> usize
 fn put_vertices(lexicon: &[u8], out: &mut [u8]) -> usize
     requires { ⌜ lexiconVerdict 256 (now lexicon) ≡ wellFormed ⌝ }
     requires { ⌜ 60000 ≤ length (now out) ⌝ }
-    ensures { λ r. ⌜ TextPut (flatMap (vertexLine (now (lexicon .entry))) (from 0 (sinkOf (now (lexicon .entry))))) 0 (now (out .entry)) (now (out .exit)) r ⌝ }
+    ensures { λ r. ⌜
+        TextPut (flatMap (vertexLine (now (lexicon .entry))) (from 0 (sinkOf (now (lexicon .entry))))) 0
+        (now (out .entry)) (now (out .exit)) r
+        ⌝ }
 {
     let nodes = u16_at(lexicon, 0) as usize;
     let mut end = 0;

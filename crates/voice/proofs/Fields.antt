@@ -47,8 +47,10 @@ tiles-end a b (f ∷ l) t = tiles-end (end f) b l (t .1)
 pub data VerdictCase (len done : ℕ) (fields : List Field) : Verdict → Type 0 where
   filled : AllGood len fields → endOf done fields ≡ len → VerdictCase len done fields wellFormed
   longer : AllGood len fields → (endOf done fields ≡ len → ⊥) → VerdictCase len done fields wrongLength
-  short : (l : List Field) (f : Field) (m : List Field) → fields ≡ l ++ f ∷ m → AllGood len l → len < end f → VerdictCase len done fields wrongLength
-  out : (l : List Field) (f : Field) (m : List Field) → fields ≡ l ++ f ∷ m → AllGood len l → end f ≤ len → f .inRange ≡ false → VerdictCase len done fields outOfRange
+  short : (l : List Field) (f : Field) (m : List Field) → fields ≡ l ++ f ∷ m → AllGood len l → len < end f
+      → VerdictCase len done fields wrongLength
+  out : (l : List Field) (f : Field) (m : List Field) → fields ≡ l ++ f ∷ m → AllGood len l → end f ≤ len
+      → f .inRange ≡ false → VerdictCase len done fields outOfRange
 
 module _ {len : ℕ} where
   none-good : AllGood len []
@@ -58,7 +60,8 @@ module _ {len : ℕ} where
   more-good u g k (List·Memᴰ·head q) = rw q u
   more-good u g k (List·Memᴰ·tail m) = g k m
 
-  passed : {done : ℕ} {f : Field} {fields : List Field} {w : Verdict} → Good len f → VerdictCase len (end f) fields w → VerdictCase len done (f ∷ fields) w
+  passed : {done : ℕ} {f : Field} {fields : List Field} {w : Verdict} → Good len f → VerdictCase len (end f) fields w
+      → VerdictCase len done (f ∷ fields) w
   passed u (filled g e) = filled (more-good u g) e
   passed u (longer g n) = longer (more-good u g) n
   passed {f = k} u (short l f m e g h) = short (k ∷ l) f m (rw e) (more-good u g) h
@@ -82,7 +85,8 @@ module _ {len : ℕ} where
   pub well-formed-says : (done : ℕ) (fields : List Field) → verdict len done fields ≡ wellFormed → AllGood len fields × (endOf done fields ≡ len)
   well-formed-says done fields h = go (verdict-case done fields) h
     where
-      go : {w : Verdict} → VerdictCase len done fields w → w ≡ wellFormed → AllGood len fields × (endOf done fields ≡ len)
+      go : {w : Verdict} → VerdictCase len done fields w → w ≡ wellFormed
+          → AllGood len fields × (endOf done fields ≡ len)
       go (filled g e) q = (g, e)
       go (longer g n) q = let z : _≡_ {A = ℕ} 0 1 = cc in absurd (omega arith)
       go (short l f m e g k) q = let z : _≡_ {A = ℕ} 0 1 = cc in absurd (omega arith)

@@ -28,12 +28,13 @@ unfolding voiceRefused
 voice-told w v e = sym (voice-by w) ∙ ap (verdictBy 2) e ∙ voice-by (voiceVerdict v)
 
 -- neither 2 nor 3
-pub voice-clear : (v : List ℕ) → isRefusal VoiceLength (voiceRefused v) ≡ false → isRefusal VoiceRange (voiceRefused v) ≡ false
-    → voiceVerdict v ≡ wellFormed
+pub voice-clear : (v : List ℕ) → isRefusal VoiceLength (voiceRefused v) ≡ false
+    → isRefusal VoiceRange (voiceRefused v) ≡ false → voiceVerdict v ≡ wellFormed
 unfolding voiceRefused voiceRefusal isRefusal
 voice-clear v h k = go (voiceVerdict v) h k
   where
-    go : (w : Verdict) → isRefusal VoiceLength (voiceRefusal w) ≡ false → isRefusal VoiceRange (voiceRefusal w) ≡ false → w ≡ wellFormed
+    go : (w : Verdict) → isRefusal VoiceLength (voiceRefusal w) ≡ false
+        → isRefusal VoiceRange (voiceRefusal w) ≡ false → w ≡ wellFormed
     go wellFormed h k = refl
     go wrongLength h k = absurd (true≢false h)
     go outOfRange h k = absurd (true≢false k)

@@ -112,7 +112,8 @@ voiceFields v =
 unfoldable pub voiceVerdict : List ℕ → Verdict
 voiceVerdict v = verdict (length v) 0 (voiceFields v)
 
--- what each verdict on a voice model returns: no number where it is well formed, 2 for a wrong length, 3 for a field out of its range
+-- what each verdict on a voice model returns: no number where it is well formed, 2 for a wrong length, 3 for a field
+-- out of its range
 unfoldable pub voiceRefusal : Verdict → Option Refusal
 voiceRefusal wellFormed = none
 voiceRefusal wrongLength = some VoiceLength

@@ -57,7 +57,8 @@ module _ (v x : List ℕ) (h : Accepted v x) where
       omega (arith, listing-size ok v (omega arith), arcs-most ok (omega arith) 0)
 
 pub check-fits : (v x work : List ℕ) → FitsInt (checkAnswer v x work)
-check-fits v x work = record { below = λ n e. let p = passed v x work e in omega (arith, p .count, words-limit (accepted (p .images))) }
+check-fits v x work =
+    record { below = λ n e. let p = passed v x work e in omega (arith, p .count, words-limit (accepted (p .images))) }
 
 pub word-to-code-fits : (v x word work : List ℕ) → FitsInt (wordToCodeAnswer v x word work)
 unfolding wordToCodeAnswer wordToCodeRows
@@ -109,4 +110,5 @@ pack-fits W codes out = record {
 }
 
 pub unpack-fits : (W n : ℕ) (bytes out : List ℕ) → FitsInt (unpackAnswer W n bytes out)
-unpack-fits W n bytes out = record { below = λ k e. let u = unpacks W n bytes out k e in omega (arith, u .all, u .count .1) }
+unpack-fits W n bytes out =
+    record { below = λ k e. let u = unpacks W n bytes out k e in omega (arith, u .all, u .count .1) }

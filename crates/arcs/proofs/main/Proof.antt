@@ -1,4 +1,5 @@
--- `arcs::main` is safe: what is printed lies in the page. Rests on what the C library's `read` and `write` are assumed to do.
+-- `arcs::main` is safe: what is printed lies in the page. Rests on what the C library's `read` and `write` are assumed
+-- to do.
 use mathlib.Core.Path.{sym}
 use borrow.Author.Needs.{needs}
 use lib.Seq.{length-take-le}
@@ -11,7 +12,8 @@ array-share-prefix-text c = let h = shown-within (c .before .arcs-page .ensures)
 
 slice-aggregate-write-all : tie.Need-slice-aggregate-write-all
 slice-aggregate-write-all c =
-    let r = c .before .before .arcs-page in sym (length-take-le (r .result .length) (r .result .text) (shown-within (r .ensures)))
+    let r = c .before .before .arcs-page in
+    sym (length-take-le (r .result .length) (r .result .text) (shown-within (r .ensures)))
 
 pub main-spec : {M : Type 1} → statement M
 main-spec =

@@ -9,7 +9,8 @@ use Rattle.checking.proofs.judge_images.Statement.{statement}
 use Rattle.checking.proofs.judge_images.Tie as tie
 
 -- the verdict, from the number that it returns
-told : (c : tie.After-judge) → verdictOf (c .judge .result) ≡ voiceVerdict (c .before .before .before .before .args .voice .now)
+told : (c : tie.After-judge)
+    → verdictOf (c .judge .result) ≡ voiceVerdict (c .before .before .before .before .args .voice .now)
 told c = voice-told (verdictOf (c .judge .result)) _ (c .judge .ensures)
 
 good : (c : tie.After-enum-told3) → voiceVerdict (c .before .before .before .before .before .before .args .voice .now) ≡ wellFormed

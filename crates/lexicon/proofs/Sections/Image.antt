@@ -56,7 +56,8 @@ module _ (L : ℕ) (x : List ℕ) where
     unfolding lexiconVerdict
     after-nodes = rw sections (g .passes _ ∙ rw (g .number))
 
-    pub arcs-decide : (v : declared.Verdict) → FieldsBad x (2 + nodeCount x) (arcFields x 0 0 (sinkOf x)) v → verdictOf v ≡ lexiconVerdict L x
+    pub arcs-decide : (v : declared.Verdict) → FieldsBad x (2 + nodeCount x) (arcFields x 0 0 (sinkOf x)) v
+        → verdictOf v ≡ lexiconVerdict L x
     arcs-decide v f = sym (after-nodes ∙ f _)
 
     pub reserve-decides : (at : ℕ) → ArcsGood x at → lexiconVerdict L x ≡ verdict (length x) at (reserveFields x at)

@@ -20,7 +20,8 @@ use Rattle.lexicon.specs.declared.fields.Found.the-variants.{Good, Bad}
 use Rattle.lexicon.specs.Lexicon.{nodeCount, sinkOf, arcsAt, arcCount, successors, reserveAt, allowed, successorFields, arcFields}
 use Rattle.lexicon.specs.Sections.{numberAt, arcAt, FieldsBad, Table, Listing, ListGood, listFields, ArcsGood}
 use Rattle.lexicon.proofs.Sections.Numbers.{number-says, number-fails}
-use Rattle.lexicon.proofs.Sections.Successors.{Marks, SuccessorRead, marks-none, marks-more, highest-most, arc-says, arc-fails}
+use Rattle.lexicon.proofs.Sections.Successors.{Marks, SuccessorRead, marks-none, marks-more, highest-most}
+use Rattle.lexicon.proofs.Sections.Successors.{arc-says, arc-fails}
 
 -- ---- the list of a vertex
 
@@ -51,7 +52,8 @@ module _ (x : List ℕ) (at u n total : ℕ) (seen : List ℕ) (given : Listing 
       let r = leb-true (total + u16 x at) 4000 (a .1) in
       inside 1 high (u16 x at) (b .0) (omega (arith, given .number))
 
-  pub list-uncounted : {f : Found} {v : declared.Verdict} → f ≡ numberAt x at 1 high → f ≡ Bad v → FieldsBad x (arcsAt x u) (listFields x u total) v
+  pub list-uncounted : {f : Found} {v : declared.Verdict} → f ≡ numberAt x at 1 high → f ≡ Bad v
+      → FieldsBad x (arcsAt x u) (listFields x u total) v
   unfolding listFields arcCount
   list-uncounted k e later =
       rw (← given .start) (number-fails x at 1 high (sym k ∙ e) (within 1 (sinkOf x) (u16 x at) && leb (total + u16 x at) 4000) count-range at _)
@@ -154,10 +156,12 @@ module _ (x : List ℕ) where
         let mine = successorFields x u (arcsAt x u + 2) [] (successors x u) in
         left .passes later ∙ rw (left .place, e, add-one u, append-assoc mine (arcFields x (suc u) (total + arcCount x u) (nodeCount x + 1 - suc u)) later)
 
-    pub arcs-fail : (v : declared.Verdict) → u ≤ nodeCount x → FieldsBad x (arcsAt x u) (listFields x u total) v → FieldsBad x (2 + nodeCount x) (arcFields x 0 0 (sinkOf x)) v
+    pub arcs-fail : (v : declared.Verdict) → u ≤ nodeCount x → FieldsBad x (arcsAt x u) (listFields x u total) v
+        → FieldsBad x (2 + nodeCount x) (arcFields x 0 0 (sinkOf x)) v
     arcs-fail v h f later = next-list h later ∙ f _
 
-    pub arcs-next : (now : List ℕ) (count : ℕ) → u ≤ nodeCount x → ListGood x u total now count → ListsLeft x now (at + (2 + 2 * count)) (total + count) (u + 1)
+    pub arcs-next : (now : List ℕ) (count : ℕ) → u ≤ nodeCount x → ListGood x u total now count
+        → ListsLeft x now (at + (2 + 2 * count)) (total + count) (u + 1)
     unfolding arcsAt arcCount
     arcs-next now count h g =
         let e : at + (2 + 2 * count) ≡ arcsAt x (suc u) = omega (arith, left .place, g .number) in

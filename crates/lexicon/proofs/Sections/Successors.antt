@@ -105,11 +105,13 @@ module _ (x : List ℕ) (at u : ℕ) (seen earlier : List ℕ) (m : Marks seen u
   unfolding arcAt
   arc-says {s} e = go (numberAt x at (u + 1) (highestOf u (nodeCount x))) refl e
     where
-      go : (f : Found) → numberAt x at (u + 1) (highestOf u (nodeCount x)) ≡ f → unmarked seen (u + 1) f ≡ Good s → SuccessorRead s
+      go : (f : Found) → numberAt x at (u + 1) (highestOf u (nodeCount x)) ≡ f → unmarked seen (u + 1) f ≡ Good s
+          → SuccessorRead s
       go (Bad v) q e = let z : _≡_ {A = ℕ} 0 1 = cc in absurd (omega arith)
       go (Good t) q e = marked (eqb (getD seen t 0) (u + 1)) refl e
         where
-          marked : (b : Bool) → eqb (getD seen t 0) (u + 1) ≡ b → cond b (Bad OutOfRange) (Good t) ≡ Good s → SuccessorRead s
+          marked : (b : Bool) → eqb (getD seen t 0) (u + 1) ≡ b → cond b (Bad OutOfRange) (Good t) ≡ Good s
+              → SuccessorRead s
           marked true k e = let z : _≡_ {A = ℕ} 0 1 = cc in absurd (omega arith)
           marked false k e =
               let same : t ≡ s = cc in

@@ -20,7 +20,8 @@ returns : tie.Need-returns
 unfolding lexiconRefused
 returns c =
     let k = c .before in
-    ap lexiconRefusal (nodes-decide _ _ (k .v .given .0 .0) (rw (k .v .given .1) at (k .before .before .nodes .ensures)))
+    ap lexiconRefusal
+    (nodes-decide _ _ (k .v .given .0 .0) (rw (k .v .given .1) at (k .before .before .nodes .ensures)))
 
 returns-2 : tie.Need-returns-2
 unfolding lexiconRefused
@@ -28,7 +29,8 @@ returns-2 c =
     let k = c .before in
     let s = k .before .before in
     ap lexiconRefusal
-    (arcs-decide _ _ _ (good-nodes (s .before .before)) (k .v2 .given .0 .0) (rw (k .v2 .given .1) at (s .arcs .ensures)))
+    (arcs-decide _ _ _ (good-nodes (s .before .before)) (k .v2 .given .0 .0)
+    (rw (k .v2 .given .1) at (s .arcs .ensures)))
 
 returns-3 : tie.Need-returns-3
 unfolding lexiconRefused

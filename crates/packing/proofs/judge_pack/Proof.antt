@@ -36,7 +36,9 @@ codes-good : (c : tie.Else3) →
     any (badCode (a .words)) (a .codes .now) ≡ false
 codes-good c = sym (c .before .has-bad-code .ensures) ∙ c .if3 .left
 
-small : (c : tie.After-width-of) → CodeLimits (length (c .before .before .before .before .before .before .before .before .before .args .codes .now)) (c .width-of .result)
+small : (c : tie.After-width-of)
+    → CodeLimits (length (c .before .before .before .before .before .before .before .before .before .args .codes .now))
+    (c .width-of .result)
 unfolding badWordCount badCount
 small c =
     let a = c .before .before .before .before .before .before .before .before .before .args in

@@ -30,7 +30,8 @@ count-good : (c : tie.Else2) → badCount (c .before .before .before .before .be
 unfolding badCount
 count-good c = rw (← c .before .inside2 .ensures) (c .if2 .left)
 
-small : (c : tie.After-width-of) → CodeLimits (c .before .before .before .before .before .before .before .args .n) (c .width-of .result)
+small : (c : tie.After-width-of)
+    → CodeLimits (c .before .before .before .before .before .before .before .args .n) (c .width-of .result)
 unfolding badWordCount badCount
 small c =
     let a = c .before .before .before .before .before .before .before .args in

@@ -48,7 +48,8 @@ put-first-line-requires c κs =
 -- line 1
 first : (c : tie.After-put-first-line) →
     let s = c .before .before .before .before .before .before .before .before .before .before .before .before .before .before .before .before .before .before in
-    TextPut (firstLine (s .args .k) (wordCount (graphOf (s .args .lexicon .now)))) 0 (s .args .out .now) (c .put-first-line .last .1 .1 .1 .0)
+    TextPut (firstLine (s .args .k) (wordCount (graphOf (s .args .lexicon .now)))) 0 (s .args .out .now)
+    (c .put-first-line .last .1 .1 .1 .0)
     (c .put-first-line .result)
 first c = rw (words (c .before .before .before .before .before .before .before)) at (c .put-first-line .ensures)
 

@@ -14,7 +14,8 @@ unfolding voiceRefused
 returns c =
     let d = c .before in
     ap voiceRefusal
-    (rw (voice-parts (d .before .before .args .voice .now), ← d .judge-letters .ensures) (sym (stands (d .judge-letters .result) (c .match .keys2) _)))
+    (rw (voice-parts (d .before .before .args .voice .now), ← d .judge-letters .ensures)
+    (sym (stands (d .judge-letters .result) (c .match .keys2) _)))
 
 judge-states-requires : tie.Need-judge-states-requires
 judge-states-requires c κs = sym (c .before .before .judge-letters .ensures) ∙ ap verdictOf (c .enum-told .given .1)
@@ -26,7 +27,12 @@ returns-2 c =
     let e = b .before in
     let d = e .before .before in
     ap voiceRefusal
-    (rw (voice-parts (d .before .before .args .voice .now), ← d .judge-letters .ensures, e .enum-told .given .1, ← b .judge-states .ensures)
+    (rw (
+      voice-parts (d .before .before .args .voice .now),
+      ← d .judge-letters .ensures,
+      e .enum-told .given .1,
+      ← b .judge-states .ensures,
+    )
     (sym (stands (b .judge-states .result) (c .match2 .keys2) _)))
 
 returns-3 : tie.Need-returns-3
@@ -36,7 +42,13 @@ returns-3 c =
     let e = b .before in
     let d = e .before .before in
     ap voiceRefusal
-    (rw (voice-parts (d .before .before .args .voice .now), ← d .judge-letters .ensures, e .enum-told .given .1, ← b .judge-states .ensures, c .before .enum-told2 .given .1)
+    (rw (
+      voice-parts (d .before .before .args .voice .now),
+      ← d .judge-letters .ensures,
+      e .enum-told .given .1,
+      ← b .judge-states .ensures,
+      c .before .enum-told2 .given .1,
+    )
     (c .judge-last .ensures))
 
 pub judge-spec : {M : Type 1} → statement M

@@ -4,7 +4,8 @@ use Prim.Native.Nat.{_+_, _-_}
 use mathlib.Core.Path.{sym, _∙_}
 use native.Mathlib.Omega.{arith}
 use borrow.Author.Needs.{needs}
-use Rattle.lexicon.proofs.Sections.Nodes.{LettersLeft, nodes-fail, nodes-start, letter-missing, letter-out, letter-good, nodes-whole}
+use Rattle.lexicon.proofs.Sections.Nodes.{LettersLeft, nodes-fail, nodes-start, letter-missing, letter-out}
+use Rattle.lexicon.proofs.Sections.Nodes.{letter-good, nodes-whole}
 use Rattle.lexicon.proofs.fields.nodes.Statement.{statement}
 use Rattle.lexicon.proofs.fields.nodes.Tie as tie
 

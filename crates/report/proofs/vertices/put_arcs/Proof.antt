@@ -1,4 +1,5 @@
--- `vertices::put_arcs` meets its contract: the verdict says whether the lines are put, or which refusal. Assumes nothing.
+-- `vertices::put_arcs` meets its contract: the verdict says whether the lines are put, or which refusal.
+-- Assumes nothing.
 use mathlib.Core.Path.{_≡_, sym, ap, _∙_}
 use borrow.Author.Needs.{needs}
 use Rattle.call.specs.declared.Refusal.the-variants.{LexiconLength, LexiconRange}
@@ -20,8 +21,11 @@ put-vertices-requires : tie.Need-put-vertices-requires
 put-vertices-requires c κs =
     let k = c .before in
     let j = k .before .before in
-    let s = j .before .before .before in
-    (sym (lexicon-told (verdictOf (j .judge .result)) _ _ (j .judge .ensures)) ∙ ap verdictOf (k .enum-told .given .1), s .pre)
+    let s = j .before .before .before in (
+      sym (lexicon-told (verdictOf (j .judge .result)) _ _ (j .judge .ensures))
+          ∙ ap verdictOf (k .enum-told .given .1),
+      s .pre,
+    )
 
 returns : tie.Need-returns
 unfolding lexiconRefusal
@@ -36,7 +40,8 @@ returns-2 c =
     let p = c .before .before in
     let m = p .before .before in
     let k = m .before in
-    put-same (arcs-refused _ LexiconLength _ (returned (k .before .before) (k .enum-told2 .given .1)) (m .number .ensures)) (p .put-refusal .ensures)
+    let e = returned (k .before .before) (k .enum-told2 .given .1) in
+    put-same (arcs-refused _ LexiconLength _ e (m .number .ensures)) (p .put-refusal .ensures)
 
 returns-3 : tie.Need-returns-3
 unfolding lexiconRefusal
@@ -44,7 +49,8 @@ returns-3 c =
     let p = c .before .before in
     let m = p .before .before in
     let k = m .before in
-    put-same (arcs-refused _ LexiconRange _ (returned (k .before .before) (k .enum-told3 .given .1)) (m .number2 .ensures)) (p .put-refusal2 .ensures)
+    let e = returned (k .before .before) (k .enum-told3 .given .1) in
+    put-same (arcs-refused _ LexiconRange _ e (m .number2 .ensures)) (p .put-refusal2 .ensures)
 
 pub put-arcs-spec : {M : Type 1} → statement M
 put-arcs-spec =

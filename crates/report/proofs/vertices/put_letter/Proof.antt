@@ -1,4 +1,5 @@
--- `vertices::put_letter` meets its contract: nothing is put for the root, and a node's letter behind a space. Assumes nothing.
+-- `vertices::put_letter` meets its contract: nothing is put for the root, and a node's letter behind a space.
+-- Assumes nothing.
 use Prim.Native.Nat.{_+_}
 use mathlib.Core.List.{[], _∷_}
 use native.Mathlib.Omega.{arith}

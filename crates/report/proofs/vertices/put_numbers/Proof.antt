@@ -1,5 +1,5 @@
--- `vertices::put_numbers` meets its contract: before each number those before it are put, of at most 11 bytes each. The measure is the numbers
--- left. Assumes nothing.
+-- `vertices::put_numbers` meets its contract: before each number those before it are put, of at most 11 bytes each. The
+-- measure is the numbers left. Assumes nothing.
 use Prim.Native.Nat.{_-_}
 use native.Mathlib.Omega.{arith}
 use borrow.Author.Needs.{needs}

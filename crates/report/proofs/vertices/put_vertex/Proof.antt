@@ -1,5 +1,5 @@
--- `vertices::put_vertex` meets its contract: the parts of the line are put one behind another, and the part of the image has two bytes for
--- each successor. Assumes nothing.
+-- `vertices::put_vertex` meets its contract: the parts of the line are put one behind another, and the part of the
+-- image has two bytes for each successor. Assumes nothing.
 use Prim.Native.Nat.{ℕ, _+_, _*_, _^_, _≤_, _<_}
 use mathlib.Core.Path.{_≡_, ap, _∙_}
 use mathlib.Core.List.{List}
@@ -45,20 +45,23 @@ number-used d = record {
 }
 
 letter-used : (l : tie.After-put-letter) →
-    let s = start (number l) in Used (s .args .at) (l .put-letter .result) (s .args .out .now) (l .put-letter .last .1 .1 .0) 21
+    let s = start (number l) in
+    Used (s .args .at) (l .put-letter .result) (s .args .out .now) (l .put-letter .last .1 .1 .0) 21
 letter-used l =
     let u = number-used (number l) in
     record { bytes = omega (arith, u .bytes, l .put-letter .ensures .1); kept = l .put-letter .kept .1 .1 .0 ∙ u .kept }
 
 colon-used : (b : tie.After-put-byte) →
-    let s = start (number (letter b)) in Used (s .args .at) (b .put-byte .result) (s .args .out .now) (b .put-byte .last .1 .0) 22
+    let s = start (number (letter b)) in
+    Used (s .args .at) (b .put-byte .result) (s .args .out .now) (b .put-byte .last .1 .0) 22
 colon-used b =
     let u = letter-used (letter b) in
     record { bytes = omega (arith, u .bytes, b .put-byte .ensures .ends); kept = b .put-byte .kept .1 .0 ∙ u .kept }
 
 -- the part holds the successors
 part-long : (d : tie.After-put-decimal) →
-    let s = start d in length (d .before .before .successors .result .now) ≡ 2 * arcCount (s .args .lexicon .now) (s .args .vertex)
+    let s = start d in
+    length (d .before .before .successors .result .now) ≡ 2 * arcCount (s .args .lexicon .now) (s .args .vertex)
 part-long d =
     let s = start d in
     ap length (d .before .before .successors .ensures) ∙ part-size (s .args .lexicon .now) (s .pre .0) (s .pre .1 .0)
@@ -102,12 +105,14 @@ put-byte-requires-2 c κs =
 
 numbers : (n : tie.After-put-numbers) →
     let s = start (number (letter (colon n))) in
-    TextPut (spaced (successors (s .args .lexicon .now) (s .args .vertex))) (colon n .put-byte .result) (colon n .put-byte .last .1 .0)
+    TextPut (spaced (successors (s .args .lexicon .now) (s .args .vertex))) (colon n .put-byte .result)
+    (colon n .put-byte .last .1 .0)
     (n .put-numbers .last .1 .0) (n .put-numbers .result)
 numbers n =
     let d = number (letter (colon n)) in
     let s = start d in
-    rw (d .before .before .successors .ensures, part-numbers (s .args .lexicon .now) (s .pre .0) (s .pre .1 .0)) at (n .put-numbers .ensures .0)
+    rw (d .before .before .successors .ensures, part-numbers (s .args .lexicon .now) (s .pre .0) (s .pre .1 .0)) at
+    (n .put-numbers .ensures .0)
 
 returns : tie.Need-returns
 unfolding vertexLine
@@ -121,7 +126,8 @@ returns c =
     let u = letter-used l in
     let h : s .args .at ≤ length (s .args .out .now) = omega (arith, s .pre .1 .1) in
     let behind = put-more (omega (arith, s .pre .1 .1, u .bytes, u .kept)) (b .put-byte .ensures) (numbers n) in (
-      put-more h (put-more h (put-more h (d .put-decimal .ensures) (l .put-letter .ensures .0)) behind) (e .put-byte2 .ensures),
+      put-more h (put-more h (put-more h (d .put-decimal .ensures) (l .put-letter .ensures .0)) behind)
+          (e .put-byte2 .ensures),
       omega (arith, numbers-used n .bytes, e .put-byte2 .ensures .ends),
     )
 

@@ -1,5 +1,5 @@
--- `vertices::put_vertices` meets its contract: before each vertex the lines of those below it are put. The measure is the vertices left.
--- Assumes nothing.
+-- `vertices::put_vertices` meets its contract: before each vertex the lines of those below it are put. The measure is
+-- the vertices left. Assumes nothing.
 use Prim.Native.Nat.{_+_, _-_, _≤_, _<_}
 use native.Mathlib.Omega.{arith}
 use borrow.Author.Needs.{needs}
@@ -36,7 +36,8 @@ loop-again c =
     let q = c .before .before in
     let t = q .before .before in
     let s = t .before .before .before .before .before in
-    vertices-next (s .pre .0) (t .before .loop .inv) (up-to t) (q .put-vertex .kept .1 .1 .0) (q .put-vertex .ensures .0)
+    vertices-next (s .pre .0) (t .before .loop .inv) (up-to t) (q .put-vertex .kept .1 .1 .0)
+    (q .put-vertex .ensures .0)
     (q .put-vertex .ensures .1)
 
 returns : tie.Need-returns Inv-loop μ-loop
