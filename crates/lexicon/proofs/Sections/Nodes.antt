@@ -20,7 +20,7 @@ use Rattle.lexicon.specs.Sections.{numberAt, FieldsBad, NodesGood, nodes
 use Rattle.lexicon.proofs.Sections.Numbers.{Number, number-says, number-fails}
 
 -- the letters from a node on are left, and later fields
-pub record LettersLeft (L : ℕ) (x : List ℕ) (n node : ℕ) : Type 0 where
+pub record NodeLettersLeft (L : ℕ) (x : List ℕ) (n node : ℕ) : Type 0 where
   pub number : Number x 0 1 400 n
   pub from-one : 1 ≤ node
   pub last : node ≤ n + 1
@@ -39,7 +39,7 @@ module _ (L : ℕ) (x : List ℕ) where
   unfolding nodesFields nodeCount
   nodes-fail e later = number-fails x 0 1 400 e (within 1 400 (u16 x 0)) (λ a. a) 0 (nodeFields L x ++ later)
 
-  pub nodes-start : {n : ℕ} → numberAt x 0 1 400 ≡ Good n → LettersLeft L x n 1
+  pub nodes-start : {n : ℕ} → numberAt x 0 1 400 ≡ Good n → NodeLettersLeft L x n 1
   unfolding nodesFields nodeFields nodeCount
   nodes-start {n} e =
       let k = number-says x 0 1 400 e in
@@ -53,7 +53,7 @@ module _ (L : ℕ) (x : List ℕ) where
         passes = λ later. step-good 0 (field 0 2 (within 1 400 (u16 x 0))) _ (k .there) good ∙ rw q;
       }
 
-  module _ (n node : ℕ) (left : LettersLeft L x n node) (h : node ≤ n) where
+  module _ (n node : ℕ) (left : NodeLettersLeft L x n node) (h : node ≤ n) where
     next-field : (later : List Field) → verdict (length x) 0 (nodesFields L x ++ later)
         ≡ verdict (length x) (1 + node) (nodeField L x node ∷ map (nodeField L x) (from (node + 1) (n + 1 - (node + 1))) ++ later)
     next-field later = left .passes later ∙ rw (from-next node n h)
@@ -65,7 +65,7 @@ module _ (L : ℕ) (x : List ℕ) where
     unfolding nodeLetter
     letter-out k m later = next-field later ∙ step-out (1 + node) (nodeField L x node) _ (omega arith) (le-ltb _ _ m)
 
-    pub letter-good : 1 + node < length x → getD x (1 + node) 0 < L → LettersLeft L x n (node + 1)
+    pub letter-good : 1 + node < length x → getD x (1 + node) 0 < L → NodeLettersLeft L x n (node + 1)
     unfolding nodeLetter
     letter-good k m = record {
       number = left .number;
@@ -75,7 +75,7 @@ module _ (L : ℕ) (x : List ℕ) where
       passes = λ later. next-field later ∙ step-good (1 + node) (nodeField L x node) _ (omega arith) (lt-ltb _ _ m) ∙ rw add-assoc;
     }
 
-  pub nodes-whole : (n node : ℕ) → LettersLeft L x n node → n < node → NodesGood L x n
+  pub nodes-whole : (n node : ℕ) → NodeLettersLeft L x n node → n < node → NodesGood L x n
   unfolding nodeCount from
   nodes-whole n node left h =
       let e : node ≡ n + 1 = omega (arith, left .last) in
