@@ -1,9 +1,11 @@
 -- The refusal table of document 01: each refusal's number, and how a call goes through its rows. Assumes nothing.
 use Prim.Native.Nat.{ℕ}
 use mathlib.Core.Path.{_≡_}
-use mathlib.Core.Bool.{Bool, true, cond, not}
+use mathlib.Core.Bool.{Bool, true, false, cond, not}
 use mathlib.Core.List.{List, [], _∷_, _++_, map}
+use mathlib.Core.Option.{Option, none, some}
 use lib.IntN.{ℤ, pos, negℤ}
+use lib.Dec.{eqb}
 use Rattle.endian.specs.Lists.{all}
 use Rattle.call.specs.declared.Refusal.{Refusal}
 use Rattle.call.specs.declared.Refusal.the-variants.{WorkSpace, VoiceLength, VoiceRange, LexiconLength, LexiconRange, Orphan, Places, LongWord, WordCount, SameLetters, Frames, Count, NoWord, Packed, Code, Output}
@@ -51,6 +53,15 @@ pub record Row : Type 0 where
 
 abbrev pub on : Refusal → Bool → Row
 on r b = record { refusal = r; applies = b }
+
+-- the refusal, where there is one, is r
+unfoldable pub isRefusal : Refusal → Option Refusal → Bool
+isRefusal r none = false
+isRefusal r (some s) = eqb (number s) (number r)
+
+-- the row of r, where a verdict gives one refusal at most
+abbrev pub rowOf : Option Refusal → Refusal → Row
+rowOf given r = on r (isRefusal r given)
 
 -- the numbers of a table's rows, in its order
 unfoldable pub numbers : List Row → List ℕ

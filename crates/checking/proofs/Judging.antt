@@ -10,13 +10,13 @@ use lib.Dec.{ltb}
 use borrow.Author.Tests.{lt-ltb, le-ltb, ltb-true, ltb-false}
 use Rattle.call.specs.declared.Refusal.{Refusal}
 use Rattle.call.specs.declared.Refusal.the-variants.{WorkSpace, VoiceLength, VoiceRange, LexiconLength, LexiconRange}
-use Rattle.call.specs.Table.{Answer, value, refused, Row, unless}
+use Rattle.call.specs.Table.{Answer, value, refused, Row, isRefusal, unless}
 use Rattle.call.specs.Limits.{mostWords, workSpace}
 use Rattle.call.specs.Buffers.{spaceRows}
-use Rattle.voice.specs.Fields.{wellFormed, wrongLength, outOfRange, hasWrongLength, isOutOfRange}
-use Rattle.voice.specs.Voice.{letterCount, voiceFields, voiceVerdict, voiceRows}
+use Rattle.voice.specs.Fields.{wellFormed, wrongLength, outOfRange}
+use Rattle.voice.specs.Voice.{letterCount, voiceFields, voiceVerdict, voiceRefusal, voiceRefused, voiceRows}
 use Rattle.voice.proofs.Fields.{well-formed-says}
-use Rattle.lexicon.specs.Lexicon.{sinkOf, arcsAt, lexiconVerdict}
+use Rattle.lexicon.specs.Lexicon.{sinkOf, arcsAt, lexiconVerdict, lexiconRefusal, lexiconRefused}
 use Rattle.graph.specs.Graph.{graphOf, sink, pathCount, wordCount}
 use Rattle.graph.specs.Conditions.{orphan, manyWords}
 use Rattle.graph.specs.Checking.{lexiconRows, imageRows, firstRows, checkAnswer}
@@ -47,35 +47,35 @@ module _ (v : List ℕ) {x offsets counts : List ℕ} where
   -- ---- 2 and 3
 
   pub voice-length : voiceVerdict v ≡ wrongLength → ImagesJudged (imageRows v x) (refused VoiceLength) x offsets counts
-  unfolding imageRows voiceRows unless hasWrongLength
+  unfolding imageRows voiceRows voiceRefused voiceRefusal isRefusal unless
   voice-length e = refusal (rw e)
 
   pub voice-range : voiceVerdict v ≡ outOfRange → ImagesJudged (imageRows v x) (refused VoiceRange) x offsets counts
-  unfolding imageRows voiceRows unless hasWrongLength isOutOfRange
+  unfolding imageRows voiceRows voiceRefused voiceRefusal isRefusal unless
   voice-range e = refusal (rw e)
 
   pub voice-passed : {answer : Answer ℕ} → voiceVerdict v ≡ wellFormed
       → ImagesJudged (lexiconRows v x) answer x offsets counts
       → ImagesJudged (imageRows v x) answer x offsets counts
-  unfolding imageRows voiceRows unless hasWrongLength isOutOfRange
+  unfolding imageRows voiceRows voiceRefused voiceRefusal isRefusal unless
   voice-passed e j = passed (rw e) j
 
   -- ---- 4 and 5
 
   pub lexicon-length : lexiconVerdict (letterCount v) x ≡ wrongLength
       → ImagesJudged (lexiconRows v x) (refused LexiconLength) x offsets counts
-  unfolding lexiconRows unless hasWrongLength
+  unfolding lexiconRows lexiconRefused lexiconRefusal isRefusal unless
   lexicon-length e = refusal (rw e)
 
   pub lexicon-range : lexiconVerdict (letterCount v) x ≡ outOfRange
       → ImagesJudged (lexiconRows v x) (refused LexiconRange) x offsets counts
-  unfolding lexiconRows unless hasWrongLength isOutOfRange
+  unfolding lexiconRows lexiconRefused lexiconRefusal isRefusal unless
   lexicon-range e = refusal (rw e)
 
   pub lexicon-passed : {answer : Answer ℕ} → lexiconVerdict (letterCount v) x ≡ wellFormed
       → ImagesJudged (graphRows v x) answer x offsets counts
       → ImagesJudged (lexiconRows v x) answer x offsets counts
-  unfolding lexiconRows graphRows unless hasWrongLength isOutOfRange
+  unfolding lexiconRows lexiconRefused lexiconRefusal graphRows isRefusal unless
   lexicon-passed e j = passed (rw e) j
 
 -- a voice model has a first byte, L

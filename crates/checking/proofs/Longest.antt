@@ -10,7 +10,7 @@ use lib.Dec.{eqb, ltb}
 use borrow.Author.Tests.{eqb-true, ltb-true, ltb-false, lt-ltb, le-ltb}
 use Rattle.endian.specs.Bytes.{u16}
 use Rattle.endian.specs.Lists.{any, select}
-use Rattle.endian.proofs.Lists.{map-cong, place}
+use Rattle.endian.proofs.Lists.{map-cong, index-of}
 use Rattle.lexicon.specs.Lexicon.{nodeCount, sinkOf, arcsAt}
 use Rattle.graph.specs.Graph.{Graph, graphOf, sink, ways, fullPaths, isNode, pathLetters}
 use Rattle.graph.specs.Conditions.{longWord, hasLongWord}
@@ -101,7 +101,11 @@ module _ {g : Graph} (ok : Sound g) where
   height-below {u} h =
       ap greatest (map-cong _ _ (ways g (sink g) u) (λ p m. letters-cons g u p) ∙ sym (map-map (λ a. ownLetters g u + a) letters (ways g (sink g) u)))
       ∙ greatest-add (ownLetters g u) (map letters (ways g (sink g) u))
-      (omega (arith, length-map (ways g (sink g) u) letters, place [] (some-way ok {u = u} (omega arith) .1) .inside))
+      (omega (
+        arith,
+        length-map (ways g (sink g) u) letters,
+        index-of [] (some-way ok {u = u} (omega arith) .1) .inside,
+      ))
       ∙ ap (λ (n : ℕ). ownLetters g u + n) by-successor
     where
       by-successor : greatest (map letters (ways g (sink g) u)) ≡ greatest (map (height g) (g .successors u))

@@ -12,7 +12,7 @@ use lib.IntN.{ℤ, pos}
 use lib.ListN.{length, take, length-take}
 use lib.Seq.{getD-take}
 use Rattle.endian.proofs.Integers.{ints}
-use Rattle.endian.proofs.Lists.{mem-getD, place, take-out, some-or-none}
+use Rattle.endian.proofs.Lists.{mem-getD, index-of, take-out, some-or-none}
 use Rattle.endian.proofs.Pairs.{pairs-of-places, first-of}
 use Rattle.endian.proofs.Pigeonhole.{pigeonhole}
 use Rattle.call.specs.Table.{Answer}
@@ -72,7 +72,7 @@ module _ (v x frames : List ℕ) (ok : Accepted v x) where
         itself : Hit
         in-row : List·Memᴰ itself r
         names : Names v (graphOf x) frames itself word
-        past : n ≤ place nothing in-row .index
+        past : n ≤ index-of nothing in-row .index
 
       off-first : {word : List ℕ} → LexiconWord v (graphOf x) word → Off v (graphOf x) frames (take n r) word
           → HasNoPath v (graphOf x) frames word ⊎ Beyond word
@@ -80,7 +80,7 @@ module _ (v x frames : List ℕ) (ok : Accepted v x) where
         where
           beyond : (h : Hit) → List·Memᴰ h r → Names v (graphOf x) frames h word → Beyond word
           beyond h m N =
-              let p = place nothing m in
+              let p = index-of nothing m in
               elim (decLt (p .index) n) [
                 | yes l ↦
                     let k : p .index < length (take n r) = omega (arith, length-take n r, p .inside) in
@@ -90,7 +90,7 @@ module _ (v x frames : List ℕ) (ok : Accepted v x) where
 
       behind-last : {word : List ℕ} → 1 ≤ n → Beyond word → BehindLast v (graphOf x) frames (take n r) word
       behind-last wanted B =
-          let p = place nothing (B .in-row) in
+          let p = index-of nothing (B .in-row) in
           let full : length (take n r) ≡ n = omega (arith, length-take n r, p .inside, B .past) in
           record {
             score = B .itself .score;
@@ -117,7 +117,9 @@ module _ (v x frames : List ℕ) (ok : Accepted v x) where
         full = λ ws d f k. omega (arith, length-take n r, enough ws d f);
         off = λ word w o. ⊎-elim inl (λ B. inr (behind-last wanted B)) (off-first w o);
         short = λ k word w o.
-            ⊎-elim (λ z. z) (λ B. absurd (omega (arith, length-take n r, place nothing (B .in-row) .inside, B .past))) (off-first w o);
+            ⊎-elim (λ z. z)
+            (λ B. absurd (omega (arith, length-take n r, index-of nothing (B .in-row) .inside, B .past)))
+            (off-first w o);
       }
         where
           true-at : (i : ℕ) → i < length (take n r) → TrueHit v x frames (hitAt (take n r) i)
@@ -132,7 +134,7 @@ module _ (v x frames : List ℕ) (ok : Accepted v x) where
       -- what stands behind the last stands behind all
       behind-all : {h : Hit} → hitAt hs (length hs - 1) ≻ h → (b : Hit) → List·Memᴰ b hs → b ≻ h
       behind-all o b m =
-          let p = place nothing m in
+          let p = index-of nothing m in
           let last = length hs - 1 in
           rw (← p .holds) (elim (ℕ-discrete (p .index) last) [
             | yes e ↦ rw e o

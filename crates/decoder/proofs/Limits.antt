@@ -23,7 +23,7 @@ use Rattle.endian.specs.Integers.{eqZ}
 use Rattle.decoder.specs.StatePaths.{Spot, letterAt, spotAt, stateAt, moveScore, partsOf, scoreOf, permitted, Attains, scoreLimit}
 use Rattle.decoder.specs.TrueScore.{trueScore}
 use Rattle.decoder.proofs.Sums.{sum-size}
-use Rattle.decoder.proofs.StatePaths.{Stated, heardIn, movedIn}
+use Rattle.decoder.proofs.StatePaths.{Stated, pathEmission, movedIn}
 use Rattle.decoder.proofs.Literal.{true-attained}
 
 -- ---- every part is an i16, and none that is permitted is the least
@@ -46,11 +46,12 @@ move-range v word q r =
 
 part-range : (v word frames : List ℕ) (path : List Spot) {a : ℤ} → List·Memᴰ a (partsOf v word frames path) → mag a < 2 ^ 15
 unfolding partsOf
-part-range v word frames path {a} m = ⊎-elim heard moved (append-cases (map (heardIn v word frames path) (from 0 (length path))) m)
+part-range v word frames path {a} m =
+    ⊎-elim emitted moved (append-cases (map (pathEmission v word frames path) (from 0 (length path))) m)
   where
-    heard : List·Memᴰ a (map (heardIn v word frames path) (from 0 (length path))) → mag a < 2 ^ 15
-    heard k =
-        let r = Memᴰ·of-map (heardIn v word frames path) (from 0 (length path)) k in
+    emitted : List·Memᴰ a (map (pathEmission v word frames path) (from 0 (length path))) → mag a < 2 ^ 15
+    emitted k =
+        let r = Memᴰ·of-map (pathEmission v word frames path) (from 0 (length path)) k in
         rw (r .2) at (emission-range v (stateAt v word (spotAt path (r .0))) (getD frames (r .0) 0))
 
     moved : List·Memᴰ a (map (movedIn v word path) (from 0 (length path - 1))) → mag a < 2 ^ 15

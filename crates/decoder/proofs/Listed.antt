@@ -31,7 +31,7 @@ use Rattle.graph.proofs.Spelling.{spelled-injective}
 use Rattle.graph.proofs.Accepted.{accepted, letters-known}
 use Rattle.graph.proofs.Theorems.{path-theorems}
 use Rattle.ranking.specs.Hits.{Hit, hit, hitBytes}
-use Rattle.ranking.proofs.Hits.{Storable, hits-written}
+use Rattle.ranking.proofs.Hits.{Writable, hits-written}
 use Rattle.decoder.specs.StatePaths.{Attains, scoreLimit}
 use Rattle.decoder.specs.Decoding.{pathScore, row, hits, frameRows, decodeRows, decodeAnswer, decodeOut}
 use Rattle.decoder.specs.Demand.{Scores, HasNoPath, IsTrueScore, Names, IsRow, decodedList, DecodingListsTheRow}
@@ -125,14 +125,14 @@ module _ (v x frames : List ℕ) (ok : Accepted v x) where
       let e = is-row .each h m in
       (attained-within short (e .3 .attained .attained), omega (arith, e .1 .below, ltb-false 1048576 (wordCount (graphOf x)) (accepted ok .few-words)))
 
-  storable : length frames ≤ 1000 → (h : Hit) → List·Memᴰ h (row v (graphOf x) frames) → Storable h
-  storable short h m =
+  writable : length frames ≤ 1000 → (h : Hit) → List·Memᴰ h (row v (graphOf x) frames) → Writable h
+  writable short h m =
       let l = within-limits short h m in
       record { score = within-i32 (h .score) (l .0); code = omega (arith, l .1) }
 
 -- ---- what is read back
 
-pub record Answered (v x frames out : List ℕ) (n k : ℕ) : Type 0 where
+pub record AcceptedDecoding (v x frames out : List ℕ) (n k : ℕ) : Type 0 where
   pub images : Accepted v x
   pub short : length frames ≤ 1000
   pub some-wanted : 1 ≤ n
@@ -140,7 +140,8 @@ pub record Answered (v x frames out : List ℕ) (n k : ℕ) : Type 0 where
   pub room : 8 * n ≤ length out
   pub counted : length (hits v (graphOf x) frames n) ≡ k
 
-pub answered : (v x frames work out : List ℕ) (n k : ℕ) → decodeAnswer v x frames n work out ≡ value k → Answered v x frames out n k
+pub answered : (v x frames work out : List ℕ) (n k : ℕ) → decodeAnswer v x frames n work out ≡ value k
+    → AcceptedDecoding v x frames out n k
 unfolding decodeAnswer decodeRows firstRows frameRows badFrameCount badCount
 answered v x frames work out n k e =
     let own = on Count (badCount n) ∷ on Output (ltb (length out) (8 * n)) ∷ [] in
@@ -166,7 +167,7 @@ decoded-first v x frames work out n k e =
     let a = answered v x frames work out n k e in
     rw (e, ← a .counted)
     (hits-written (hits v (graphOf x) frames n) (drop (length (hitBytes (hits v (graphOf x) frames n))) out)
-    (λ h m. storable v x frames (a .images) (a .short) h (take-out n (row v (graphOf x) frames) m)))
+    (λ h m. writable v x frames (a .images) (a .short) h (take-out n (row v (graphOf x) frames) m)))
 
 pub lists-the-row : DecodingListsTheRow
 lists-the-row v x frames work out n k e = record {

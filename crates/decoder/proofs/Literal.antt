@@ -11,15 +11,15 @@ use lib.Signed.{_≤ℤ_}
 use Rattle.endian.proofs.Integers.{ints}
 use Rattle.decoder.specs.StatePaths.{Attains}
 use Rattle.decoder.specs.TrueScore.{trueScore}
-use Rattle.decoder.proofs.TrueScore.{UpTo, true-spoken, spoken-bound, some≢none}
-use Rattle.decoder.proofs.StatePaths.{Stated, spoken-attained, attained-spoken}
+use Rattle.decoder.proofs.TrueScore.{UpTo, true-word-run, word-run-bound, some≢none}
+use Rattle.decoder.proofs.StatePaths.{Stated, word-run-attained, attained-word-run}
 
 pub true-attained : {v word frames : List ℕ} {a : ℤ} → trueScore v word frames ≡ some a → Stated v word → Attains v word frames a
-true-attained {v} {word} {frames} e st = spoken-attained v word frames st (true-spoken v word frames e)
+true-attained {v} {word} {frames} e st = word-run-attained v word frames st (true-word-run v word frames e)
 
 -- no permitted state path scores more
 pub true-highest : {v word frames : List ℕ} {b : ℤ} → Attains v word frames b → UpTo (trueScore v word frames) b
-true-highest {v} {word} {frames} A = spoken-bound v word frames (attained-spoken v word frames A)
+true-highest {v} {word} {frames} A = word-run-bound v word frames (attained-word-run v word frames A)
 
 -- some a exactly where a is attained and no attained score exceeds it
 pub true-some : {v word : List ℕ} (frames : List ℕ) (a : ℤ) → Stated v word

@@ -22,7 +22,7 @@ use Rattle.decoder.specs.TrueScore.{Move, move, stay, movesTo, pathsTo, 
 -- a move of score m into a state that scores e brings a score from b to a
 pub record Adds (m e b a : ℤ) : Type 0 where
   pub moved : eqZ m impossible ≡ false
-  pub heard : eqZ e impossible ≡ false
+  pub emitted : eqZ e impossible ≡ false
   pub total : a ≡ b +ℤ (m +ℤ e)
 
 -- the latest letter
@@ -35,18 +35,20 @@ stateIn v ls s = firstState v (latest ls) + s
 
 module _ (v frames : List ℕ) where
   -- what a state scores at frame t
-  abbrev pub hears : ℕ → List ℕ → ℕ → ℤ
-  hears t ls s = emission v (stateIn v ls s) (getD frames t 0)
+  abbrev pub runEmission : ℕ → List ℕ → ℕ → ℤ
+  runEmission t ls s = emission v (stateIn v ls s) (getD frames t 0)
 
   -- over the frames 0 to t, through these letters and to this state of the latest, with this score
   pub data Run : ℕ → List ℕ → ℕ → ℤ → Type 0 where
-    begin : {l : ℕ} {a : ℤ} → eqZ a impossible ≡ false → a ≡ hears 0 (l ∷ []) 0 → Run zero (l ∷ []) zero a
-    loop : {t s : ℕ} {ls : List ℕ} {a b : ℤ} → Run t ls s b → Adds (loopScore v (stateIn v ls s)) (hears (suc t) ls s) b a
+    begin : {l : ℕ} {a : ℤ} → eqZ a impossible ≡ false → a ≡ runEmission 0 (l ∷ []) 0 → Run zero (l ∷ []) zero a
+    loop : {t s : ℕ} {ls : List ℕ} {a b : ℤ} → Run t ls s b
+        → Adds (loopScore v (stateIn v ls s)) (runEmission (suc t) ls s) b a
         → Run (suc t) ls s a
-    step : {t s : ℕ} {ls : List ℕ} {a b : ℤ} → Run t ls s b → Adds (stepScore v (stateIn v ls s)) (hears (suc t) ls (suc s)) b a
+    step : {t s : ℕ} {ls : List ℕ} {a b : ℤ} → Run t ls s b
+        → Adds (stepScore v (stateIn v ls s)) (runEmission (suc t) ls (suc s)) b a
         → Run (suc t) ls (suc s) a
     link : {t l s : ℕ} {ls : List ℕ} {a b : ℤ} → Run t ls s b → s ≡ states v (latest ls) - 1
-        → Adds (linkScore v (latest ls)) (hears (suc t) (l ∷ ls) 0) b a → Run (suc t) (l ∷ ls) zero a
+        → Adds (linkScore v (latest ls)) (runEmission (suc t) (l ∷ ls) 0) b a → Run (suc t) (l ∷ ls) zero a
 
   pub some-letter : {t s : ℕ} {a : ℤ} → ¬ Run t [] s a
   some-letter (loop r d) = some-letter r
@@ -72,10 +74,10 @@ first-passed word i l e =
     (z, ap latest e ∙ latest-passed word i ∙ ap (letterAt word) z)
 
 -- a is the score of a run of the whole word over all frames
-abbrev pub Spoken : List ℕ → List ℕ → List ℕ → ℤ → Type 0
-Spoken v [] frames a = ⊥
-Spoken v (l ∷ letters) [] a = ⊥
-Spoken v (l ∷ letters) (k ∷ frames) a =
+abbrev pub WordRun : List ℕ → List ℕ → List ℕ → ℤ → Type 0
+WordRun v [] frames a = ⊥
+WordRun v (l ∷ letters) [] a = ⊥
+WordRun v (l ∷ letters) (k ∷ frames) a =
     Run v (k ∷ frames) (length frames) (passed (l ∷ letters) (length letters)) (states v (letterAt (l ∷ letters) (length letters)) - 1) a
 
 -- ---- the state paths that the true score is made from, one frame at a time
@@ -86,8 +88,8 @@ latest-first e m b = omega (arith, ints, sum e (m +ℤ b), sum m b, sum b (m +�
 
 module _ (v word frames : List ℕ) where
   -- what a spot scores at frame t
-  abbrev pub heardAt : ℕ → Spot → ℤ
-  heardAt t q = emission v (stateAt v word q) (getD frames t 0)
+  abbrev pub emissionAt : ℕ → Spot → ℤ
+  emissionAt t q = emission v (stateAt v word q) (getD frames t 0)
 
   -- a is the score of a permitted one over the frames 0 to t that ends in q
   pub record Reaches (t : ℕ) (q : Spot) (a : ℤ) : Type 0 where
@@ -102,7 +104,7 @@ module _ (v word frames : List ℕ) where
     before : ℤ
     listed : List·Memᴰ over (movesTo v word (q .position) (q .state))
     came : Reaches t (over .leaves) before
-    adds : Adds (over .score) (heardAt (suc t) q) before a
+    adds : Adds (over .score) (emissionAt (suc t) q) before a
 
   reaches-in : {t : ℕ} {q : Spot} {a : ℤ} → Last t q a → Reaches (suc t) q a
   unfolding pathsTo parts permitted all sumZ
@@ -111,8 +113,8 @@ module _ (v word frames : List ℕ) where
       record {
         moves = m ∷ L .came .moves;
         among = mem-flatMap (λ m. map (λ p. m ∷ p) (pathsTo v word t (m .leaves))) (L .listed) (Memᴰ·map (λ p. m ∷ p) (L .came .among));
-        clear = and-in (not-in (L .adds .heard)) (and-in (not-in (L .adds .moved)) (L .came .clear));
-        total = L .adds .total ∙ sym (latest-first (heardAt (suc t) q) (m .score) (L .before)) ∙ rw (L .came .total);
+        clear = and-in (not-in (L .adds .emitted)) (and-in (not-in (L .adds .moved)) (L .came .clear));
+        total = L .adds .total ∙ sym (latest-first (emissionAt (suc t) q) (m .score) (L .before)) ∙ rw (L .came .total);
       }
 
   reaches-out : {t : ℕ} {q : Spot} {a : ℤ} → Reaches (suc t) q a → Last t q a
@@ -122,7 +124,7 @@ module _ (v word frames : List ℕ) where
       let m = f .0 in
       let r = Memᴰ·of-map (λ p. m ∷ p) (pathsTo v word t (m .leaves)) (f .2) in
       let p = r .0 in
-      let e = heardAt (suc t) q in
+      let e = emissionAt (suc t) q in
       let b = sumZ (parts v word frames t (m .leaves) p) in
       let total′ : a ≡ e +ℤ (m .score +ℤ b) = rw (← r .2) at (R .total) in
       let clear′ : permitted (parts v word frames (suc t) q (m ∷ p)) ≡ true = rw (← r .2) at (R .clear) in
@@ -135,7 +137,7 @@ module _ (v word frames : List ℕ) where
         came = record { moves = p; among = r .1; clear = d .1; total = refl };
         adds = record {
           moved = not-true (eqZ (m .score) impossible) (d .0);
-          heard = not-true (eqZ e impossible) (c .0);
+          emitted = not-true (eqZ e impossible) (c .0);
           total = total′ ∙ latest-first e (m .score) b;
         };
       }
@@ -151,7 +153,7 @@ module _ (v word frames : List ℕ) where
       rw (p, q) (begin (rw (← one) at (not-true (eqZ e impossible) (and-out (not (eqZ e impossible)) true (R .clear) .0))) (rw (p, q) at one))
     where
       e : ℤ
-      e = heardAt 0 (spot i s)
+      e = emissionAt 0 (spot i s)
 
       one : a ≡ e
       one = R .total ∙ +ℤ-idr e
@@ -182,7 +184,7 @@ module _ (v word frames : List ℕ) where
   unfolding pathsTo parts permitted all sumZ stateAt movesTo stay lastSpot
   run-reaches {i} (begin {l} {a} c h) e =
       let z = first-passed word i l e in
-      let g : a ≡ heardAt 0 (spot 0 0) = rw (z .1) at h in
+      let g : a ≡ emissionAt 0 (spot 0 0) = rw (z .1) at h in
       rw (z .0) (record { moves = []; among = here refl; clear = and-in (not-in (rw g at c)) refl; total = g ∙ sym (+ℤ-idr _) })
   run-reaches {i} (loop {s} {b} r d) e = reaches-in (record {
     over = stay v word (spot i s);

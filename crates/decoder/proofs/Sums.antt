@@ -32,20 +32,20 @@ unfolding sumFrom sumZ from
 sum-same f g a zero h = refl
 sum-same f g a (suc n) h = ap₂ (λ x y. x +ℤ y) (h a (omega arith)) (sum-same f g (suc a) n (λ j k. h j (omega arith)))
 
--- what is heard at the frames 0 to t, and the t moves between them
-module _ (heard moved : ℕ → ℤ) where
+-- the emissions of the frames 0 to t, and the t moves between them
+module _ (emitted moved : ℕ → ℤ) where
   unfoldable pub total : ℕ → ℤ
-  total t = sumFrom heard 0 (suc t) +ℤ sumFrom moved 0 t
+  total t = sumFrom emitted 0 (suc t) +ℤ sumFrom moved 0 t
 
-  pub total-zero : total 0 ≡ heard 0
+  pub total-zero : total 0 ≡ emitted 0
   unfolding total sumFrom sumZ from
   total-zero = simp +ℤ-idr
 
-  pub total-last : (t : ℕ) → total (suc t) ≡ total t +ℤ (moved t +ℤ heard (suc t))
+  pub total-last : (t : ℕ) → total (suc t) ≡ total t +ℤ (moved t +ℤ emitted (suc t))
   unfolding total
   total-last t =
-      rw (sum-last heard 0 (suc t), sum-last moved 0 t, zero-add, zero-add)
-      (regroup (sumFrom heard 0 (suc t)) (heard (suc t)) (sumFrom moved 0 t) (moved t))
+      rw (sum-last emitted 0 (suc t), sum-last moved 0 t, zero-add, zero-add)
+      (regroup (sumFrom emitted 0 (suc t)) (emitted (suc t)) (sumFrom moved 0 t) (moved t))
     where
       regroup : (x h y m : ℤ) → (x +ℤ h) +ℤ (y +ℤ m) ≡ (x +ℤ y) +ℤ (m +ℤ h)
       regroup x h y m = omega (arith, ints, sum (x +ℤ h) (y +ℤ m), sum x h, sum y m, sum (x +ℤ y) (m +ℤ h), sum x y, sum m h)

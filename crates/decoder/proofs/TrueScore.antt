@@ -16,7 +16,7 @@ use Rattle.endian.proofs.Lists.{select-in, select-out}
 use Rattle.endian.specs.Integers.{sumZ}
 use Rattle.decoder.specs.StatePaths.{Spot, lastSpot, permitted}
 use Rattle.decoder.specs.TrueScore.{higher, highest, pathsTo, parts, bestOf, bestTo, trueScore}
-use Rattle.decoder.proofs.Runs.{Reaches, Spoken, reaches-run, run-reaches}
+use Rattle.decoder.proofs.Runs.{Reaches, WordRun, reaches-run, run-reaches}
 
 pub some≢none : {a : ℤ} {o : Option ℤ} → o ≡ some a → ¬ (o ≡ none)
 some≢none e f = let z : _≡_ {A = ℕ} 0 1 = cc in omega arith
@@ -76,16 +76,16 @@ module _ (v word frames : List ℕ) (t : ℕ) (q : Spot) where
   best-bound R =
       highest-bound (Memᴰ·cast (R .total) (Memᴰ·map sumZ (select-in permitted (Memᴰ·map (parts v word frames t q) (R .among)) (R .clear))))
 
-pub true-spoken : (v word frames : List ℕ) {a : ℤ} → trueScore v word frames ≡ some a → Spoken v word frames a
+pub true-word-run : (v word frames : List ℕ) {a : ℤ} → trueScore v word frames ≡ some a → WordRun v word frames a
 unfolding trueScore lastSpot
-true-spoken v [] frames e = some≢none e refl
-true-spoken v (l ∷ letters) [] e = some≢none e refl
-true-spoken v (l ∷ letters) (k ∷ frames) e =
+true-word-run v [] frames e = some≢none e refl
+true-word-run v (l ∷ letters) [] e = some≢none e refl
+true-word-run v (l ∷ letters) (k ∷ frames) e =
     reaches-run v (l ∷ letters) (k ∷ frames) (best-reached v (l ∷ letters) (k ∷ frames) (length frames) _ e)
 
-pub spoken-bound : (v word frames : List ℕ) {a : ℤ} → Spoken v word frames a → UpTo (trueScore v word frames) a
+pub word-run-bound : (v word frames : List ℕ) {a : ℤ} → WordRun v word frames a → UpTo (trueScore v word frames) a
 unfolding trueScore lastSpot
-spoken-bound v [] frames r = absurd r
-spoken-bound v (l ∷ letters) [] r = absurd r
-spoken-bound v (l ∷ letters) (k ∷ frames) r =
+word-run-bound v [] frames r = absurd r
+word-run-bound v (l ∷ letters) [] r = absurd r
+word-run-bound v (l ∷ letters) (k ∷ frames) r =
     best-bound v (l ∷ letters) (k ∷ frames) (length frames) _ (run-reaches v (l ∷ letters) (k ∷ frames) {i = length letters} r refl)

@@ -13,7 +13,7 @@ use Rattle.call.proofs.Buffers.{written-refused}
 use Rattle.graph.specs.Graph.{graphOf}
 use Rattle.ranking.specs.Hits.{Hit, hitBytes}
 use Rattle.decoder.specs.Decoding.{row, hits, decodeRows, decodeAnswer, decodeOut}
-use Rattle.decoder.proofs.Listed.{Answered, answered, within-limits}
+use Rattle.decoder.proofs.Listed.{AcceptedDecoding, answered, within-limits}
 use Rattle.search.specs.Held.{held}
 use Rattle.search.specs.Found.{searchAnswer, found, searchTokens}
 use Rattle.search.proofs.Held.{length-held}
@@ -46,7 +46,7 @@ module _ (v x frames work out : List ℕ) (n : ℕ) where
     unfolding decodeOut written
     call-out = rw call-answer
 
-    abbrev call : Answered v x frames out n (length (hits v (graphOf x) frames n))
+    abbrev call : AcceptedDecoding v x frames out n (length (hits v (graphOf x) frames n))
     call = answered v x frames work out n _ call-answer
 
     within : (h : Hit) → List·Memᴰ h (hits v (graphOf x) frames n) → Within h

@@ -32,14 +32,16 @@ module _ {A : Type 0} where
   getD-copies (suc n) (suc i) a = getD-copies n i a
 
   -- where a member stands
-  pub record Place (l : List A) (d a : A) : Type 0 where
+  pub record IndexOf (l : List A) (d a : A) : Type 0 where
     pub index : ℕ
     pub inside : index < length l
     pub holds : getD l index d ≡ a
 
-  pub place : (d : A) {a : A} {l : List A} → List·Memᴰ a l → Place l d a
-  place d (List·Memᴰ·head e) = record { index = 0; inside = omega arith; holds = sym e }
-  place d (List·Memᴰ·tail m) = let u = place d m in let h = u .inside in record { index = suc (u .index); inside = omega arith; holds = u .holds }
+  pub index-of : (d : A) {a : A} {l : List A} → List·Memᴰ a l → IndexOf l d a
+  index-of d (List·Memᴰ·head e) = record { index = 0; inside = omega arith; holds = sym e }
+  index-of d (List·Memᴰ·tail m) =
+      let u = index-of d m in
+      let h = u .inside in record { index = suc (u .index); inside = omega arith; holds = u .holds }
 
   -- what stands before a member, and what behind it
   pub mem-split : {a : A} {l : List A} → List·Memᴰ a l → (x : List A) × (y : List A) × (l ≡ x ++ a ∷ y)
@@ -230,7 +232,7 @@ repeats-places (a ∷ l) h = go (or-cases (hasList a l) (repeats l) h) (repeats-
   where
     go : (hasList a l ≡ true) ⊎ (repeats l ≡ true) → (repeats l ≡ true → Repeated l) → Repeated (a ∷ l)
     go (inl e) ih =
-        let u = place [] (hasList-mem a l e) in
+        let u = index-of [] (hasList-mem a l e) in
         record { i = 0; j = suc (u .index); i-inside = omega arith; j-inside = omega arith; apart = omega arith; equal = sym (u .holds) }
     go (inr e) ih =
         let u = ih e in

@@ -7,7 +7,7 @@ use mathlib.Core.List.{List, [], _∷_, _++_, map, flatMap, List·Memᴰ, Memᴰ
 use native.Mathlib.Omega.{arith}
 use lib.ListN.{length, getD, take}
 use Rattle.endian.specs.Lists.{from}
-use Rattle.endian.proofs.Lists.{mem-getD, place, of-flatMap, from-out}
+use Rattle.endian.proofs.Lists.{mem-getD, index-of, of-flatMap, from-out}
 
 module _ {A : Type 0} (R : A → A → Type 0) where
   pub data Pairs : List A → Type 0 where
@@ -23,7 +23,8 @@ module _ {A : Type 0} (R : A → A → Type 0) where
 
   pub pairs-of-places : (d : A) (l : List A) → ((i j : ℕ) → i < j → j < length l → R (getD l i d) (getD l j d)) → Pairs l
   pairs-of-places d [] h = none
-  pairs-of-places d (a ∷ l) h = next {l = l} (λ b m. let u = place d m in rw (u .holds) at (h 0 (suc (u .index)) (omega arith) (omega arith)))
+  pairs-of-places d (a ∷ l) h =
+      next {l = l} (λ b m. let u = index-of d m in rw (u .holds) at (h 0 (suc (u .index)) (omega arith) (omega arith)))
       (pairs-of-places d l (λ i j p q. h (suc i) (suc j) (omega arith) (omega arith)))
 
   -- an ordered list of at most n members of another is its first n, if each of the other's members is in it or, where it has n, behind it

@@ -10,15 +10,16 @@ use Rattle.endian.proofs.Pairs.{Pairs, none, next}
 
 module _ {A : Type 0} where
   -- the list without one of its members
-  record Removed (a : A) (l : List A) : Type 0 where
+  record Without (a : A) (l : List A) : Type 0 where
     rest : List A
     shorter : length l ≡ suc (length rest)
     kept : (b : A) → List·Memᴰ b l → (b ≡ a) ⊎ List·Memᴰ b rest
 
-  removed : {a : A} {l : List A} → List·Memᴰ a l → Removed a l
-  removed (here {xs = l} e) = record { rest = l; shorter = refl; kept = λ b m. ⊎-elim (λ q. inl (q ∙ sym e)) inr (cases m) }
-  removed (there {x} m) =
-      let u = removed m in
+  without : {a : A} {l : List A} → List·Memᴰ a l → Without a l
+  without (here {xs = l} e) =
+      record { rest = l; shorter = refl; kept = λ b m. ⊎-elim (λ q. inl (q ∙ sym e)) inr (cases m) }
+  without (there {x} m) =
+      let u = without m in
       record {
         rest = x ∷ u .rest;
         shorter = ap suc (u .shorter);
@@ -31,10 +32,10 @@ module _ {A B : Type 0} (R : A → B → Type 0) (one : (a : A) (b c : B) → R 
   pigeonhole l none f = omega arith
   pigeonhole l (next {a = b} {l = bs} d p) f =
       let own = f b (here refl) in
-      let u = removed (own .1) in
+      let u = without (own .1) in
       omega (arith, u .shorter, pigeonhole (u .rest) p (others own u))
     where
-      others : (own : (a : A) × List·Memᴰ a l × R a b) (u : Removed (own .0) l) → (c : B) → List·Memᴰ c bs
+      others : (own : (a : A) × List·Memᴰ a l × R a b) (u : Without (own .0) l) → (c : B) → List·Memᴰ c bs
           → (a : A) × List·Memᴰ a (u .rest) × R a c
       others own u c m =
           let has = f c (there m) in

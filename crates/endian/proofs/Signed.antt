@@ -5,7 +5,7 @@ use mathlib.Core.Path.{_≡_, refl, sym, ap, _∙_}
 use mathlib.Core.Bool.{true, false, true≢false}
 use native.Mathlib.Omega.{arith}
 use borrow.Author.Tests.{ltb-true, lt-ltb, le-ltb}
-use lib.IntN.{ℤ, pos, negsuc, _-ℤ_}
+use lib.IntN.{ℤ, pos, negsuc, negℤ, _-ℤ_, +ℤ-idl}
 use lib.Signed.{mag, ltZ}
 use mir.Syntax.{Width, w8, w16, w32, w64, w128}
 use mir.Val.{SFits, toZ, ofZ, hbits, bits}
@@ -49,6 +49,17 @@ module _ (w : Width) (q : ℕ) (h : q < 2 ^ hbits w) where
 
   pub negated-is : toZ w (ofZ w (negsuc 0 -ℤ toZ w q)) ≡ negsuc q
   negated-is = toZ-ofZ negated-fits ∙ negated
+
+-- the sign put on, as 0 - q
+mag-negated : (q : ℕ) → mag (negℤ (pos q)) ≤ q
+mag-negated zero = omega arith
+mag-negated (suc q) = omega arith
+
+pub from-zero : (w : Width) (q : ℕ) → q < 2 ^ hbits w → pos 0 -ℤ toZ w q ≡ negℤ (pos q)
+from-zero w q h = rw (toZ-low w q h) (+ℤ-idl (negℤ (pos q)))
+
+pub from-zero-fits : (w : Width) (q : ℕ) → q < 2 ^ hbits w → SFits w (pos 0 -ℤ toZ w q)
+from-zero-fits w q h = rw (from-zero w q h) (record { sfits = omega (arith, mag-negated q) })
 
 -- so a negative number from its bits b, as -1 - (full - b)
 module _ (w : Width) (b : ℕ) (high : 2 ^ hbits w ≤ b) (fit : b < 2 ^ bits w) where

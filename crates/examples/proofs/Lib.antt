@@ -1,3 +1,3 @@
 pub mod Open
 pub mod Starred
-pub mod Pins
+pub mod Further

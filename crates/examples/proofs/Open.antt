@@ -9,9 +9,11 @@ use Rattle.codes.proofs.Open as codes
 use Rattle.ranking.proofs.Open as ranking
 use Rattle.decoder.proofs.Open as decoder
 use Rattle.report.proofs.Open as report
-use Rattle.examples.specs.SmallLexicon.{coded, listed}
-use Rattle.examples.specs.Pins.{chain, layers, checkVoice, checkLexicon, hitsOf}
+use Rattle.examples.specs.SmallLexicon.{coded, listRead}
+use Rattle.examples.specs.Further.{chain, layers, checkVoice, checkLexicon, hitsOf}
 
 unfoldable pub everything : Unit {0}
-unfolding endian.everything call.everything voice.everything lexicon.everything graph.everything packing.everything codes.everything ranking.everything decoder.everything report.everything coded listed chain layers checkVoice checkLexicon hitsOf
+unfolding endian.everything call.everything voice.everything lexicon.everything graph.everything packing.everything
+    codes.everything ranking.everything decoder.everything report.everything coded listRead chain layers checkVoice
+    checkLexicon hitsOf
 everything = tt

@@ -1,2 +1,2 @@
 pub mod SmallLexicon
-pub mod Pins
+pub mod Further

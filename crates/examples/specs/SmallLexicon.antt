@@ -123,20 +123,20 @@ abbrev pub line : List ℕ → ℤ → Line
 line w s = record { word = w; score = s }
 
 -- what decoding answers, the first k hits read from its output's bytes with the word of each code, and the bytes after them
-pub record Listed : Type 0 where
+pub record ListRead : Type 0 where
   pub answer : Answer ℕ
   pub lines : List Line
   pub kept : List ℕ
 
-unfoldable pub listed : List ℕ → List ℕ → ℕ → ℕ → Listed
-listed x frames n k = record {
+unfoldable pub listRead : List ℕ → List ℕ → ℕ → ℕ → ListRead
+listRead x frames n k = record {
   answer = decodeAnswer voice x frames n work out;
   lines = map (λ h. line (wordOfCode voice (graphOf x) (h .code)) (h .score)) (hitsRead (decodeOut voice x frames n work out) k);
   kept = drop (8 * k) (decodeOut voice x frames n work out);
 }
 
 -- as many hits as there are lines, and the old contents after them
-abbrev pub lists : List Line → Listed
+abbrev pub lists : List Line → ListRead
 lists ls = record { answer = value (length ls); lines = ls; kept = drop (8 * length ls) out }
 
 -- ---- the starred rows
@@ -149,16 +149,16 @@ pub record Starred : Type 0 where
   -- P with root arcs 2, 1: i 0, in 1, it 2, an 3, at 4
   pub Q-codes : coded Q 0 i ∷ coded Q 1 in′ ∷ coded Q 2 it ∷ coded Q 3 an ∷ coded Q 4 at ∷ [] ≡ is i 0 ∷ is in′ 1 ∷ is it 2 ∷ is an 3 ∷ is at 4 ∷ []
   -- P, frames 0 2, n = 3: an -2, at -12, in -12
-  pub P-three : listed P (0 ∷ 2 ∷ []) 3 3 ≡ lists (line an (minus 2) ∷ line at (minus 12) ∷ line in′ (minus 12) ∷ [])
+  pub P-three : listRead P (0 ∷ 2 ∷ []) 3 3 ≡ lists (line an (minus 2) ∷ line at (minus 12) ∷ line in′ (minus 12) ∷ [])
   -- root arcs 2, 1, same frames and n: an -2, in -12, at -12
-  pub Q-three : listed Q (0 ∷ 2 ∷ []) 3 3 ≡ lists (line an (minus 2) ∷ line in′ (minus 12) ∷ line at (minus 12) ∷ [])
+  pub Q-three : listRead Q (0 ∷ 2 ∷ []) 3 3 ≡ lists (line an (minus 2) ∷ line in′ (minus 12) ∷ line at (minus 12) ∷ [])
   -- P, frames 0 2, n = 8: five hits in all, the three above and then i -21, it -22
-  pub P-all : listed P (0 ∷ 2 ∷ []) 8 5
+  pub P-all : listRead P (0 ∷ 2 ∷ []) 8 5
       ≡ lists (line an (minus 2) ∷ line at (minus 12) ∷ line in′ (minus 12) ∷ line i (minus 21) ∷ line it (minus 22) ∷ [])
   -- P, frame 1, n = 8: only i, 0
-  pub P-one : listed P (1 ∷ []) 8 1 ≡ lists (line i (pos 0) ∷ [])
+  pub P-one : listRead P (1 ∷ []) 8 1 ≡ lists (line i (pos 0) ∷ [])
   -- P, frames 0 0 2, n = 1: an -3
-  pub P-stays : listed P (0 ∷ 0 ∷ 2 ∷ []) 1 1 ≡ lists (line an (minus 3) ∷ [])
+  pub P-stays : listRead P (0 ∷ 0 ∷ 2 ∷ []) 1 1 ≡ lists (line an (minus 3) ∷ [])
   -- b: W 1 gives 0, 6 and 8 give 3, 9 gives 4
   pub widths : map widthAnswer (1 ∷ 6 ∷ 8 ∷ 9 ∷ []) ≡ value 0 ∷ value 3 ∷ value 3 ∷ value 4 ∷ []
   -- mean of -7 over 2 is -4

@@ -1,8 +1,8 @@
 -- What acceptance says: each of the rows 2 to 10 does not apply, so both images are well formed, every letter is known, no two full paths have
 -- the same letters, and W and the places keep their limits. And what it shows that checking has answered W. Assumes nothing.
 use Prim.Native.Nat.{ℕ, _≤_}
-use mathlib.Core.Path.{_≡_, refl}
-use mathlib.Core.Bool.{true, false, true≢false}
+use mathlib.Core.Path.{_≡_}
+use mathlib.Core.Bool.{true, false}
 use mathlib.Core.List.{List, Memᴰ·of-map}
 use borrow.Author.Tests.{ltb-true, ltb-false, leb-true}
 use lib.Dec.{ltb, leb}
@@ -14,22 +14,17 @@ use Rattle.call.specs.Table.{value, noneApplies}
 use Rattle.call.specs.Limits.{workSpace, mostWords}
 use Rattle.call.specs.Buffers.{spaceRows}
 use Rattle.call.proofs.Table.{none-parts, none-says, value-passed}
-use Rattle.voice.specs.Fields.{Verdict, wellFormed, wrongLength, outOfRange, hasWrongLength, isOutOfRange}
+use Rattle.voice.specs.Fields.{wellFormed}
 use Rattle.voice.specs.Voice.{letterCount, voiceVerdict, voiceRows}
+use Rattle.voice.proofs.Refusals.{voice-clear}
 use Rattle.lexicon.specs.Lexicon.{lexiconVerdict, nodeCount}
+use Rattle.lexicon.proofs.Refusals.{lexicon-clear}
 use Rattle.lexicon.proofs.WellFormed.{letter-known}
 use Rattle.graph.specs.Graph.{graphOf, isNode, pathLetters, wordCount}
 use Rattle.graph.specs.Conditions.{orphan, placeCount, manyPlaces, hasLongWord, manyWords, sameLetters}
 use Rattle.graph.specs.Checking.{lexiconRows, imageRows, firstRows, checkAnswer, Accepted}
 use Rattle.graph.proofs.Sound.{Sound, sound}
 use Rattle.graph.proofs.Spelling.{Known}
-
--- neither of the two rows of a verdict applies
-verdict-clear : (w : Verdict) → hasWrongLength w ≡ false → isOutOfRange w ≡ false → w ≡ wellFormed
-unfolding hasWrongLength isOutOfRange
-verdict-clear wellFormed h k = refl
-verdict-clear wrongLength h k = absurd (true≢false h)
-verdict-clear outOfRange h k = absurd (true≢false k)
 
 pub record AcceptedImages (v x : List ℕ) : Type 0 where
   pub voice : voiceVerdict v ≡ wellFormed
@@ -47,8 +42,8 @@ accepted {v} {x} h =
     let l = u .1 .1 in
     let g = l .1 .1 in
     record {
-      voice = verdict-clear (voiceVerdict v) (u .0) (u .1 .0);
-      lexicon = verdict-clear (lexiconVerdict (letterCount v) x) (l .0) (l .1 .0);
+      voice = voice-clear v (u .0) (u .1 .0);
+      lexicon = lexicon-clear (letterCount v) x (l .0) (l .1 .0);
       all-reached = g .0;
       few-places = g .1 .0;
       short-words = g .1 .1 .0;

@@ -12,7 +12,8 @@ use lib.ListN.{length, getD, length-map, List·getD-map}
 use lib.Dec.{eqb}
 use borrow.Author.Tests.{eqb-true, eq-eqb, ne-eqb, lt-ltb, le-leb}
 use Rattle.endian.specs.Lists.{select, same}
-use Rattle.endian.proofs.Lists.{mem-getD, place, first-none, first-at, mem-flatMap, of-flatMap, repeats-places, places-repeat}
+use Rattle.endian.proofs.Lists.{mem-getD, index-of, first-none, first-at, mem-flatMap, of-flatMap, repeats-places}
+use Rattle.endian.proofs.Lists.{places-repeat}
 use Rattle.voice.specs.Voice.{printByte}
 use Rattle.graph.specs.Graph.{Graph, sink, ArcPath, arrived, along, FullPath, from-root, ways, fullPaths, wordCount, pathCode, isNode, pathLetters}
 use Rattle.graph.specs.Words.{spelled, wordOfPath, pathOfWord, pathOfCode, wordOf, wordOfCode}
@@ -73,7 +74,7 @@ module _ {g : Graph} (ok : Sound g) where
 
   pub at-code : {p : List ℕ} → List·Memᴰ p (fullPaths g) → (pathCode g p < wordCount g) × (getD (fullPaths g) (pathCode g p) [] ≡ p)
   at-code {p} m =
-      let u = place [] m in
+      let u = index-of [] m in
       let h : u .index < wordCount g = omega (arith, length-fullPaths g) in
       let e : pathCode g p ≡ u .index = ap (pathCode g) (sym (u .holds)) ∙ code-at ok h in
       (rw e h, rw e (u .holds))
@@ -107,8 +108,8 @@ module _ {g : Graph} (ok : Sound g) where
 
       back : SameLetters g → sameLetters g ≡ true
       back t =
-          let a = place [] (t .p-full) in
-          let b = place [] (t .q-full) in
+          let a = index-of [] (t .p-full) in
+          let b = index-of [] (t .q-full) in
           places-repeat (map (pathLetters g) (fullPaths g)) (a .index) (b .index)
           (omega (arith, size, length-fullPaths g))
           (omega (arith, size, length-fullPaths g))

@@ -10,7 +10,7 @@ use lib.Dec.{eqb}
 use borrow.Author.Tests.{eqb-false, lt-ltb, le-leb, lt-leb}
 use Rattle.voice.specs.Fields.{wellFormed}
 use Rattle.lexicon.specs.Lexicon.{sinkOf, lexiconVerdict}
-use Rattle.lexicon.proofs.WellFormed.{listed}
+use Rattle.lexicon.proofs.WellFormed.{good-list}
 use Rattle.lexicon.proofs.Readers.{length-successors}
 use Rattle.graph.specs.Graph.{Graph, graphOf, sink, isNode}
 
@@ -40,8 +40,8 @@ sink-no-node g = rw (lt-ltb 0 (sink g) (omega arith), lt-leb (sink g) (g .nodes)
 pub sound : (L : ℕ) (x : List ℕ) → lexiconVerdict L x ≡ wellFormed → Sound (graphOf x)
 unfolding sink sinkOf
 sound L x h = record {
-  rises = λ k m. let a = listed L x h _ k .arc m in (a .rises, a .bounded);
-  once = λ k. listed L x h _ k .once;
-  onward = λ {u} k. omega (arith, length-successors x u, listed L x h u k .some);
-  worded = λ m. listed L x h 0 (omega arith) .arc m .worded refl refl;
+  rises = λ k m. let a = good-list L x h _ k .arc m in (a .rises, a .bounded);
+  once = λ k. good-list L x h _ k .once;
+  onward = λ {u} k. omega (arith, length-successors x u, good-list L x h u k .has-successor);
+  worded = λ m. good-list L x h 0 (omega arith) .arc m .worded refl refl;
 }

@@ -11,7 +11,7 @@ use lib.Dec.{eqb}
 use borrow.Author.Tests.{eq-eqb, ne-eqb}
 use Rattle.endian.specs.Lists.{sum}
 use Rattle.endian.proofs.Booleans.{cond-else}
-use Rattle.endian.proofs.Lists.{mem-getD, place, mem-flatMap, of-flatMap, map-cong, length-flatMap, flatMap-cong}
+use Rattle.endian.proofs.Lists.{mem-getD, index-of, mem-flatMap, of-flatMap, map-cong, length-flatMap, flatMap-cong}
 use Rattle.graph.specs.Graph.{Graph, sink, ways, pathCountWithin, pathCount}
 use Rattle.graph.proofs.Sound.{Sound, below-sink}
 
@@ -80,7 +80,7 @@ module _ {g : Graph} (ok : Sound g) where
 
   pub some-path : {u : ℕ} → u ≤ sink g → 1 ≤ pathCount g u
   unfolding pathCount
-  some-path {u} h = omega (arith, place [] (some-way h .1) .inside, length-ways g (sink g) u)
+  some-path {u} h = omega (arith, index-of [] (some-way h .1) .inside, length-ways g (sink g) u)
 
   -- ---- and no way is long
 

@@ -5,19 +5,18 @@ use mathlib.Core.Path.{_≡_}
 use mathlib.Core.Bool.{true}
 use mathlib.Core.List.{List, [], _∷_, _++_}
 use Rattle.call.specs.declared.Refusal.the-variants.{LexiconLength, LexiconRange, Orphan, Places, LongWord, WordCount, SameLetters}
-use Rattle.call.specs.Table.{Answer, Row, on, noneApplies, unless}
+use Rattle.call.specs.Table.{Answer, Row, on, rowOf, noneApplies, unless}
 use Rattle.call.specs.Buffers.{spaceRows, cleared}
-use Rattle.voice.specs.Fields.{hasWrongLength, isOutOfRange}
 use Rattle.voice.specs.Voice.{letterCount, voiceRows}
-use Rattle.lexicon.specs.Lexicon.{lexiconVerdict}
+use Rattle.lexicon.specs.Lexicon.{lexiconRefused}
 use Rattle.graph.specs.Graph.{graphOf, wordCount}
 use Rattle.graph.specs.Conditions.{orphan, placeCount, manyPlaces, hasLongWord, manyWords, sameLetters}
 
 -- 4 to 10
 unfoldable pub lexiconRows : List ℕ → List ℕ → List Row
 lexiconRows v x =
-    on LexiconLength (hasWrongLength (lexiconVerdict (letterCount v) x))
-    ∷ on LexiconRange (isOutOfRange (lexiconVerdict (letterCount v) x))
+    rowOf (lexiconRefused (letterCount v) x) LexiconLength
+    ∷ rowOf (lexiconRefused (letterCount v) x) LexiconRange
     ∷ on Orphan (orphan (graphOf x))
     ∷ on Places (manyPlaces (placeCount v (graphOf x)))
     ∷ on LongWord (hasLongWord (graphOf x))

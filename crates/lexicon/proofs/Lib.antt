@@ -5,3 +5,4 @@ pub mod Readers
 pub mod Tiling
 pub mod Sections
 pub mod Shape
+pub mod Refusals

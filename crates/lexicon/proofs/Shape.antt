@@ -16,7 +16,7 @@ use Rattle.voice.proofs.Fields.{AllGood, well-formed-says}
 use Rattle.lexicon.specs.Lexicon.{nodeCount, sinkOf, arcsAt, arcCount, reserveAt, successors, nodeFields, successorFields, arcFields, lexiconFields, lexiconVerdict}
 
 pub record Shape (x : List ℕ) : Type 0 where
-  pub some : 1 ≤ nodeCount x
+  pub has-node : 1 ≤ nodeCount x
   pub few : nodeCount x ≤ 400
   -- the list of a vertex lies inside the image
   pub there : {u : ℕ} → u < sinkOf x → arcsAt x (suc u) ≤ length x
@@ -52,7 +52,7 @@ arcs-total x u total (suc n) h g =
 
 pub shape : (L : ℕ) (x : List ℕ) → lexiconVerdict L x ≡ wellFormed → Shape x
 unfolding lexiconVerdict lexiconFields sinkOf reserveAt
-shape L x h = record { some = n .0; few = n .1; there = there; small = small }
+shape L x h = record { has-node = n .0; few = n .1; there = there; small = small }
   where
     good : AllGood (length x) (lexiconFields L x)
     good = well-formed-says 0 (lexiconFields L x) h .0

@@ -17,7 +17,7 @@ use Rattle.voice.proofs.Fields.{AllGood, well-formed-says}
 use Rattle.lexicon.specs.Lexicon.{nodeCount, nodeLetter, sinkOf, successors, arcsAt, arcCount, allowed, successorFields, nodeField, nodeFields, arcFields, lexiconFields, lexiconVerdict}
 
 -- s may stand in the list of u
-pub record Arc (x : List ℕ) (u s : ℕ) : Type 0 where
+pub record GoodArc (x : List ℕ) (u s : ℕ) : Type 0 where
   -- it is greater than u, and the sink at most
   pub rises : u < s
   pub bounded : s ≤ sinkOf x
@@ -25,7 +25,7 @@ pub record Arc (x : List ℕ) (u s : ℕ) : Type 0 where
   pub worded : u ≡ 0 → s ≡ sinkOf x → ⊥
 
 module _ (x : List ℕ) (u : ℕ) where
-  pub allowed-says : (earlier : List ℕ) (s : ℕ) → allowed x u earlier s ≡ true → Arc x u s × (has s earlier ≡ false)
+  pub allowed-says : (earlier : List ℕ) (s : ℕ) → allowed x u earlier s ≡ true → GoodArc x u s × (has s earlier ≡ false)
   unfolding allowed
   allowed-says earlier s h =
       let whole = and-out (ltb u s && leb s (sinkOf x) && not (has s earlier)) (ltb 0 u || not (eqb s (sinkOf x))) h in
@@ -41,7 +41,8 @@ module _ (x : List ℕ) (u : ℕ) where
       )
 
   module _ {len : ℕ} where
-    arcs-from : (at : ℕ) (earlier l : List ℕ) → AllGood len (successorFields x u at earlier l) → {s : ℕ} → List·Memᴰ s l → Arc x u s
+    arcs-from : (at : ℕ) (earlier l : List ℕ) → AllGood len (successorFields x u at earlier l) → {s : ℕ}
+        → List·Memᴰ s l → GoodArc x u s
     unfolding successorFields
     arcs-from at earlier (y ∷ l) g (List·Memᴰ·head e) = rw e (allowed-says earlier y (g _ (List·Memᴰ·head refl) .inRange) .0)
     arcs-from at earlier (y ∷ l) g (List·Memᴰ·tail m) = arcs-from (at + 2) (y ∷ earlier) l (λ f i. g f (List·Memᴰ·tail i)) m
@@ -59,16 +60,19 @@ module _ (x : List ℕ) (u : ℕ) where
             new (List·Memᴰ·tail i) = ih .1 i
 
 -- the list of u: its count and its successors are in their ranges
-pub record Listed (x : List ℕ) (u : ℕ) : Type 0 where
-  pub some : 1 ≤ arcCount x u
-  pub arc : {s : ℕ} → List·Memᴰ s (successors x u) → Arc x u s
+pub record GoodList (x : List ℕ) (u : ℕ) : Type 0 where
+  pub has-successor : 1 ≤ arcCount x u
+  pub arc : {s : ℕ} → List·Memᴰ s (successors x u) → GoodArc x u s
   -- no successor stands twice
   pub once : (l m : List ℕ) (s : ℕ) → successors x u ≡ l ++ s ∷ m → List·Memᴰ s l → ⊥
 
-listed-from : {len : ℕ} (x : List ℕ) (u total n v : ℕ) → AllGood len (arcFields x u total n) → u ≤ v → v < u + n → Listed x v
+good-lists-from : {len : ℕ} (x : List ℕ) (u total n v : ℕ) → AllGood len (arcFields x u total n) → u ≤ v → v < u + n
+    → GoodList x v
 unfolding arcFields
-listed-from x u total zero v g h k = absurd (omega arith)
-listed-from {len} x u total (suc n) v g h k = go (eqb u v) refl (listed-from x (suc u) (total + arcCount x u) n v (λ f i. g f (List·Memᴰ·tail (Memᴰ·append-right mine i))))
+good-lists-from x u total zero v g h k = absurd (omega arith)
+good-lists-from {len} x u total (suc n) v g h k =
+    go (eqb u v) refl
+    (good-lists-from x (suc u) (total + arcCount x u) n v (λ f i. g f (List·Memᴰ·tail (Memᴰ·append-right mine i))))
   where
     mine : List Field
     mine = successorFields x u (arcsAt x u + 2) [] (successors x u)
@@ -76,17 +80,20 @@ listed-from {len} x u total (suc n) v g h k = go (eqb u v) refl (listed-from x (
     good : AllGood len mine
     good f i = g f (List·Memᴰ·tail (Memᴰ·append-left _ i))
 
-    go : (b : Bool) → eqb u v ≡ b → (suc u ≤ v → v < suc u + n → Listed x v) → Listed x v
+    go : (b : Bool) → eqb u v ≡ b → (suc u ≤ v → v < suc u + n → GoodList x v) → GoodList x v
     go true e ih = rw (← eqb-true u v e) (record {
-      some = bounds 1 (sinkOf x) (arcCount x u) (and-out (within 1 (sinkOf x) (arcCount x u)) (leb (total + arcCount x u) 4000) (g _ (List·Memᴰ·head refl) .inRange) .0) .0;
+      has-successor =
+          bounds 1 (sinkOf x) (arcCount x u)
+          (and-out (within 1 (sinkOf x) (arcCount x u)) (leb (total + arcCount x u) 4000)
+          (g _ (List·Memᴰ·head refl) .inRange) .0) .0;
       arc = arcs-from x u (arcsAt x u + 2) [] (successors x u) good;
       once = λ l m s q. once-from x u (arcsAt x u + 2) [] l m s (rw q at good) .1;
     })
     go false e ih = let ne : u ≡ v → ⊥ = eqb-false u v e in ih (omega arith) (omega arith)
 
-pub listed : (L : ℕ) (x : List ℕ) → lexiconVerdict L x ≡ wellFormed → (u : ℕ) → u < sinkOf x → Listed x u
+pub good-list : (L : ℕ) (x : List ℕ) → lexiconVerdict L x ≡ wellFormed → (u : ℕ) → u < sinkOf x → GoodList x u
 unfolding lexiconVerdict lexiconFields
-listed L x h u k = listed-from x 0 0 (sinkOf x) u arcs (omega arith) (omega arith)
+good-list L x h u k = good-lists-from x 0 0 (sinkOf x) u arcs (omega arith) (omega arith)
   where
     arcs : AllGood (length x) (arcFields x 0 0 (sinkOf x))
     arcs f i = well-formed-says 0 (lexiconFields L x) h .0 f (List·Memᴰ·tail (Memᴰ·append-left _ (Memᴰ·append-right (nodeFields L x) i)))

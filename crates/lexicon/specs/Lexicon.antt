@@ -3,11 +3,14 @@
 use Prim.Native.Nat.{ℕ, zero, suc, _+_, _*_}
 use mathlib.Core.Bool.{Bool, cond, _&&_, _||_, not}
 use mathlib.Core.List.{List, [], _∷_, _++_, map}
+use mathlib.Core.Option.{Option, none, some}
 use lib.ListN.{length, take, drop}
 use lib.Dec.{eqb, leb, ltb}
 use Rattle.endian.specs.Lists.{within, from, has}
 use Rattle.endian.specs.Bytes.{u8, u16, u16s}
-use Rattle.voice.specs.Fields.{Field, field, Verdict, verdict}
+use Rattle.call.specs.declared.Refusal.{Refusal}
+use Rattle.call.specs.declared.Refusal.the-variants.{LexiconLength, LexiconRange}
+use Rattle.voice.specs.Fields.{Field, field, Verdict, wellFormed, wrongLength, outOfRange, verdict}
 
 -- ---- what it holds
 
@@ -84,3 +87,14 @@ lexiconFields L x =
 
 unfoldable pub lexiconVerdict : ℕ → List ℕ → Verdict
 lexiconVerdict L x = verdict (length x) 0 (lexiconFields L x)
+
+-- what each verdict on a lexicon returns: no number where it is well formed, 4 for a wrong length, 5 for a field out of
+-- its range
+unfoldable pub lexiconRefusal : Verdict → Option Refusal
+lexiconRefusal wellFormed = none
+lexiconRefusal wrongLength = some LexiconLength
+lexiconRefusal outOfRange = some LexiconRange
+
+-- what these bytes return as a lexicon
+unfoldable pub lexiconRefused : ℕ → List ℕ → Option Refusal
+lexiconRefused L x = lexiconRefusal (lexiconVerdict L x)

@@ -37,12 +37,13 @@ arcAt x at u n seen = unmarked seen (u + 1) (numberAt x at (u + 1) (highestOf u 
 -- ---- the fields of a section, before any later ones
 
 -- they are good, and what follows them begins at stop
-abbrev pub Passes : List ℕ → ℕ → List Field → ℕ → Type 0
-Passes x at fields stop = (later : List Field) → verdict (length x) at (fields ++ later) ≡ verdict (length x) stop later
+abbrev pub FieldsGood : List ℕ → ℕ → List Field → ℕ → Type 0
+FieldsGood x at fields stop =
+    (later : List Field) → verdict (length x) at (fields ++ later) ≡ verdict (length x) stop later
 
 -- one of them is bad and decides
-abbrev pub Fails : List ℕ → ℕ → List Field → declared.Verdict → Type 0
-Fails x at fields v = (later : List Field) → verdict (length x) at (fields ++ later) ≡ verdictOf v
+abbrev pub FieldsBad : List ℕ → ℕ → List Field → declared.Verdict → Type 0
+FieldsBad x at fields v = (later : List Field) → verdict (length x) at (fields ++ later) ≡ verdictOf v
 
 -- ---- nodes
 
@@ -53,11 +54,11 @@ pub record NodesGood (L : ℕ) (x : List ℕ) (n : ℕ) : Type 0 where
   pub number : n ≡ nodeCount x
   pub few : n ≤ 400
   pub there : 2 + n ≤ length x
-  pub passes : Passes x 0 (nodesFields L x) (2 + n)
+  pub passes : FieldsGood x 0 (nodesFields L x) (2 + n)
 
 abbrev pub NodesFound : ℕ → List ℕ → Found → Type 0
 NodesFound L x (Good n) = NodesGood L x n
-NodesFound L x (Bad v) = Fails x 0 (nodesFields L x) v
+NodesFound L x (Bad v) = FieldsBad x 0 (nodesFields L x) v
 
 -- ---- the list of a vertex
 
@@ -86,22 +87,22 @@ pub record ListGood (x : List ℕ) (u total : ℕ) (seen : List ℕ) (count : �
   pub room : total + count ≤ 4000
   pub there : arcsAt x (suc u) ≤ length x
   pub table : Table (u + 1) seen
-  pub passes : Passes x (arcsAt x u) (listFields x u total) (arcsAt x (suc u))
+  pub passes : FieldsGood x (arcsAt x u) (listFields x u total) (arcsAt x (suc u))
 
 abbrev pub ListFound : List ℕ → ℕ → ℕ → List ℕ → Found → Type 0
 ListFound x u total seen (Good count) = ListGood x u total seen count
-ListFound x u total seen (Bad v) = Fails x (arcsAt x u) (listFields x u total) v
+ListFound x u total seen (Bad v) = FieldsBad x (arcsAt x u) (listFields x u total) v
 
 -- ---- arcs
 
 pub record ArcsGood (x : List ℕ) (at : ℕ) : Type 0 where
   pub place : at ≡ reserveAt x
   pub there : at ≤ length x
-  pub passes : Passes x (2 + nodeCount x) (arcFields x 0 0 (sinkOf x)) at
+  pub passes : FieldsGood x (2 + nodeCount x) (arcFields x 0 0 (sinkOf x)) at
 
 abbrev pub ArcsFound : List ℕ → Found → Type 0
 ArcsFound x (Good at) = ArcsGood x at
-ArcsFound x (Bad v) = Fails x (2 + nodeCount x) (arcFields x 0 0 (sinkOf x)) v
+ArcsFound x (Bad v) = FieldsBad x (2 + nodeCount x) (arcFields x 0 0 (sinkOf x)) v
 
 -- ---- reserve
 

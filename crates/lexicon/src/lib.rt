@@ -4,7 +4,7 @@ ghost use Prim.Native.Nat.{_+_, _*_, _≤_, min};
 ghost use lib.ListN.{length};
 ghost use Rattle.endian.specs.Bytes.{u16};
 ghost use Rattle.voice.specs.Fields.{verdictOf};
-ghost use Rattle.lexicon.specs.Lexicon.{arcsAt, successorPart, lexiconVerdict};
+ghost use Rattle.lexicon.specs.Lexicon.{arcsAt, successorPart, lexiconRefusal, lexiconRefused};
 use crate::fields::Found;
 use crate::fields::arcs;
 use crate::fields::nodes;
@@ -63,10 +63,10 @@ pub fn successors(lexicon: &[u8], vertex: usize) -> &[u8]
     &lexicon[start..end]
 }
 
-// The verdict on any bytes as a lexicon of words in so many letters: the first field that is missing or out of its range decides, and bytes
-// after the last come last.
+// The verdict on any bytes as a lexicon of words in so many letters, well formed, or 4, or 5: the first field that is
+// missing or out of its range decides, and bytes after the last come last.
 pub fn judge(lexicon: &[u8], letters: usize) -> Verdict
-    ensures { λ r. ⌜ verdictOf r ≡ lexiconVerdict letters (now (lexicon .entry)) ⌝ }
+    ensures { λ r. ⌜ lexiconRefusal (verdictOf r) ≡ lexiconRefused letters (now (lexicon .entry)) ⌝ }
 {
     match nodes(lexicon, letters) {
         Found::Bad(v) => v,

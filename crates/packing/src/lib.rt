@@ -10,7 +10,7 @@ ghost use Rattle.call.specs.Limits.{badCode};
 ghost use Rattle.call.specs.Buffers.{zeroed};
 ghost use Rattle.packing.specs.Packing.{numberOf, toBits, packed, packedSize, unpacked, badPacked, packAnswer, packOut, unpackAnswer, unpackOut};
 ghost use Rattle.packing.specs.Width.{width, widthAnswer};
-ghost use Rattle.packing.specs.Offsets.{overlay, Begins, Small, Room, RightSize, Held};
+ghost use Rattle.packing.specs.Offsets.{overlay, CodeOffset, CodeLimits, PackedFits, RightSize, CodeInBytes};
 use crate::bits::code_at;
 use crate::bits::put_code;
 use call::Answer;
@@ -56,8 +56,8 @@ struct BitOffset {
 
 // Code i begins at bit i × b, in byte i × b / 8; nothing else here knows where codes begin.
 fn offset_of(i: usize, b: u32) -> BitOffset
-    requires { ⌜ Small i b ⌝ }
-    ensures { λ r. ⌜ Begins i b (r .byte) (r .bit) ⌝ }
+    requires { ⌜ CodeLimits i b ⌝ }
+    ensures { λ r. ⌜ CodeOffset i b (r .byte) (r .bit) ⌝ }
 {
     let at = i * (b as usize);
     BitOffset {
@@ -68,7 +68,7 @@ fn offset_of(i: usize, b: u32) -> BitOffset
 
 // n codes take n × b / 8 bytes, rounded up.
 fn packed_size(n: usize, b: u32) -> usize
-    requires { ⌜ Small n b ⌝ }
+    requires { ⌜ CodeLimits n b ⌝ }
     ensures { λ r. ⌜ r ≡ packedSize b n ⌝ }
 {
     (n * (b as usize) + 7) / 8
@@ -118,7 +118,7 @@ fn zero_first(out: &mut [u8], n: usize)
 
 // Packs codes that were judged.
 fn put_codes(out: &mut [u8], b: u32, codes: &[u32])
-    requires { ⌜ Room b (length (now codes)) (now out) ⌝ }
+    requires { ⌜ PackedFits b (length (now codes)) (now out) ⌝ }
     ensures { λ _. ⌜ now (out .exit) ≡ packed b (now (codes .entry)) ++ drop (packedSize b (length (now (codes .entry)))) (now (out .entry)) ⌝ }
 {
     zero_first(out, packed_size(codes.len(), b));
@@ -147,7 +147,7 @@ pub fn pack(words: u32, codes: &[u32], out: &mut [u8]) -> Answer
 
 // Row 14. The padding, from where code n would begin, is read as one number: it is 0 where all its bits are.
 fn is_bad_packed(n: usize, packed: &[u8], b: u32) -> bool
-    requires { ⌜ Small n b ⌝ }
+    requires { ⌜ CodeLimits n b ⌝ }
     ensures { λ r. ⌜ r ≡ badPacked b n (now (packed .entry)) ⌝ }
 {
     if packed.len() != packed_size(n, b) {
@@ -160,7 +160,7 @@ fn is_bad_packed(n: usize, packed: &[u8], b: u32) -> bool
 
 // Code i of those that the bytes hold.
 fn unpacked_code(packed: &[u8], i: usize, b: u32) -> u32
-    requires { ⌜ Held i b (now packed) ⌝ }
+    requires { ⌜ CodeInBytes i b (now packed) ⌝ }
     ensures { λ r. ⌜ r ≡ numberOf (take b (drop (i * b) (toBits (now (packed .entry))))) ⌝ }
 {
     let at = offset_of(i, b);

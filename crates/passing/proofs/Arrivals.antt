@@ -13,7 +13,8 @@ use Rattle.voice.specs.Voice.{loopScore, stepScore, linkScore, emission}
 use Rattle.graph.specs.Graph.{Graph, sink, increment}
 use Rattle.ranking.specs.Hits.{Hit}
 use Rattle.decoder.specs.Score.{possible, plus}
-use Rattle.passing.specs.Tokens.{Store, carried, downFrom, stateOf, lastState, heard, entryScore, finalScore, renewed, entering, enteringFrom, arrivals, ending, arrived}
+use Rattle.passing.specs.Tokens.{Store, carried, downFrom, stateOf, lastState, symbolScore, entryScore}
+use Rattle.passing.specs.Tokens.{finalScore, renewed, entering, enteringFrom, arrivals, ending, arrived}
 use Rattle.passing.proofs.Order.{_∈_}
 use Rattle.passing.proofs.Members.{down-in, down-out}
 use Rattle.passing.proofs.Moves.{Moved, moved-out, moved-in, carried-out, carried-in}
@@ -30,12 +31,12 @@ module _ (v : List ℕ) (g : Graph) (P : Store) (k : ℕ) where
         → Moved (linkScore v (g .letter w)) (emitted u 0) (increment g w u) (P w (lastState v g w)) h → Arrives u 0 h
 
   renewed-out : (u s : ℕ) {h : Hit} → h ∈ renewed v g P k u s → Arrives u s h
-  unfolding renewed heard
+  unfolding renewed symbolScore
   renewed-out u zero i = by-loop (moved-out _ _ 0 _ i)
   renewed-out u (suc s) i = ⊎-elim (λ j. by-loop (moved-out _ _ 0 _ j)) (λ j. by-step (moved-out _ _ 0 _ j)) (append-cases _ i)
 
   entering-out : (u s : ℕ) {h : Hit} → h ∈ enteringFrom v g (downFrom (g .nodes)) P k u s → Arrives u s h
-  unfolding enteringFrom entering entryScore heard sink
+  unfolding enteringFrom entering entryScore symbolScore sink
   entering-out u zero i =
       let f = of-flatMap (entering v g P k u) (downFrom (g .nodes)) i in
       let d = down-out (g .nodes) (f .1) in
@@ -48,12 +49,12 @@ module _ (v : List ℕ) (g : Graph) (P : Store) (k : ℕ) where
   arrivals-out u s i = ⊎-elim (renewed-out u s) (entering-out u s) (append-cases (renewed v g P k u s) i)
 
   loop-in : (u s : ℕ) {h : Hit} → Moved (loopScore v (stateOf v g u s)) (emitted u s) 0 (P u s) h → h ∈ renewed v g P k u s
-  unfolding renewed heard
+  unfolding renewed symbolScore
   loop-in u zero M = moved-in _ _ 0 _ M
   loop-in u (suc s) M = Memᴰ·append-left _ (moved-in _ _ 0 _ M)
 
   pub arrivals-in : {u s : ℕ} {h : Hit} → Arrives u s h → h ∈ arrivals v g P k u s
-  unfolding arrivals renewed heard enteringFrom entering entryScore sink
+  unfolding arrivals renewed symbolScore enteringFrom entering entryScore sink
   arrivals-in {u} (by-loop {s} M) = Memᴰ·append-left _ (loop-in u s M)
   arrivals-in {u} (by-step {s} M) =
       let stay = carried (plus (possible (loopScore v (stateOf v g u (suc s)))) (possible (emitted u (suc s)))) 0 (P u (suc s)) in

@@ -21,8 +21,8 @@ use Rattle.ranking.specs.Hits.{Hit, hit, _≻_}
 use Rattle.ranking.proofs.Hits.{hit-path, outranks-is}
 use Rattle.ranking.proofs.Ranked.{≻-asym}
 use Rattle.decoder.specs.Decoding.{pathScore, row, hits}
-use Rattle.decoder.proofs.Runs.{Run, Spoken}
-use Rattle.decoder.proofs.TrueScore.{UpTo, true-spoken, spoken-bound}
+use Rattle.decoder.proofs.Runs.{Run, WordRun}
+use Rattle.decoder.proofs.TrueScore.{UpTo, true-word-run, word-run-bound}
 use Rattle.decoder.proofs.Row.{row-in, row-out, row-sorted}
 use Rattle.passing.specs.Best.{byCode, rowOf}
 use Rattle.passing.specs.Tokens.{Store, lastState, arrived, tokens, decoded}
@@ -44,13 +44,13 @@ module _ (v : List ℕ) (k : ℕ) (frames : List ℕ) (l : ℕ) (ls : List ℕ) 
   last-at : {x : ℕ} {xs : List ℕ} → x ∷ xs ≡ onto (l ∷ ls) [] → length xs ≡ length ls
   last-at e = omega (arith, ap length e, length-onto (l ∷ ls) [])
 
-  spoken-run : (word : List ℕ) {a : ℤ} → word ≡ onto (l ∷ ls) [] → Spoken v word (k ∷ frames) a → WholeRun a
-  spoken-run [] e r = absurd r
-  spoken-run (x ∷ xs) e r = rw (last-at e, e, passed-onto l ls [], last-onto l ls []) at r
+  word-run-whole : (word : List ℕ) {a : ℤ} → word ≡ onto (l ∷ ls) [] → WordRun v word (k ∷ frames) a → WholeRun a
+  word-run-whole [] e r = absurd r
+  word-run-whole (x ∷ xs) e r = rw (last-at e, e, passed-onto l ls [], last-onto l ls []) at r
 
-  run-spoken : (word : List ℕ) {a : ℤ} → word ≡ onto (l ∷ ls) [] → WholeRun a → Spoken v word (k ∷ frames) a
-  run-spoken [] e r = absurd (omega (arith, ap length e, length-onto (l ∷ ls) []))
-  run-spoken (x ∷ xs) e r = rw (last-at e, e, passed-onto l ls [], last-onto l ls []) r
+  whole-word-run : (word : List ℕ) {a : ℤ} → word ≡ onto (l ∷ ls) [] → WholeRun a → WordRun v word (k ∷ frames) a
+  whole-word-run [] e r = absurd (omega (arith, ap length e, length-onto (l ∷ ls) []))
+  whole-word-run (x ∷ xs) e r = rw (last-at e, e, passed-onto l ls [], last-onto l ls []) r
 
 -- ---- the row is ranked: hits of one code are of one path, so they are one
 
@@ -92,8 +92,9 @@ module _ (v : List ℕ) {g : Graph} (ok : Sound g) (k : ℕ) (frames : List ℕ)
       let N = path-nodes ok (full-paths ok .0 (H .full)) in
       let u = N .node in
       let letters = ap (pathLetters g) (N .path) ∙ nodes-letters ok (N .chain) (N .below) in
-      let spoken = true-spoken v (pathLetters g (r .0)) (k ∷ frames) (H .is-score) in
-      let run = spoken-run v k frames (g .letter u) (map (g .letter) (N .earlier)) (pathLetters g (r .0)) letters spoken in
+      let word-run = true-word-run v (pathLetters g (r .0)) (k ∷ frames) (H .is-score) in
+      let run =
+      word-run-whole v k frames (g .letter u) (map (g .letter) (N .earlier)) (pathLetters g (r .0)) letters word-run in
       final-in v g whole (record {
         node = u;
         above = chain-above ok (N .chain);
@@ -126,8 +127,9 @@ module _ (v : List ℕ) {g : Graph} (ok : Sound g) (k : ℕ) (frames : List ℕ)
 
       highest : UpTo (pathScore v g path (k ∷ frames)) (was .score)
       highest =
-          spoken-bound v (pathLetters g path) (k ∷ frames)
-          (run-spoken v k frames (g .letter u) (map (g .letter) us) (pathLetters g path) (nodes-letters ok chain below) run)
+          word-run-bound v (pathLetters g path) (k ∷ frames)
+          (whole-word-run v k frames (g .letter u) (map (g .letter) us) (pathLetters g path)
+          (nodes-letters ok chain below) run)
 
       top : Hit
       top = hit (highest .0) (pathCode g path)
@@ -148,15 +150,18 @@ module _ (v : List ℕ) {g : Graph} (ok : Sound g) (k : ℕ) (frames : List ℕ)
 -- without frames there is no hit
 no-frames : (v : List ℕ) (g : Graph) → row v g [] ≡ []
 unfolding pathScore
-no-frames v g = nobody (row v g []) (λ h i. let H = row-out v g [] i .1 in silent (pathLetters g _) (h .score) (true-spoken v _ [] (H .is-score)))
+no-frames v g =
+    no-members (row v g [])
+    (λ h i. let H = row-out v g [] i .1 in no-word-run (pathLetters g _) (h .score)
+    (true-word-run v _ [] (H .is-score)))
   where
-    nobody : (l : List Hit) → ((h : Hit) → ¬ (h ∈ l)) → l ≡ []
-    nobody [] f = refl
-    nobody (h ∷ l) f = absurd (f h (here refl))
+    no-members : (l : List Hit) → ((h : Hit) → ¬ (h ∈ l)) → l ≡ []
+    no-members [] f = refl
+    no-members (h ∷ l) f = absurd (f h (here refl))
 
-    silent : (word : List ℕ) (a : ℤ) → ¬ Spoken v word [] a
-    silent [] a r = r
-    silent (l ∷ ls) a r = r
+    no-word-run : (word : List ℕ) (a : ℤ) → ¬ WordRun v word [] a
+    no-word-run [] a r = r
+    no-word-run (l ∷ ls) a r = r
 
 -- for the graph of every well-formed lexicon (graph/proofs/Sound.antt, sound), any voice model, any frames and any n
 pub decoded-hits : (v : List ℕ) {g : Graph} → Sound g → (frames : List ℕ) (n : ℕ) → decoded v g frames n ≡ hits v g frames n

@@ -55,7 +55,7 @@ plus-out none p e = absurd (some≢none e refl)
 plus-out (some a) none e = absurd (some≢none e refl)
 plus-out (some a) (some b) e = (a, b, refl, refl, cc)
 
--- over a move of score m, where e is heard
+-- over a move of score m, to an emission e
 pub record Moved (m e : ℤ) (d : ℕ) (l : List Hit) (c : Hit) : Type 0 where
   pub was : Hit
   pub listed : was ∈ l
@@ -71,7 +71,13 @@ moved-out m e d l i =
     record {
       was = C .was;
       listed = C .listed;
-      adds = record { moved = a .0; heard = b .0; total = C .score ∙ ap (λ k. C .was .score +ℤ k) (p .4 ∙ ap₂ (λ x y. x +ℤ y) (a .1) (b .1)) };
+      adds =
+          record {
+            moved = a .0;
+            emitted = b .0;
+            total = C .score ∙ ap (λ k. C .was .score +ℤ k)
+                (p .4 ∙ ap₂ (λ x y. x +ℤ y) (a .1) (b .1));
+          };
       code = C .code;
     }
 
@@ -81,12 +87,12 @@ moved-in m e d l M = carried-in (plus (possible m) (possible e)) d l (record {
   was = M .was;
   listed = M .listed;
   gain = m +ℤ e;
-  scores = rw (possible-in (M .adds .moved), possible-in (M .adds .heard));
+  scores = rw (possible-in (M .adds .moved), possible-in (M .adds .emitted));
   score = M .adds .total;
   code = M .code;
 })
 
--- the root's token over an arc of score 0, where e is heard
+-- the root's token over an arc of score 0, to an emission e
 pub root-out : (e : ℤ) (d : ℕ) {c : Hit} → c ∈ carried (plus (some (pos 0)) (possible e)) d (hit (pos 0) 0 ∷ [])
     → (eqZ e impossible ≡ false) × (c .score ≡ e) × (c .code ≡ d)
 root-out e d {c} i =

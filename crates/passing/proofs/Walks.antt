@@ -15,7 +15,7 @@ use Rattle.graph.specs.Graph.{Graph, increment}
 use Rattle.graph.proofs.Sound.{Sound}
 use Rattle.ranking.specs.Hits.{Hit, hit}
 use Rattle.decoder.proofs.Runs.{Run, begin, loop, step, link, latest, some-letter}
-use Rattle.passing.specs.Tokens.{stateOf, lastState, heard, initialScore, begun}
+use Rattle.passing.specs.Tokens.{stateOf, lastState, symbolScore, initialScore, begun}
 use Rattle.passing.proofs.Order.{_∈_}
 use Rattle.passing.proofs.Chains.{Chain, first, next, chain-above}
 use Rattle.passing.proofs.Uncut.{paths}
@@ -34,7 +34,7 @@ module _ (v : List ℕ) (g : Graph) (frames : List ℕ) where
   opening u = emission v (firstState v (g .letter u) + 0) (getD frames 0 0)
 
   begun-out : (u s : ℕ) {h : Hit} → h ∈ begun v g (getD frames 0 0) u s → Reached 0 u s h
-  unfolding begun initialScore heard stateOf
+  unfolding begun initialScore symbolScore stateOf
   begun-out u zero i =
       let w = when-out (has u (g .successors 0)) _ i in
       let r = root-out (opening u) (increment g 0 u) (w .1) in
@@ -68,7 +68,7 @@ module _ (v : List ℕ) (g : Graph) (frames : List ℕ) where
 
   pub path-in : Sound g → {t s c : ℕ} {ls us : List ℕ} {a : ℤ} → Run v frames t ls s a → Chain g us c → ls ≡ map (g .letter) us
       → hit a c ∈ paths v g frames t (latest us) s
-  unfolding paths begun initialScore heard stateOf lastState
+  unfolding paths begun initialScore symbolScore stateOf lastState
   path-in ok (begin {l} {a} h e) (first {u} m n) q =
       let z : l ≡ g .letter u = cc in
       let f : a ≡ opening u = rw z at e in

@@ -45,8 +45,8 @@ module _ (v : List ℕ) (g : Graph) where
   lastState u = states v (g .letter u) - 1
 
   -- what symbol k scores at a place
-  unfoldable pub heard : ℕ → ℕ → ℕ → Option ℤ
-  heard k u s = possible (emission v (stateOf u s) k)
+  unfoldable pub symbolScore : ℕ → ℕ → ℕ → Option ℤ
+  symbolScore k u s = possible (emission v (stateOf u s) k)
 
   -- what an arc scores: from the root to node u; from node w to node u, the link; from node w to the sink
   unfoldable pub initialScore : ℕ → Option ℤ
@@ -62,7 +62,7 @@ module _ (v : List ℕ) (g : Graph) where
 
   -- tokens of vertex w in the first state of node u, over an arc of that score
   abbrev pub overArc : ℕ → Option ℤ → ℕ → ℕ → List Hit → List Hit
-  overArc k score w u l = carried (plus score (heard k u 0)) (increment g w u) l
+  overArc k score w u l = carried (plus score (symbolScore k u 0)) (increment g w u) l
 
   -- from the root, at the first frame: a token of score 0 and code 0
   unfoldable pub begun : ℕ → Store
@@ -71,10 +71,10 @@ module _ (v : List ℕ) (g : Graph) where
 
   -- from the node itself: by loop, and by step from the state before
   unfoldable pub renewed : Store → ℕ → Store
-  renewed P k u zero = carried (plus (possible (loopScore v (stateOf u 0))) (heard k u 0)) 0 (P u 0)
+  renewed P k u zero = carried (plus (possible (loopScore v (stateOf u 0))) (symbolScore k u 0)) 0 (P u 0)
   renewed P k u (suc s) =
-      carried (plus (possible (loopScore v (stateOf u (suc s)))) (heard k u (suc s))) 0 (P u (suc s))
-      ++ carried (plus (possible (stepScore v (stateOf u s))) (heard k u (suc s))) 0 (P u s)
+      carried (plus (possible (loopScore v (stateOf u (suc s)))) (symbolScore k u (suc s))) 0 (P u (suc s))
+      ++ carried (plus (possible (stepScore v (stateOf u s))) (symbolScore k u (suc s))) 0 (P u s)
 
   -- from the last state of node w to the first of node u, if an arc leads there
   unfoldable pub entering : Store → ℕ → ℕ → ℕ → List Hit

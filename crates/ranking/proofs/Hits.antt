@@ -44,7 +44,7 @@ pub hit-path : {a b : Hit} → a .score ≡ b .score → a .code ≡ b .code →
 hit-path p q = λ i. record { score = p i; code = q i }
 
 -- within what i32 and u32 hold
-pub record Storable (h : Hit) : Type 0 where
+pub record Writable (h : Hit) : Type 0 where
   pub score : mag (h .score) < 2 ^ 31
   pub code : h .code < 2 ^ 32
 
@@ -53,7 +53,7 @@ unfolding hitBytes flatMap i32Bytes u32Bytes
 length-hitBytes [] = refl
 length-hitBytes (h ∷ hs) = omega (arith, length-hitBytes hs)
 
-hits-behind : (before : List ℕ) (hs : List Hit) (after : List ℕ) → ((h : Hit) → List·Memᴰ h hs → Storable h)
+hits-behind : (before : List ℕ) (hs : List Hit) (after : List ℕ) → ((h : Hit) → List·Memᴰ h hs → Writable h)
     → hitsAt (before ++ hitBytes hs ++ after) (length before) (length hs) ≡ hs
 unfolding hitsAt hitBytes flatMap i32Bytes u32Bytes
 hits-behind before [] after f = refl
@@ -74,7 +74,7 @@ hits-behind before (h ∷ hs) after f =
     rest : List ℕ
     rest = hitBytes hs ++ after
 
-pub hits-written : (hs : List Hit) (after : List ℕ) → ((h : Hit) → List·Memᴰ h hs → Storable h)
+pub hits-written : (hs : List Hit) (after : List ℕ) → ((h : Hit) → List·Memᴰ h hs → Writable h)
     → hitsRead (hitBytes hs ++ after) (length hs) ≡ hs
 unfolding hitsRead
 hits-written hs after f = hits-behind [] hs after f

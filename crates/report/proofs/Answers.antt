@@ -23,14 +23,14 @@ use Rattle.ranking.specs.Mean.{mean, meanAnswer}
 use Rattle.ranking.specs.Hits.{hit}
 use Rattle.codes.specs.Lookup.{codeToWordRows, codeToWordAnswer, codeToWordOut}
 use Rattle.codes.proofs.Words.{word-short}
-use Rattle.report.specs.Lines.{Ready}
-use Rattle.report.specs.Put.{Put}
+use Rattle.report.specs.Lines.{AcceptedArguments}
+use Rattle.report.specs.Text.{TextPut}
 use Rattle.report.specs.Report.{decimal, signedDecimal, hitLine}
 
 pub no-refusal : {A : Type 0} {a : A} {r : Refusal} → value a ≡ refused r → ⊥
 no-refusal e = let z : _≡_ {A = ℕ} 0 1 = cc in omega arith
 
-module _ {v x : List ℕ} {T : ℕ} {work : List ℕ} (r : Ready v x T work) where
+module _ {v x : List ℕ} {T : ℕ} {work : List ℕ} (r : AcceptedArguments v x T work) where
   first-passed : noneApplies (firstRows v x work) ≡ true
   unfolding firstRows spaceRows
   first-passed = none-join (spaceRows work) (imageRows v x) (passed-none (spaceRows work) (le-ltb (length work) workSpace (r .space), tt)) (r .images)
@@ -71,5 +71,5 @@ pub line-is : (v x : List ℕ) (T : ℕ) (score : ℤ) (code : ℕ) {s m : ℤ} 
 unfolding hitLine
 line-is v x T score code e f g = rw (e, f, g)
 
-pub put-same : {a b : List ℕ} {at e : ℕ} {o o′ : List ℕ} → a ≡ b → Put a at o o′ e → Put b at o o′ e
+pub put-same : {a b : List ℕ} {at e : ℕ} {o o′ : List ℕ} → a ≡ b → TextPut a at o o′ e → TextPut b at o o′ e
 put-same s p = rw s at p

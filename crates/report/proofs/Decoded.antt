@@ -24,7 +24,7 @@ use Rattle.ranking.specs.Hits.{Hit, hitsRead}
 use Rattle.decoder.specs.Decoding.{row, hits, frameRows, decodeRows, decodeAnswer, decodeOut}
 use Rattle.decoder.specs.Demand.{decodedList}
 use Rattle.decoder.proofs.Listed.{is-row, answered, decoded-first}
-use Rattle.report.specs.Lines.{Ready, Listed, lentAnswer}
+use Rattle.report.specs.Lines.{AcceptedArguments, HoldsHits, lentAnswer}
 use Rattle.report.specs.Report.{decimal, refusedText, firstLine, hitLine, reported}
 
 module _ (v x frames : List ℕ) (n : ℕ) where
@@ -66,8 +66,14 @@ module _ (v x frames : List ℕ) (n : ℕ) where
     pub frames-few : length frames ≤ 1000
     frames-few = answered v x frames work out n k e .short
 
-    pub ready : {work′ : List ℕ} → workSpace ≤ length work′ → Ready v x (length frames) work′
-    ready h = record { images = answered v x frames work out n k e .images; some-frames = frames-some; few-frames = frames-few; space = h }
+    pub accepted-arguments : {work′ : List ℕ} → workSpace ≤ length work′ → AcceptedArguments v x (length frames) work′
+    accepted-arguments h =
+        record {
+          images = answered v x frames work out n k e .images;
+          some-frames = frames-some;
+          few-frames = frames-few;
+          space = h;
+        }
 
     module _ {list : List ℕ} (f : list ≡ decodeOut v x frames n work out) where
       pub hits-are : hitsRead list k ≡ hits v (graphOf x) frames n
@@ -80,9 +86,9 @@ module _ (v x frames : List ℕ) (n : ℕ) where
           let a = answered v x frames work out n k e in
           omega (arith, a .counted, a .few-wanted, length-take n (row v (graphOf x) frames))
 
-      pub listed : length list ≡ 64 → Listed x list k
+      pub holds-hits : length list ≡ 64 → HoldsHits x list k
       unfolding hits
-      listed h = record {
+      holds-hits h = record {
         whole = omega (arith, few-hits);
         few = few-hits;
         named = λ h m.

@@ -24,8 +24,8 @@ use Rattle.graph.proofs.Accepted.{accepted}
 use Rattle.ranking.specs.Mean.{mean, floorQuotient}
 use Rattle.ranking.specs.Hits.{Hit, hit, hitsAt, hitsRead}
 use Rattle.codes.proofs.Words.{word-short}
-use Rattle.report.specs.Lines.{Ready, Listed}
-use Rattle.report.specs.Put.{Put}
+use Rattle.report.specs.Lines.{AcceptedArguments, HoldsHits}
+use Rattle.report.specs.Text.{TextPut}
 use Rattle.report.specs.Report.{hitLine}
 use Rattle.report.proofs.Putting.{put-none, put-more}
 use Rattle.report.proofs.Digits.{decimal-short, signed-short}
@@ -110,10 +110,11 @@ pub record Lined (v x : List ℕ) (T : ℕ) (list : List ℕ) (k : ℕ) (work₀
   pub work-long : length work ≡ length work₀
   pub out-long : length out ≡ length out₀
   pub few-bytes : end ≤ at + 68 * i
-  pub lines : Put (flatMap (hitLine v (graphOf x) T) (hitsRead list i)) at out₀ out end
+  pub lines : TextPut (flatMap (hitLine v (graphOf x) T) (hitsRead list i)) at out₀ out end
 
 -- each of them names a word
-pub hit-named : {x list : List ℕ} {k : ℕ} → Listed x list k → (i : ℕ) → i < k → u32 list (8 * i + 4) < wordCount (graphOf x)
+pub hit-named : {x list : List ℕ} {k : ℕ} → HoldsHits x list k → (i : ℕ) → i < k
+    → u32 list (8 * i + 4) < wordCount (graphOf x)
 unfolding hitsRead
 hit-named {list = list} {k} l i h =
     let e : 0 + 8 * i ≡ 8 * i = omega arith in
@@ -124,17 +125,18 @@ module _ {v x : List ℕ} {T : ℕ} {list : List ℕ} {k : ℕ} {work₀ out₀ 
   unfolding hitsRead hitsAt flatMap
   lines-start = record { inside = omega arith; work-long = refl; out-long = refl; few-bytes = omega arith; lines = put-none at out₀ }
 
-  module _ {work out : List ℕ} {end i : ℕ} (r : Ready v x T work₀) (l : Listed x list k) (room : at ≤ length out₀)
-      (p : Lined v x T list k work₀ out₀ at work out end i) where
-    pub still-ready : Ready v x T work
-    still-ready =
+  module _ {work out : List ℕ} {end i : ℕ} (r : AcceptedArguments v x T work₀) (l : HoldsHits x list k)
+      (room : at ≤ length out₀) (p : Lined v x T list k work₀ out₀ at work out end i) where
+    pub still-accepted : AcceptedArguments v x T work
+    still-accepted =
         record { images = r .images; some-frames = r .some-frames; few-frames = r .few-frames; space = omega (arith, r .space, p .work-long) }
 
     pub lines-next : {work′ out′ : List ℕ} {end′ : ℕ} {score : ℤ} {code : ℕ} → i < k → score ≡ i32 list (8 * i) → code ≡ u32 list (8 * i + 4)
-        → length work′ ≡ length work → length out′ ≡ length out → Put (hitLine v (graphOf x) T (hit score code)) end out out′ end′
+        → length work′ ≡ length work → length out′ ≡ length out
+        → TextPut (hitLine v (graphOf x) T (hit score code)) end out out′ end′
         → Lined v x T list k work₀ out₀ at work′ out′ end′ (i + 1)
     lines-next {out′ = out′} {end′} h s c w o q =
-        let one : Put (hitLine v (graphOf x) T (oneAt list (8 * i))) end out out′ end′ = rw (s, c) at q in
+        let one : TextPut (hitLine v (graphOf x) T (oneAt list (8 * i))) end out out′ end′ = rw (s, c) at q in
         let short = line-short v x T (oneAt list (8 * i)) (r .images) (hit-named l i h) (i32-range list (8 * i)) in
         record {
           inside = omega arith;
@@ -144,5 +146,5 @@ module _ {v x : List ℕ} {T : ℕ} {list : List ℕ} {k : ℕ} {work₀ out₀ 
           lines = rw (lines-more (hitLine v (graphOf x) T) list i) (put-more room (p .lines) one);
         }
 
-    pub lines-end : k ≤ i → Put (flatMap (hitLine v (graphOf x) T) (hitsRead list k)) at out₀ out end
+    pub lines-end : k ≤ i → TextPut (flatMap (hitLine v (graphOf x) T) (hitsRead list k)) at out₀ out end
     lines-end h = let e : i ≡ k = omega (arith, p .inside) in rw e at (p .lines)

@@ -8,3 +8,4 @@ pub mod Counts
 pub mod Decoded
 pub mod Paging
 pub mod Theorems
+pub mod Arcs

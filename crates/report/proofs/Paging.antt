@@ -9,7 +9,7 @@ use Rattle.endian.specs.Bytes.{u8}
 use Rattle.graph.specs.Graph.{graphOf}
 use Rattle.report.specs.Lines.{lentAnswer}
 use Rattle.report.specs.Page.{blankPage, Shows}
-use Rattle.report.specs.Put.{Put}
+use Rattle.report.specs.Text.{TextPut}
 use Rattle.report.specs.Report.{imageIn, afterImage, voiceIn, lexiconIn, countIn, framesIn, reported, report}
 
 pub report-is : (input : List ℕ)
@@ -25,22 +25,27 @@ drop-replicate zero m a = let e : m - 0 ≡ m = omega arith in rw e
 drop-replicate (suc n) zero a = let e : 0 - suc n ≡ 0 = omega arith in rw e
 drop-replicate (suc n) (suc m) a = let e : suc m - suc n ≡ m - n = omega arith in rw e (drop-replicate n m a)
 
-pub put-shows : {text bytes : List ℕ} {end : ℕ} → Put text 0 blankPage bytes end → Shows text bytes end
+pub put-shows : (size : ℕ) {text bytes : List ℕ} {end : ℕ} → TextPut text 0 (blankPage size) bytes end
+    → Shows size text bytes end
 unfolding blankPage
-put-shows {text} p =
-    record { ends = omega (arith, p .ends); shows = p .puts ∙ ap (λ (l : List ℕ). text ++ l) (rw zero-add (drop-replicate (length text) 640 0)) }
+put-shows size {text} p = record {
+  ends = omega (arith, p .ends);
+  shows = p .puts ∙ ap (λ (l : List ℕ). text ++ l) (rw zero-add (drop-replicate (length text) size 0));
+}
 
 -- what is printed lies in the page
-pub shown-within : {text bytes : List ℕ} {end : ℕ} → Shows text bytes end → end ≤ length bytes
-shown-within {text} s = omega (arith, s .ends, ap length (s .shows), length-append text (replicate {A = ℕ} (640 - length text) 0))
+pub shown-within : {size : ℕ} {text bytes : List ℕ} {end : ℕ} → Shows size text bytes end → end ≤ length bytes
+shown-within {size} {text} s =
+    omega (arith, s .ends, ap length (s .shows), length-append text (replicate {A = ℕ} (size - length text) 0))
 
 -- the code's cuts, its answer, and its page
 pub report-shown : (input : List ℕ) {v after x rest frames : List ℕ} {n : ℕ} {blank bytes : List ℕ} {end : ℕ}
     → v ≡ imageIn input → after ≡ afterImage input → x ≡ imageIn after → rest ≡ afterImage after → n ≡ u8 rest 0 → frames ≡ drop 1 rest
-    → blank ≡ blankPage
-    → Put (reported v (graphOf x) frames n (lentAnswer v x frames n)) 0 blank bytes end → Shows (report input) bytes end
+    → blank ≡ blankPage 640
+    → TextPut (reported v (graphOf x) frames n (lentAnswer v x frames n)) 0 blank bytes end
+    → Shows 640 (report input) bytes end
 unfolding voiceIn lexiconIn countIn framesIn
 report-shown input {rest = rest} {n} a b c d e f g p =
     let whole : rest ≡ afterImage (afterImage input) = d ∙ ap afterImage b in
     let count : n ≡ getD (afterImage (afterImage input)) 0 0 = e ∙ ap (λ (l : List ℕ). getD l 0 0) whole in
-    rw (report-is input) (put-shows (rw (a, c ∙ ap imageIn b, count, f ∙ ap (drop 1) whole, g) at p))
+    rw (report-is input) (put-shows 640 (rw (a, c ∙ ap imageIn b, count, f ∙ ap (drop 1) whole, g) at p))

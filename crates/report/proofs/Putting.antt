@@ -5,18 +5,19 @@ use mathlib.Core.List.{List, [], _∷_, _++_, append-assoc}
 use native.Mathlib.Omega.{arith}
 use lib.ListN.{length, take, drop, set, length-append}
 use lib.Seq.{length-take-le, take-length, take-at, drop-append-add, drop-drop, sets-eq, paste, paste-zero}
-use Rattle.report.specs.Put.{Put}
+use Rattle.report.specs.Text.{TextPut}
 
 -- no text
-pub put-none : (at : ℕ) (o : List ℕ) → Put [] at o o at
+pub put-none : (at : ℕ) (o : List ℕ) → TextPut [] at o o at
 put-none at o = record { ends = omega arith; puts = paste-zero o at [] }
 
 -- a byte
-pub put-one : (x at : ℕ) (o : List ℕ) → at + 1 ≤ length o → Put (x ∷ []) at o (set o at x) (at + 1)
+pub put-one : (x at : ℕ) (o : List ℕ) → at + 1 ≤ length o → TextPut (x ∷ []) at o (set o at x) (at + 1)
 put-one x at o h = record { ends = refl; puts = sets-eq (x ∷ []) o at h }
 
 -- a text that is copied whole
-pub put-copied : (text : List ℕ) (at i : ℕ) (o o′ : List ℕ) → i ≡ length text → o′ ≡ paste o at text i → Put text at o o′ (at + i)
+pub put-copied : (text : List ℕ) (at i : ℕ) (o o′ : List ℕ) → i ≡ length text → o′ ≡ paste o at text i
+    → TextPut text at o o′ (at + i)
 put-copied text at i o o′ e p = record {
   ends = ap (λ (k : ℕ). at + k) e;
   puts = p ∙ ap (λ (k : ℕ). paste o at text k) e ∙ ap (λ (t : List ℕ). take at o ++ t ++ drop (at + length text) o) (take-length text);
@@ -24,7 +25,7 @@ put-copied text at i o o′ e p = record {
 
 module _ {a b : List ℕ} {at m e : ℕ} {o o₁ o₂ : List ℕ} where
   -- a text behind a text
-  pub put-more : at ≤ length o → Put a at o o₁ m → Put b m o₁ o₂ e → Put (a ++ b) at o o₂ e
+  pub put-more : at ≤ length o → TextPut a at o o₁ m → TextPut b m o₁ o₂ e → TextPut (a ++ b) at o o₂ e
   put-more h p q =
       let front = take at o ++ a in
       let rest = drop (at + length a) o in
@@ -42,6 +43,7 @@ module _ {a b : List ℕ} {at m e : ℕ} {o o₁ o₂ : List ℕ} where
       }
 
 -- two texts behind a text
-pub put-pair : (b d : List ℕ) {a : List ℕ} {at m e : ℕ} {o o₁ o₂ : List ℕ} → at ≤ length o → Put a at o o₁ m → Put (b ++ d) m o₁ o₂ e
-    → Put (a ++ b ++ d) at o o₂ e
+pub put-pair : (b d : List ℕ) {a : List ℕ} {at m e : ℕ} {o o₁ o₂ : List ℕ} → at ≤ length o → TextPut a at o o₁ m
+    → TextPut (b ++ d) m o₁ o₂ e
+    → TextPut (a ++ b ++ d) at o o₂ e
 put-pair b d {a} h p q = rw (append-assoc a b d) (put-more h p q)

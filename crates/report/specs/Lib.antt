@@ -1,5 +1,6 @@
 pub mod Report
-pub mod Put
+pub mod Text
 pub mod Lines
 pub mod Page
 pub mod Theorems
+pub mod Arcs

@@ -15,14 +15,14 @@ unfoldable pub lentAnswer : List ℕ → List ℕ → List ℕ → ℕ → Answe
 lentAnswer v x frames n = decodeAnswer v x frames n (replicate workSpace 0) (replicate 64 0)
 
 -- accepted images, a mean over T frames, and a work space
-pub record Ready (v x : List ℕ) (T : ℕ) (work : List ℕ) : Type 0 where
+pub record AcceptedArguments (v x : List ℕ) (T : ℕ) (work : List ℕ) : Type 0 where
   pub images : Accepted v x
   pub some-frames : 1 ≤ T
   pub few-frames : T ≤ 1000
   pub space : workSpace ≤ length work
 
 -- the bytes hold k hits, and each names a word
-pub record Listed (x list : List ℕ) (k : ℕ) : Type 0 where
+pub record HoldsHits (x list : List ℕ) (k : ℕ) : Type 0 where
   pub whole : 8 * k ≤ length list
   pub few : k ≤ 8
   pub named : (h : Hit) → List·Memᴰ h (hitsRead list k) → h .code < wordCount (graphOf x)

@@ -1,4 +1,4 @@
-// The program hits as a function on slices: what it reads, and the bytes that it prints.
+// The programs hits and arcs as functions on slices: what they read, and the bytes that they print.
 ghost use mathlib.Core.Path.{_≡_};
 ghost use mathlib.Core.List.{_++_, flatMap};
 ghost use Prim.Native.Nat.{_≤_};
@@ -6,9 +6,10 @@ ghost use lib.ListN.{length};
 ghost use Rattle.call.specs.Limits.{workSpace};
 ghost use Rattle.graph.specs.Graph.{graphOf, wordCount};
 ghost use Rattle.ranking.specs.Hits.{hitsRead};
-ghost use Rattle.report.specs.Lines.{Ready, Listed, lentAnswer};
+ghost use Rattle.report.specs.Arcs.{arcsText};
+ghost use Rattle.report.specs.Lines.{AcceptedArguments, HoldsHits, lentAnswer};
 ghost use Rattle.report.specs.Page.{blankPage, Shows};
-ghost use Rattle.report.specs.Put.{Put};
+ghost use Rattle.report.specs.Text.{TextPut};
 ghost use Rattle.report.specs.Report.{firstLine, hitLine, reported, report};
 use crate::input::after_image;
 use crate::input::count;
@@ -16,6 +17,7 @@ use crate::input::image;
 use crate::lines::put_lines;
 use crate::text::put_first_line;
 use crate::text::put_refusal;
+use crate::vertices::put_arcs;
 use call::Answer;
 use checking::check;
 use decoding::decode;
@@ -24,8 +26,9 @@ use packing::width;
 mod input;
 mod lines;
 mod text;
+mod vertices;
 
-// What the program prints, and how many bytes of it there are.
+// What hits prints, and how many bytes of it there are.
 pub struct Page {
     pub text: [u8; 640],
     pub length: usize,
@@ -33,7 +36,7 @@ pub struct Page {
 
 // A page with nothing on it.
 fn blank_page() -> [u8; 640]
-    ensures { λ r. ⌜ r ≡ blankPage ⌝ }
+    ensures { λ r. ⌜ r ≡ blankPage 640 ⌝ }
 {
     [0; 640]
 }
@@ -55,10 +58,16 @@ fn put_list(
     work: &mut [u8],
     out: &mut [u8],
 ) -> usize
-    requires { ⌜ Ready (now voice) (now lexicon) frames (now work) ⌝ }
-    requires { ⌜ Listed (now lexicon) (now list) k ⌝ }
+    requires { ⌜ AcceptedArguments (now voice) (now lexicon) frames (now work) ⌝ }
+    requires { ⌜ HoldsHits (now lexicon) (now list) k ⌝ }
     requires { ⌜ 593 ≤ length (now out) ⌝ }
-    ensures { λ r. ⌜ Put (firstLine k (wordCount (graphOf (now (lexicon .entry)))) ++ flatMap (hitLine (now (voice .entry)) (graphOf (now (lexicon .entry))) frames) (hitsRead (now (list .entry)) k)) 0 (now (out .entry)) (now (out .exit)) r ⌝ }
+    ensures { λ r. ⌜
+        TextPut
+        (firstLine k (wordCount (graphOf (now (lexicon .entry))))
+        ++ flatMap (hitLine (now (voice .entry)) (graphOf (now (lexicon .entry))) frames)
+        (hitsRead (now (list .entry)) k)) 0
+        (now (out .entry)) (now (out .exit)) r
+        ⌝ }
 {
     let checked = check(voice, lexicon, work);
     let Answer::Value(words) = checked else {
@@ -75,7 +84,12 @@ fn put_list(
 // Decodes, with room for 8 hits, and puts what is printed for the answer.
 fn put_report(voice: &[u8], lexicon: &[u8], frames: &[u8], n: u32, out: &mut [u8]) -> usize
     requires { ⌜ 593 ≤ length (now out) ⌝ }
-    ensures { λ r. ⌜ Put (reported (now (voice .entry)) (graphOf (now (lexicon .entry))) (now (frames .entry)) n (lentAnswer (now (voice .entry)) (now (lexicon .entry)) (now (frames .entry)) n)) 0 (now (out .entry)) (now (out .exit)) r ⌝ }
+    ensures { λ r. ⌜
+        TextPut
+        (reported (now (voice .entry)) (graphOf (now (lexicon .entry))) (now (frames .entry)) n
+        (lentAnswer (now (voice .entry)) (now (lexicon .entry)) (now (frames .entry)) n)) 0
+        (now (out .entry)) (now (out .exit)) r
+        ⌝ }
 {
     let mut work = work_space();
     let mut list = [0u8; 64];
@@ -96,7 +110,7 @@ fn put_report(voice: &[u8], lexicon: &[u8], frames: &[u8], n: u32, out: &mut [u8
 
 // The whole program on slices: cuts the input, decodes, and prints.
 pub fn report(input: &[u8]) -> Page
-    ensures { λ r. ⌜ Shows (report (now (input .entry))) (r .text) (r .length) ⌝ }
+    ensures { λ r. ⌜ Shows 640 (report (now (input .entry))) (r .text) (r .length) ⌝ }
 {
     let voice = image(input);
     let after_voice = after_image(input);
@@ -107,4 +121,26 @@ pub fn report(input: &[u8]) -> Page
     let mut text = blank_page();
     let length = put_report(voice, lexicon, frames, n, &mut text);
     Page { text, length }
+}
+
+// What arcs prints, and how many bytes of it there are.
+pub struct ArcsPage {
+    pub text: [u8; 60000],
+    pub length: usize,
+}
+
+// A page with nothing on it.
+fn blank_arcs() -> [u8; 60000]
+    ensures { λ r. ⌜ r ≡ blankPage 60000 ⌝ }
+{
+    [0; 60000]
+}
+
+// The whole program arcs: the lines of a lexicon image.
+pub fn arcs_page(lexicon: &[u8]) -> ArcsPage
+    ensures { λ r. ⌜ Shows 60000 (arcsText (now (lexicon .entry))) (r .text) (r .length) ⌝ }
+{
+    let mut text = blank_arcs();
+    let length = put_arcs(lexicon, &mut text);
+    ArcsPage { text, length }
 }

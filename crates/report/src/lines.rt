@@ -6,8 +6,8 @@ ghost use lib.ListN.{length};
 ghost use Rattle.endian.specs.Bytes.{i32, u32};
 ghost use Rattle.graph.specs.Graph.{graphOf, wordCount};
 ghost use Rattle.ranking.specs.Hits.{hit, hitsRead};
-ghost use Rattle.report.specs.Lines.{Ready, Listed};
-ghost use Rattle.report.specs.Put.{Put};
+ghost use Rattle.report.specs.Lines.{AcceptedArguments, HoldsHits};
+ghost use Rattle.report.specs.Text.{TextPut};
 ghost use Rattle.report.specs.Report.{hitLine};
 use crate::text::put_hit_line;
 use call::Answer;
@@ -43,10 +43,13 @@ fn put_hit(
     out: &mut [u8],
     at: usize,
 ) -> usize
-    requires { ⌜ Ready (now voice) (now lexicon) frames (now work) ⌝ }
+    requires { ⌜ AcceptedArguments (now voice) (now lexicon) frames (now work) ⌝ }
     requires { ⌜ code < wordCount (graphOf (now lexicon)) ⌝ }
     requires { ⌜ at + 68 ≤ length (now out) ⌝ }
-    ensures { λ r. ⌜ Put (hitLine (now (voice .entry)) (graphOf (now (lexicon .entry))) frames (hit score code)) at (now (out .entry)) (now (out .exit)) r ⌝ }
+    ensures { λ r. ⌜
+        TextPut (hitLine (now (voice .entry)) (graphOf (now (lexicon .entry))) frames (hit score code)) at
+        (now (out .entry)) (now (out .exit)) r
+        ⌝ }
 {
     let mut word = [0u8; 32];
     let spelled = code_to_word(voice, lexicon, code, work, &mut word);
@@ -72,10 +75,15 @@ pub(crate) fn put_lines(
     out: &mut [u8],
     at: usize,
 ) -> usize
-    requires { ⌜ Ready (now voice) (now lexicon) frames (now work) ⌝ }
-    requires { ⌜ Listed (now lexicon) (now list) k ⌝ }
+    requires { ⌜ AcceptedArguments (now voice) (now lexicon) frames (now work) ⌝ }
+    requires { ⌜ HoldsHits (now lexicon) (now list) k ⌝ }
     requires { ⌜ at + 68 * k ≤ length (now out) ⌝ }
-    ensures { λ r. ⌜ Put (flatMap (hitLine (now (voice .entry)) (graphOf (now (lexicon .entry))) frames) (hitsRead (now (list .entry)) k)) at (now (out .entry)) (now (out .exit)) r ⌝ }
+    ensures { λ r. ⌜
+        TextPut
+        (flatMap (hitLine (now (voice .entry)) (graphOf (now (lexicon .entry))) frames)
+        (hitsRead (now (list .entry)) k)) at
+        (now (out .entry)) (now (out .exit)) r
+        ⌝ }
 {
     let mut end = at;
     let mut i = 0;

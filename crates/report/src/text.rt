@@ -5,12 +5,12 @@ ghost use Prim.Native.Nat.{_+_, _≤_};
 ghost use lib.ListN.{length};
 ghost use Rattle.packing.specs.Width.{width};
 ghost use Rattle.report.specs.Report.{digitsOf, decimal, signedDecimal, firstLine, refusedText};
-ghost use Rattle.report.specs.Put.{Put};
+ghost use Rattle.report.specs.Text.{TextPut};
 
 // Puts bytes.
 pub(crate) fn put_bytes(text: &[u8], out: &mut [u8], at: usize) -> usize
     requires { ⌜ at + length (now text) ≤ length (now out) ⌝ }
-    ensures { λ r. ⌜ Put (now (text .entry)) at (now (out .entry)) (now (out .exit)) r ⌝ }
+    ensures { λ r. ⌜ TextPut (now (text .entry)) at (now (out .entry)) (now (out .exit)) r ⌝ }
 {
     let mut i = 0;
     while i < text.len() {
@@ -21,9 +21,9 @@ pub(crate) fn put_bytes(text: &[u8], out: &mut [u8], at: usize) -> usize
 }
 
 // Puts one byte.
-fn put_byte(byte: u8, out: &mut [u8], at: usize) -> usize
+pub(crate) fn put_byte(byte: u8, out: &mut [u8], at: usize) -> usize
     requires { ⌜ at + 1 ≤ length (now out) ⌝ }
-    ensures { λ r. ⌜ Put (byte ∷ []) at (now (out .entry)) (now (out .exit)) r ⌝ }
+    ensures { λ r. ⌜ TextPut (byte ∷ []) at (now (out .entry)) (now (out .exit)) r ⌝ }
 {
     out[at] = byte;
     at + 1
@@ -32,7 +32,7 @@ fn put_byte(byte: u8, out: &mut [u8], at: usize) -> usize
 // Puts a number's digits, the last digit after those before it; none for 0.
 fn put_digits(v: u32, out: &mut [u8], at: usize) -> usize
     requires { ⌜ at + length (digitsOf v v) ≤ length (now out) ⌝ }
-    ensures { λ r. ⌜ Put (digitsOf v v) at (now (out .entry)) (now (out .exit)) r ⌝ }
+    ensures { λ r. ⌜ TextPut (digitsOf v v) at (now (out .entry)) (now (out .exit)) r ⌝ }
 {
     if v == 0 {
         return at;
@@ -44,7 +44,7 @@ fn put_digits(v: u32, out: &mut [u8], at: usize) -> usize
 // Puts a number in decimal digits.
 pub(crate) fn put_decimal(v: u32, out: &mut [u8], at: usize) -> usize
     requires { ⌜ at + 10 ≤ length (now out) ⌝ }
-    ensures { λ r. ⌜ Put (decimal v) at (now (out .entry)) (now (out .exit)) r ⌝ }
+    ensures { λ r. ⌜ TextPut (decimal v) at (now (out .entry)) (now (out .exit)) r ⌝ }
 {
     if v == 0 {
         return put_byte(48, out, at);
@@ -55,7 +55,7 @@ pub(crate) fn put_decimal(v: u32, out: &mut [u8], at: usize) -> usize
 // The same with a minus sign before a negative number.
 pub(crate) fn put_signed(z: i32, out: &mut [u8], at: usize) -> usize
     requires { ⌜ at + 11 ≤ length (now out) ⌝ }
-    ensures { λ r. ⌜ Put (signedDecimal z) at (now (out .entry)) (now (out .exit)) r ⌝ }
+    ensures { λ r. ⌜ TextPut (signedDecimal z) at (now (out .entry)) (now (out .exit)) r ⌝ }
 {
     if z < 0 {
         // -1 - z stays in the range for every z
@@ -67,9 +67,9 @@ pub(crate) fn put_signed(z: i32, out: &mut [u8], at: usize) -> usize
 }
 
 // Puts a number with its label before it.
-fn put_labelled(label: &[u8], v: u32, out: &mut [u8], at: usize) -> usize
+pub(crate) fn put_labelled(label: &[u8], v: u32, out: &mut [u8], at: usize) -> usize
     requires { ⌜ at + length (now label) + 10 ≤ length (now out) ⌝ }
-    ensures { λ r. ⌜ Put (now (label .entry) ++ decimal v) at (now (out .entry)) (now (out .exit)) r ⌝ }
+    ensures { λ r. ⌜ TextPut (now (label .entry) ++ decimal v) at (now (out .entry)) (now (out .exit)) r ⌝ }
 {
     let end = put_bytes(label, out, at);
     put_decimal(v, out, end)
@@ -78,7 +78,7 @@ fn put_labelled(label: &[u8], v: u32, out: &mut [u8], at: usize) -> usize
 // Puts a number with a space before it.
 fn put_spaced(z: i32, out: &mut [u8], at: usize) -> usize
     requires { ⌜ at + 12 ≤ length (now out) ⌝ }
-    ensures { λ r. ⌜ Put (32 ∷ signedDecimal z) at (now (out .entry)) (now (out .exit)) r ⌝ }
+    ensures { λ r. ⌜ TextPut (32 ∷ signedDecimal z) at (now (out .entry)) (now (out .exit)) r ⌝ }
 {
     let end = put_byte(32, out, at);
     put_signed(z, out, end)
@@ -88,7 +88,7 @@ fn put_spaced(z: i32, out: &mut [u8], at: usize) -> usize
 pub(crate) fn put_first_line(listed: u32, words: u32, bits: u32, out: &mut [u8], at: usize) -> usize
     requires { ⌜ bits ≡ width words ⌝ }
     requires { ⌜ at + 49 ≤ length (now out) ⌝ }
-    ensures { λ r. ⌜ Put (firstLine listed words) at (now (out .entry)) (now (out .exit)) r ⌝ }
+    ensures { λ r. ⌜ TextPut (firstLine listed words) at (now (out .entry)) (now (out .exit)) r ⌝ }
 {
     let mut end = put_labelled(b"hits ", listed, out, at);
     end = put_labelled(b" words ", words, out, end);
@@ -99,7 +99,7 @@ pub(crate) fn put_first_line(listed: u32, words: u32, bits: u32, out: &mut [u8],
 // The one line of a refusal.
 pub(crate) fn put_refusal(number: u32, out: &mut [u8], at: usize) -> usize
     requires { ⌜ at + 19 ≤ length (now out) ⌝ }
-    ensures { λ r. ⌜ Put (refusedText ++ decimal number ++ (10 ∷ [])) at (now (out .entry)) (now (out .exit)) r ⌝ }
+    ensures { λ r. ⌜ TextPut (refusedText ++ decimal number ++ (10 ∷ [])) at (now (out .entry)) (now (out .exit)) r ⌝ }
 {
     let end = put_labelled(b"refused ", number, out, at);
     put_byte(10, out, end)
@@ -115,7 +115,11 @@ pub(crate) fn put_hit_line(
     at: usize,
 ) -> usize
     requires { ⌜ at + 36 + length (now word) ≤ length (now out) ⌝ }
-    ensures { λ r. ⌜ Put (decimal code ++ 32 ∷ signedDecimal score ++ 32 ∷ signedDecimal mean ++ 32 ∷ now (word .entry) ++ (10 ∷ [])) at (now (out .entry)) (now (out .exit)) r ⌝ }
+    ensures { λ r. ⌜
+        TextPut
+        (decimal code ++ 32 ∷ signedDecimal score ++ 32 ∷ signedDecimal mean ++ 32 ∷ now (word .entry) ++ (10 ∷ [])) at
+        (now (out .entry)) (now (out .exit)) r
+        ⌝ }
 {
     let mut end = put_decimal(code, out, at);
     end = put_spaced(score, out, end);

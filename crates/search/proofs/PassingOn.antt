@@ -23,7 +23,7 @@ use Rattle.checking.proofs.Arcs.{shape-of, sound-of, nodes-there, has-entry, Li
 use Rattle.checking.proofs.Increments.{CountsPassed, counts-start, split-here, increment-here, counts-below, counts-next}
 use Rattle.ranking.specs.Hits.{Hit}
 use Rattle.decoder.specs.Score.{bias, frameLimit, numberOf, possible, plus}
-use Rattle.passing.specs.Tokens.{Store, bestTokens, stateOf, heard, overArc}
+use Rattle.passing.specs.Tokens.{Store, bestTokens, stateOf, symbolScore, overArc}
 use Rattle.passing.specs.InPlace.{passOn}
 use Rattle.passing.proofs.Order.{hits-strict}
 use Rattle.passing.proofs.Best.{best-from, best-best}
@@ -119,8 +119,8 @@ module _ {x : List ℕ} {n : ℕ} {vertices gains : List (List ℕ)} {link : ℕ
   unfolding nodeLetter entryNumber
   entered-is k = h .entry-gains .entry u (omega (arith, rises .0)) k
 
-  worth : u ≤ nodeCount x → Worth (numberSum link entered) (plus (h .score) (heard (h .v) g (h .k) u 0))
-  unfolding nodeLetter heard stateOf
+  worth : u ≤ nodeCount x → Worth (numberSum link entered) (plus (h .score) (symbolScore (h .v) g (h .k) u 0))
+  unfolding nodeLetter symbolScore stateOf
   worth k =
       let z = emission (h .v) (firstState (h .v) (nodeLetter x u) + 0) (h .k) in
       worth-by (h .moved) z (h .score-is) (h .small) (emission-range (h .v) _ (h .k))
@@ -152,7 +152,7 @@ module _ {x : List ℕ} {n : ℕ} {vertices gains : List (List ℕ)} {link : ℕ
 
     pub arc-offering : {gain : ℕ} → gain ≡ numberSum link entered → Offering n (firstIn vertices u) gain down (source root n from b) b
     arc-offering q = record {
-      score = plus (h .score) (heard (h .v) g (h .k) u 0);
+      score = plus (h .score) (symbolScore (h .v) g (h .k) u 0);
       d = increment g (w) u;
       l = h .l;
       s = h .Q u 0;

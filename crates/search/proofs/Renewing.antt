@@ -20,7 +20,7 @@ use Rattle.graph.specs.Graph.{Graph, graphOf, wordCount}
 use Rattle.graph.proofs.Accepted.{AcceptedImages, accepted}
 use Rattle.ranking.specs.Hits.{Hit}
 use Rattle.decoder.specs.Score.{bias, frameLimit, possible, plus}
-use Rattle.passing.specs.Tokens.{Store, bestTokens, carried, stateOf, heard, renewed}
+use Rattle.passing.specs.Tokens.{Store, bestTokens, carried, stateOf, symbolScore, renewed}
 use Rattle.passing.specs.InPlace.{put, renewDown}
 use Rattle.passing.proofs.Order.{hits-strict}
 use Rattle.passing.proofs.Best.{best-from, best-best, best-left}
@@ -41,10 +41,10 @@ mul-next n a = mul-comm n (suc a) ∙ suc-mul a n ∙ ap (λ (m : ℕ). m + n) (
 
 module _ (v : List ℕ) (g : Graph) (P : Store) (k u : ℕ) where
   pub loopMove : ℕ → Option ℤ
-  loopMove s = plus (possible (loopScore v (stateOf v g u s))) (heard v g k u s)
+  loopMove s = plus (possible (loopScore v (stateOf v g u s))) (symbolScore v g k u s)
 
   pub stepMove : ℕ → Option ℤ
-  stepMove s = plus (possible (stepScore v (stateOf v g u s))) (heard v g k u (suc s))
+  stepMove s = plus (possible (stepScore v (stateOf v g u s))) (symbolScore v g k u (suc s))
 
   renewed-first : (s : ℕ) → s ≡ 0 → renewed v g P k u s ≡ carried (loopMove s) 0 (P u s)
   unfolding renewed loopMove
@@ -113,7 +113,7 @@ module _ {n s : ℕ} {row b : List ℕ} (t : Renewing n (suc s) row b) where
   room-at h e = record { one = t .one; few = t .eight; room = omega (arith, block n (inside h), t .room) }
 
   loop-worth : Worth (getD row s 0) (loopMove (t .v) g (t .P) (t .k) (t .node) s)
-  unfolding loopMove loopGain heard stateOf loopScore
+  unfolding loopMove loopGain symbolScore stateOf loopScore
   loop-worth =
       worth-of (loopScore (t .v) (firstState (t .v) letter + s)) (emission (t .v) (firstState (t .v) letter + s) (t .k))
       (i16-range (t .v) _) (emission-range (t .v) _ (t .k))
@@ -161,7 +161,7 @@ module _ {n s : ℕ} {row b : List ℕ} (t : Renewing n (suc s) row b) where
     before = omega arith
 
     step-worth : Worth (getD row (4 + s) 0) (stepMove (t .v) g (t .P) (t .k) (t .node) r)
-    unfolding stepMove stepGain heard stateOf stepScore
+    unfolding stepMove stepGain symbolScore stateOf stepScore
     step-worth =
         let at : 4 + s ≡ 4 + suc r = omega arith in
         worth-of (stepScore (t .v) (firstState (t .v) letter + r)) (emission (t .v) (firstState (t .v) letter + suc r) (t .k))

@@ -17,7 +17,7 @@ use Rattle.graph.proofs.Accepted.{accepted, places-limit, words-limit}
 use Rattle.ranking.specs.Hits.{Hit}
 use Rattle.decoder.specs.Score.{frameLimit, reach, plus}
 use Rattle.passing.specs.Best.{shift}
-use Rattle.passing.specs.Tokens.{Store, bestTokens, carried, heard}
+use Rattle.passing.specs.Tokens.{Store, bestTokens, carried, symbolScore}
 use Rattle.passing.specs.InPlace.{put, passOn}
 use Rattle.passing.proofs.InPlace.{put-here, put-node, put-state}
 use Rattle.search.specs.Slots.{slots, PlaceRoom, Changed}
@@ -98,8 +98,8 @@ module _ {v : List ℕ} {g : Graph} where
   pass-nothing n k score w [] P K p = refl
   pass-nothing n k score w (x ∷ us) P K p =
       pass-nothing n k score w us _
-      (λ u s q. rw (put-nothing n P x 0 K (carried-nothing (plus (score x) (heard v g k x 0)) (increment g w x)) q) (K u s q)) p
-      ∙ put-nothing n P x 0 K (carried-nothing (plus (score x) (heard v g k x 0)) (increment g w x)) p
+      (λ u s q. rw (put-nothing n P x 0 K (carried-nothing (plus (score x) (symbolScore v g k x 0)) (increment g w x)) q) (K u s q)) p
+      ∙ put-nothing n P x 0 K (carried-nothing (plus (score x) (symbolScore v g k x 0)) (increment g w x)) p
 
 -- ---- where places lie
 

@@ -20,7 +20,7 @@ use Rattle.graph.proofs.Accepted.{accepted}
 use Rattle.checking.proofs.Arcs.{shape-of, sound-of, nodes-there}
 use Rattle.ranking.specs.Hits.{Hit}
 use Rattle.decoder.specs.Score.{frameLimit, possible, plus}
-use Rattle.passing.specs.Tokens.{Store, bestTokens, stateOf, heard, lastState, entryScore, renewed}
+use Rattle.passing.specs.Tokens.{Store, bestTokens, stateOf, symbolScore, lastState, entryScore, renewed}
 use Rattle.passing.specs.InPlace.{passNode}
 use Rattle.passing.proofs.Order.{hits-strict}
 use Rattle.passing.proofs.Best.{best-from}
@@ -38,12 +38,12 @@ use Rattle.search.proofs.PassingOn.{lexicon-formed, known, letter-few, 
 -- ---- bounds of a renewed state
 
 module _ (v : List ℕ) (g : Graph) (P : Store) (k u M : ℕ) where
-  loop-small : (s : ℕ) (a : ℤ) → plus (possible (loopScore v (stateOf v g u s))) (heard v g k u s) ≡ some a → natAbs a ≤ frameLimit
-  unfolding heard loopScore
+  loop-small : (s : ℕ) (a : ℤ) → plus (possible (loopScore v (stateOf v g u s))) (symbolScore v g k u s) ≡ some a → natAbs a ≤ frameLimit
+  unfolding symbolScore loopScore
   loop-small s a e = move-small _ _ (i16-range v _) (emission-range v _ k) e
 
-  step-small : (s : ℕ) (a : ℤ) → plus (possible (stepScore v (stateOf v g u s))) (heard v g k u (suc s)) ≡ some a → natAbs a ≤ frameLimit
-  unfolding heard stepScore
+  step-small : (s : ℕ) (a : ℤ) → plus (possible (stepScore v (stateOf v g u s))) (symbolScore v g k u (suc s)) ≡ some a → natAbs a ≤ frameLimit
+  unfolding symbolScore stepScore
   step-small s a e = move-small _ _ (i16-range v _) (emission-range v _ k) e
 
   renewed-bound : (s : ℕ) → ((r : ℕ) (h : Hit) → r ≤ s → List·Memᴰ h (P u r) → Bound g M u h) → {h : Hit} → List·Memᴰ h (renewed v g P k u s)

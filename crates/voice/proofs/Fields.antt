@@ -44,11 +44,13 @@ tiles-end a b [] t = t
 tiles-end a b (f ∷ l) t = tiles-end (end f) b l (t .1)
 
 -- what each verdict means: the bytes are filled, or go on after the last field, or a first bad field is there
-pub data Judged (len done : ℕ) (fields : List Field) : Verdict → Type 0 where
-  filled : AllGood len fields → endOf done fields ≡ len → Judged len done fields wellFormed
-  longer : AllGood len fields → (endOf done fields ≡ len → ⊥) → Judged len done fields wrongLength
-  short : (l : List Field) (f : Field) (m : List Field) → fields ≡ l ++ f ∷ m → AllGood len l → len < end f → Judged len done fields wrongLength
-  out : (l : List Field) (f : Field) (m : List Field) → fields ≡ l ++ f ∷ m → AllGood len l → end f ≤ len → f .inRange ≡ false → Judged len done fields outOfRange
+pub data VerdictCase (len done : ℕ) (fields : List Field) : Verdict → Type 0 where
+  filled : AllGood len fields → endOf done fields ≡ len → VerdictCase len done fields wellFormed
+  longer : AllGood len fields → (endOf done fields ≡ len → ⊥) → VerdictCase len done fields wrongLength
+  short : (l : List Field) (f : Field) (m : List Field) → fields ≡ l ++ f ∷ m → AllGood len l → len < end f
+      → VerdictCase len done fields wrongLength
+  out : (l : List Field) (f : Field) (m : List Field) → fields ≡ l ++ f ∷ m → AllGood len l → end f ≤ len
+      → f .inRange ≡ false → VerdictCase len done fields outOfRange
 
 module _ {len : ℕ} where
   none-good : AllGood len []
@@ -58,31 +60,33 @@ module _ {len : ℕ} where
   more-good u g k (List·Memᴰ·head q) = rw q u
   more-good u g k (List·Memᴰ·tail m) = g k m
 
-  passed : {done : ℕ} {f : Field} {fields : List Field} {w : Verdict} → Good len f → Judged len (end f) fields w → Judged len done (f ∷ fields) w
+  passed : {done : ℕ} {f : Field} {fields : List Field} {w : Verdict} → Good len f → VerdictCase len (end f) fields w
+      → VerdictCase len done (f ∷ fields) w
   passed u (filled g e) = filled (more-good u g) e
   passed u (longer g n) = longer (more-good u g) n
   passed {f = k} u (short l f m e g h) = short (k ∷ l) f m (rw e) (more-good u g) h
   passed {f = k} u (out l f m e g h r) = out (k ∷ l) f m (rw e) (more-good u g) h r
 
-  pub judged : (done : ℕ) (fields : List Field) → Judged len done fields (verdict len done fields)
+  pub verdict-case : (done : ℕ) (fields : List Field) → VerdictCase len done fields (verdict len done fields)
   unfolding verdict
-  judged done [] = go (eqb done len) refl
+  verdict-case done [] = go (eqb done len) refl
     where
-      go : (b : Bool) → eqb done len ≡ b → Judged len done [] (cond b wellFormed wrongLength)
+      go : (b : Bool) → eqb done len ≡ b → VerdictCase len done [] (cond b wellFormed wrongLength)
       go true e = filled none-good (eqb-true done len e)
       go false e = longer none-good (eqb-false done len e)
-  judged done (f ∷ l) = go (leb (end f) len) (f .inRange) refl refl (judged (end f) l)
+  verdict-case done (f ∷ l) = go (leb (end f) len) (f .inRange) refl refl (verdict-case (end f) l)
     where
-      go : (a b : Bool) → leb (end f) len ≡ a → f .inRange ≡ b → Judged len (end f) l (verdict len (end f) l)
-          → Judged len done (f ∷ l) (cond a (cond b (verdict len (end f) l) outOfRange) wrongLength)
+      go : (a b : Bool) → leb (end f) len ≡ a → f .inRange ≡ b → VerdictCase len (end f) l (verdict len (end f) l)
+          → VerdictCase len done (f ∷ l) (cond a (cond b (verdict len (end f) l) outOfRange) wrongLength)
       go true true e k ih = passed (record { there = leb-true (end f) len e; inRange = k }) ih
       go true false e k ih = out [] f l refl none-good (leb-true (end f) len e) k
       go false b e k ih = short [] f l refl none-good (leb-false (end f) len e)
 
   pub well-formed-says : (done : ℕ) (fields : List Field) → verdict len done fields ≡ wellFormed → AllGood len fields × (endOf done fields ≡ len)
-  well-formed-says done fields h = go (judged done fields) h
+  well-formed-says done fields h = go (verdict-case done fields) h
     where
-      go : {w : Verdict} → Judged len done fields w → w ≡ wellFormed → AllGood len fields × (endOf done fields ≡ len)
+      go : {w : Verdict} → VerdictCase len done fields w → w ≡ wellFormed
+          → AllGood len fields × (endOf done fields ≡ len)
       go (filled g e) q = (g, e)
       go (longer g n) q = let z : _≡_ {A = ℕ} 0 1 = cc in absurd (omega arith)
       go (short l f m e g k) q = let z : _≡_ {A = ℕ} 0 1 = cc in absurd (omega arith)

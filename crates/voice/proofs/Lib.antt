@@ -4,3 +4,4 @@ pub mod Tiling
 pub mod Letters
 pub mod Scores
 pub mod Walk
+pub mod Refusals

@@ -1,7 +1,7 @@
 -- An image is a row of fields. How it is judged: fields are read in order, a missing field comes before its range, the earlier field wins,
 -- and extra bytes come last (document 01, under the refusal table). Assumes nothing.
 use Prim.Native.Nat.{ℕ, _+_}
-use mathlib.Core.Bool.{Bool, true, false, cond}
+use mathlib.Core.Bool.{Bool, cond}
 use mathlib.Core.List.{List, [], _∷_}
 use lib.Dec.{eqb, leb}
 use Rattle.voice.specs.declared.Verdict as declared
@@ -38,13 +38,3 @@ verdictOf OutOfRange = outOfRange
 unfoldable pub verdict : ℕ → ℕ → List Field → Verdict
 verdict len done [] = cond (eqb done len) wellFormed wrongLength
 verdict len done (f ∷ fields) = cond (leb (end f) len) (cond (f .inRange) (verdict len (end f) fields) outOfRange) wrongLength
-
-unfoldable pub hasWrongLength : Verdict → Bool
-hasWrongLength wellFormed = false
-hasWrongLength wrongLength = true
-hasWrongLength outOfRange = false
-
-unfoldable pub isOutOfRange : Verdict → Bool
-isOutOfRange wellFormed = false
-isOutOfRange wrongLength = false
-isOutOfRange outOfRange = true

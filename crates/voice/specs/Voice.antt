@@ -5,14 +5,16 @@
 use Prim.Native.Nat.{ℕ, zero, suc, _+_, _*_}
 use mathlib.Core.Bool.{Bool, true, cond, _&&_, _||_}
 use mathlib.Core.List.{List, [], _∷_, _++_, map, flatMap}
+use mathlib.Core.Option.{Option, none, some}
 use lib.IntN.{ℤ, negsuc}
 use lib.ListN.{length}
 use lib.Dec.{eqb, ltb}
 use Rattle.endian.specs.Lists.{within, from, sum}
 use Rattle.endian.specs.Bytes.{u8, u16, i16}
+use Rattle.call.specs.declared.Refusal.{Refusal}
 use Rattle.call.specs.declared.Refusal.the-variants.{VoiceLength, VoiceRange}
-use Rattle.call.specs.Table.{Row, on}
-use Rattle.voice.specs.Fields.{Field, field, Verdict, verdict, hasWrongLength, isOutOfRange}
+use Rattle.call.specs.Table.{Row, rowOf}
+use Rattle.voice.specs.Fields.{Field, field, Verdict, wellFormed, wrongLength, outOfRange, verdict}
 
 -- ---- what it holds
 
@@ -110,6 +112,17 @@ voiceFields v =
 unfoldable pub voiceVerdict : List ℕ → Verdict
 voiceVerdict v = verdict (length v) 0 (voiceFields v)
 
+-- what each verdict on a voice model returns: no number where it is well formed, 2 for a wrong length, 3 for a field
+-- out of its range
+unfoldable pub voiceRefusal : Verdict → Option Refusal
+voiceRefusal wellFormed = none
+voiceRefusal wrongLength = some VoiceLength
+voiceRefusal outOfRange = some VoiceRange
+
+-- what these bytes return as a voice model
+unfoldable pub voiceRefused : List ℕ → Option Refusal
+voiceRefused v = voiceRefusal (voiceVerdict v)
+
 -- 2 and 3
 unfoldable pub voiceRows : List ℕ → List Row
-voiceRows v = on VoiceLength (hasWrongLength (voiceVerdict v)) ∷ on VoiceRange (isOutOfRange (voiceVerdict v)) ∷ []
+voiceRows v = rowOf (voiceRefused v) VoiceLength ∷ rowOf (voiceRefused v) VoiceRange ∷ []

@@ -6,7 +6,7 @@ ghost use lib.ListN.{length};
 ghost use Rattle.endian.specs.Lists.{within};
 ghost use Rattle.endian.specs.Bytes.{u8};
 ghost use Rattle.voice.specs.Fields.{wellFormed, verdictOf, verdict};
-ghost use Rattle.voice.specs.Voice.{printByte, rising, letterFields, linksAt, voiceVerdict};
+ghost use Rattle.voice.specs.Voice.{printByte, rising, letterFields, linksAt, voiceRefusal, voiceRefused};
 ghost use Rattle.voice.specs.Sections.{fieldVerdict, firstBad, lettersPart, statesPart, lastPart};
 use call::inside;
 use endian::u16_at;
@@ -134,9 +134,9 @@ fn judge_last(voice: &[u8]) -> Verdict
     Verdict::WrongLength
 }
 
-// The verdict of a voice model, for any bytes.
+// The verdict of a voice model, for any bytes: well formed, or 2, or 3.
 pub fn judge(voice: &[u8]) -> Verdict
-    ensures { λ r. ⌜ verdictOf r ≡ voiceVerdict (now (voice .entry)) ⌝ }
+    ensures { λ r. ⌜ voiceRefusal (verdictOf r) ≡ voiceRefused (now (voice .entry)) ⌝ }
 {
     let letters = judge_letters(voice);
     let Verdict::WellFormed = letters else {

@@ -28,7 +28,7 @@ use Rattle.decoder.proofs.Listed.{answered}
 use Rattle.packing.specs.Packing.{packedSize, packAnswer, unpackAnswer}
 use Rattle.packing.proofs.Laws.Width.{width-limit}
 use Rattle.packing.proofs.Laws.Calls.{packs, unpacks}
-use Rattle.wundaleth.specs.Answers.{Small}
+use Rattle.wundaleth.specs.Answers.{FitsInt}
 
 -- ---- calls with a lexicon: a value shows that the images are accepted
 
@@ -56,12 +56,13 @@ module _ (v x : List ℕ) (h : Accepted v x) where
       let few = shape (letterCount v) x (accepted h .lexicon) .few in
       omega (arith, listing-size ok v (omega arith), arcs-most ok (omega arith) 0)
 
-pub check-small : (v x work : List ℕ) → Small (checkAnswer v x work)
-check-small v x work = record { below = λ n e. let p = passed v x work e in omega (arith, p .count, words-limit (accepted (p .images))) }
+pub check-fits : (v x work : List ℕ) → FitsInt (checkAnswer v x work)
+check-fits v x work =
+    record { below = λ n e. let p = passed v x work e in omega (arith, p .count, words-limit (accepted (p .images))) }
 
-pub word-to-code-small : (v x word work : List ℕ) → Small (wordToCodeAnswer v x word work)
+pub word-to-code-fits : (v x word work : List ℕ) → FitsInt (wordToCodeAnswer v x word work)
 unfolding wordToCodeAnswer wordToCodeRows
-word-to-code-small v x word work = record {
+word-to-code-fits v x word work = record {
   below = λ n e.
       let p = value-passed (wordToCodeRows v x word work) (codeOf (graphOf x) (pathOfWord v (graphOf x) word)) n e in
       let r = none-parts (firstRows v x work) _ (p .0) in
@@ -69,9 +70,9 @@ word-to-code-small v x word work = record {
       omega (arith, p .1, words-limit (accepted h), code-limit v x h word (none-says _ (r .1) .0));
 }
 
-pub code-to-word-small : (v x : List ℕ) (code : ℕ) (work out : List ℕ) → Small (codeToWordAnswer v x code work out)
+pub code-to-word-fits : (v x : List ℕ) (code : ℕ) (work out : List ℕ) → FitsInt (codeToWordAnswer v x code work out)
 unfolding codeToWordAnswer codeToWordRows badCode
-code-to-word-small v x code work out = record {
+code-to-word-fits v x code work out = record {
   below = λ n e.
       let p = value-passed (codeToWordRows v x code work out) (length (wordOfCode v (graphOf x) code)) n e in
       let r = none-parts (firstRows v x work) _ (p .0) in
@@ -80,9 +81,9 @@ code-to-word-small v x code work out = record {
       omega (arith, p .1, word-short (accepted h) k);
 }
 
-pub list-small : (v x work out : List ℕ) → Small (listAnswer v x work out)
+pub list-fits : (v x work out : List ℕ) → FitsInt (listAnswer v x work out)
 unfolding listAnswer listRows
-list-small v x work out = record {
+list-fits v x work out = record {
   below = λ n e.
       let p = value-passed (listRows v x work out) (length (listing v (graphOf x))) n e in
       let h = images-accepted v x work (none-parts (firstRows v x work) _ (p .0) .0) in
@@ -90,9 +91,9 @@ list-small v x work out = record {
 }
 
 -- at most n hits, and n is at most 8
-pub decode-small : (v x frames : List ℕ) (n : ℕ) (work out : List ℕ) → Small (decodeAnswer v x frames n work out)
+pub decode-fits : (v x frames : List ℕ) (n : ℕ) (work out : List ℕ) → FitsInt (decodeAnswer v x frames n work out)
 unfolding hits
-decode-small v x frames n work out = record {
+decode-fits v x frames n work out = record {
   below = λ k e.
       let a = answered v x frames work out n k e in
       omega (arith, a .counted, a .few-wanted, length-take n (row v (graphOf x) frames));
@@ -100,13 +101,14 @@ decode-small v x frames n work out = record {
 
 -- ---- packed codes: at most 8, of at most 20 bits each
 
-pub pack-small : (W : ℕ) (codes out : List ℕ) → Small (packAnswer W codes out)
+pub pack-fits : (W : ℕ) (codes out : List ℕ) → FitsInt (packAnswer W codes out)
 unfolding packedSize
-pack-small W codes out = record {
+pack-fits W codes out = record {
   below = λ n e.
       let p = packs W codes out n e in
       omega (arith, p .size, mul-le-mul (p .count .1) (width-limit W (p .words .1)));
 }
 
-pub unpack-small : (W n : ℕ) (bytes out : List ℕ) → Small (unpackAnswer W n bytes out)
-unpack-small W n bytes out = record { below = λ k e. let u = unpacks W n bytes out k e in omega (arith, u .all, u .count .1) }
+pub unpack-fits : (W n : ℕ) (bytes out : List ℕ) → FitsInt (unpackAnswer W n bytes out)
+unpack-fits W n bytes out =
+    record { below = λ k e. let u = unpacks W n bytes out k e in omega (arith, u .all, u .count .1) }

@@ -8,7 +8,7 @@ ghost use Rattle.codes.specs.Lookup.{wordToCodeAnswer, wordToCodeWork, codeToWo
 ghost use Rattle.decoder.specs.Decoding.{decodeAnswer, decodeOut, decodeWork};
 ghost use Rattle.decoder.specs.Demand.{ListsHits};
 ghost use Rattle.packing.specs.Packing.{packAnswer, packOut, unpackAnswer, unpackOut};
-ghost use Rattle.wundaleth.specs.Answers.{Small};
+ghost use Rattle.wundaleth.specs.Answers.{FitsInt};
 use call::Answer;
 use checking::check;
 use codes::code_to_word;
@@ -20,7 +20,7 @@ use packing::unpack;
 
 // An answer as C takes it.
 fn signed_of(answer: Answer) -> i32
-    requires { ⌜ Small (answerOf answer) ⌝ }
+    requires { ⌜ FitsInt (answerOf answer) ⌝ }
     ensures { λ r. ⌜ r ≡ signedAnswer (answerOf answer) ⌝ }
 {
     match answer {

@@ -14,7 +14,7 @@ use Rattle.voice.specs.declared.Verdict as declared
 use Rattle.voice.specs.Fields.{wellFormed, wrongLength, verdict, verdictOf}
 use Rattle.lexicon.specs.declared.fields.Found.the-variants.{Good, Bad}
 use Rattle.lexicon.specs.Lexicon.{nodeCount, sinkOf, reserveAt, nodeFields, arcFields, lexiconFields, lexiconVerdict}
-use Rattle.lexicon.specs.Sections.{numberAt, Fails, NodesGood, nodesFields, ArcsGood, reserveFields}
+use Rattle.lexicon.specs.Sections.{numberAt, FieldsBad, NodesGood, nodesFields, ArcsGood, reserveFields}
 use Rattle.lexicon.proofs.Sections.Numbers.{number-says, number-fails}
 
 -- ---- reserve
@@ -47,7 +47,7 @@ module _ (L : ℕ) (x : List ℕ) where
   unfolding lexiconFields nodesFields reserveFields
   sections = rw (append-assoc (nodeFields L x))
 
-  pub nodes-decide : (v : declared.Verdict) → Fails x 0 (nodesFields L x) v → verdictOf v ≡ lexiconVerdict L x
+  pub nodes-decide : (v : declared.Verdict) → FieldsBad x 0 (nodesFields L x) v → verdictOf v ≡ lexiconVerdict L x
   unfolding lexiconVerdict
   nodes-decide v f = sym (rw sections (f _))
 
@@ -56,7 +56,8 @@ module _ (L : ℕ) (x : List ℕ) where
     unfolding lexiconVerdict
     after-nodes = rw sections (g .passes _ ∙ rw (g .number))
 
-    pub arcs-decide : (v : declared.Verdict) → Fails x (2 + nodeCount x) (arcFields x 0 0 (sinkOf x)) v → verdictOf v ≡ lexiconVerdict L x
+    pub arcs-decide : (v : declared.Verdict) → FieldsBad x (2 + nodeCount x) (arcFields x 0 0 (sinkOf x)) v
+        → verdictOf v ≡ lexiconVerdict L x
     arcs-decide v f = sym (after-nodes ∙ f _)
 
     pub reserve-decides : (at : ℕ) → ArcsGood x at → lexiconVerdict L x ≡ verdict (length x) at (reserveFields x at)

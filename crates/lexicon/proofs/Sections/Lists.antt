@@ -18,9 +18,10 @@ use Rattle.voice.proofs.Fields.{step-good}
 use Rattle.lexicon.specs.declared.fields.Found.{Found}
 use Rattle.lexicon.specs.declared.fields.Found.the-variants.{Good, Bad}
 use Rattle.lexicon.specs.Lexicon.{nodeCount, sinkOf, arcsAt, arcCount, successors, reserveAt, allowed, successorFields, arcFields}
-use Rattle.lexicon.specs.Sections.{numberAt, arcAt, Fails, Table, Listing, ListGood, listFields, ArcsGood}
+use Rattle.lexicon.specs.Sections.{numberAt, arcAt, FieldsBad, Table, Listing, ListGood, listFields, ArcsGood}
 use Rattle.lexicon.proofs.Sections.Numbers.{number-says, number-fails}
-use Rattle.lexicon.proofs.Sections.Successors.{Marks, ArcRead, marks-none, marks-more, highest-most, arc-says, arc-fails}
+use Rattle.lexicon.proofs.Sections.Successors.{Marks, SuccessorRead, marks-none, marks-more, highest-most}
+use Rattle.lexicon.proofs.Sections.Successors.{arc-says, arc-fails}
 
 -- ---- the list of a vertex
 
@@ -51,7 +52,8 @@ module _ (x : List ℕ) (at u n total : ℕ) (seen : List ℕ) (given : Listing 
       let r = leb-true (total + u16 x at) 4000 (a .1) in
       inside 1 high (u16 x at) (b .0) (omega (arith, given .number))
 
-  pub list-uncounted : {f : Found} {v : declared.Verdict} → f ≡ numberAt x at 1 high → f ≡ Bad v → Fails x (arcsAt x u) (listFields x u total) v
+  pub list-uncounted : {f : Found} {v : declared.Verdict} → f ≡ numberAt x at 1 high → f ≡ Bad v
+      → FieldsBad x (arcsAt x u) (listFields x u total) v
   unfolding listFields arcCount
   list-uncounted k e later =
       rw (← given .start) (number-fails x at 1 high (sym k ∙ e) (within 1 (sinkOf x) (u16 x at) && leb (total + u16 x at) 4000) count-range at _)
@@ -84,10 +86,10 @@ module _ (x : List ℕ) (u total count : ℕ) (seen : List ℕ) (at i : ℕ) (le
 
   -- f is what the code finds of the next successor
   module _ (n : ℕ) (number : n ≡ nodeCount x) {f : Found} (found : f ≡ arcAt x at u n seen) where
-    pub list-fails : {v : declared.Verdict} → i < count → f ≡ Bad v → Fails x (arcsAt x u) (listFields x u total) v
+    pub list-fails : {v : declared.Verdict} → i < count → f ≡ Bad v → FieldsBad x (arcsAt x u) (listFields x u total) v
     list-fails h e later = next-successor h later ∙ arc-fails x at u seen (left .earlier) (left .marks) (sym (rw number at found) ∙ e) at _
 
-    read : {s : ℕ} → f ≡ Good s → ArcRead x at u seen (left .earlier) (left .marks) s
+    read : {s : ℕ} → f ≡ Good s → SuccessorRead x at u seen (left .earlier) (left .marks) s
     read e = arc-says x at u seen (left .earlier) (left .marks) (sym (rw number at found) ∙ e)
 
     -- it has an entry of the table
@@ -124,7 +126,7 @@ module _ (x : List ℕ) (u total count : ℕ) (seen : List ℕ) (at i : ℕ) (le
 -- ---- all lists
 
 -- the lists from a vertex on are left, and later fields
-pub record ArcsLeft (x : List ℕ) (seen : List ℕ) (at total u : ℕ) : Type 0 where
+pub record ListsLeft (x : List ℕ) (seen : List ℕ) (at total u : ℕ) : Type 0 where
   pub last : u ≤ nodeCount x + 1
   pub room : total ≤ 4000
   pub place : at ≡ arcsAt x u
@@ -134,7 +136,7 @@ pub record ArcsLeft (x : List ℕ) (seen : List ℕ) (at total u : ℕ) : Type 0
       ≡ verdict (length x) at (arcFields x u total (nodeCount x + 1 - u) ++ later)
 
 module _ (x : List ℕ) where
-  pub arcs-start : (seen : List ℕ) → Table 0 seen → 2 + nodeCount x ≤ length x → ArcsLeft x seen (2 + nodeCount x) 0 0
+  pub arcs-start : (seen : List ℕ) → Table 0 seen → 2 + nodeCount x ≤ length x → ListsLeft x seen (2 + nodeCount x) 0 0
   unfolding arcsAt sinkOf
   arcs-start seen t h = record {
     last = omega arith;
@@ -145,7 +147,7 @@ module _ (x : List ℕ) where
     passes = λ later. let e : suc (nodeCount x) ≡ nodeCount x + 1 - 0 = omega arith in rw e;
   }
 
-  module _ (seen : List ℕ) (at total u : ℕ) (left : ArcsLeft x seen at total u) where
+  module _ (seen : List ℕ) (at total u : ℕ) (left : ListsLeft x seen at total u) where
     next-list : u ≤ nodeCount x → (later : List Field) → verdict (length x) (2 + nodeCount x) (arcFields x 0 0 (sinkOf x) ++ later)
         ≡ verdict (length x) (arcsAt x u) (listFields x u total ++ (arcFields x (u + 1) (total + arcCount x u) (nodeCount x + 1 - (u + 1)) ++ later))
     unfolding arcFields listFields
@@ -154,10 +156,12 @@ module _ (x : List ℕ) where
         let mine = successorFields x u (arcsAt x u + 2) [] (successors x u) in
         left .passes later ∙ rw (left .place, e, add-one u, append-assoc mine (arcFields x (suc u) (total + arcCount x u) (nodeCount x + 1 - suc u)) later)
 
-    pub arcs-fail : (v : declared.Verdict) → u ≤ nodeCount x → Fails x (arcsAt x u) (listFields x u total) v → Fails x (2 + nodeCount x) (arcFields x 0 0 (sinkOf x)) v
+    pub arcs-fail : (v : declared.Verdict) → u ≤ nodeCount x → FieldsBad x (arcsAt x u) (listFields x u total) v
+        → FieldsBad x (2 + nodeCount x) (arcFields x 0 0 (sinkOf x)) v
     arcs-fail v h f later = next-list h later ∙ f _
 
-    pub arcs-next : (now : List ℕ) (count : ℕ) → u ≤ nodeCount x → ListGood x u total now count → ArcsLeft x now (at + (2 + 2 * count)) (total + count) (u + 1)
+    pub arcs-next : (now : List ℕ) (count : ℕ) → u ≤ nodeCount x → ListGood x u total now count
+        → ListsLeft x now (at + (2 + 2 * count)) (total + count) (u + 1)
     unfolding arcsAt arcCount
     arcs-next now count h g =
         let e : at + (2 + 2 * count) ≡ arcsAt x (suc u) = omega (arith, left .place, g .number) in

@@ -22,7 +22,7 @@ use Rattle.lexicon.specs.declared.fields.Found.{Found}
 use Rattle.lexicon.specs.declared.fields.Found.the-variants.{Good, Bad}
 use Rattle.lexicon.specs.Lexicon.{nodeCount, sinkOf, allowed}
 use Rattle.lexicon.specs.Sections.{numberAt, highestOf, unmarked, arcAt, Table}
-use Rattle.lexicon.proofs.WellFormed.{Arc, allowed-says}
+use Rattle.lexicon.proofs.WellFormed.{GoodArc, allowed-says}
 use Rattle.lexicon.proofs.Sections.Numbers.{Number, number-says, number-fails}
 
 -- what the list of u has named so far has u's mark, and nothing else has
@@ -64,7 +64,7 @@ module _ (x : List ℕ) (u : ℕ) (earlier : List ℕ) (s : ℕ) where
   unfolding highestOf sinkOf
   allowed-range h = go (allowed-says x u earlier s h .0) (ℕ-discrete u 0)
     where
-      go : Arc x u s → Dec (u ≡ 0) → within (u + 1) (cond (eqb u 0) (nodeCount x) (nodeCount x + 1)) s ≡ true
+      go : GoodArc x u s → Dec (u ≡ 0) → within (u + 1) (cond (eqb u 0) (nodeCount x) (nodeCount x + 1)) s ≡ true
       go a (yes e) =
           let d : s ≡ suc (nodeCount x) → ⊥ = a .worded e in
           rw (eq-eqb u 0 e) (inside (u + 1) (nodeCount x) s (omega arith) (omega arith))
@@ -97,19 +97,21 @@ arc-number x at u n seen f e = rw e
 
 module _ (x : List ℕ) (at u : ℕ) (seen earlier : List ℕ) (m : Marks seen u earlier) where
   -- a successor that is there and allowed
-  pub record ArcRead (s : ℕ) : Type 0 where
+  pub record SuccessorRead (s : ℕ) : Type 0 where
     pub number : Number x at (u + 1) (highestOf u (nodeCount x)) s
     pub new : allowed x u earlier (u16 x at) ≡ true
 
-  pub arc-says : {s : ℕ} → arcAt x at u (nodeCount x) seen ≡ Good s → ArcRead s
+  pub arc-says : {s : ℕ} → arcAt x at u (nodeCount x) seen ≡ Good s → SuccessorRead s
   unfolding arcAt
   arc-says {s} e = go (numberAt x at (u + 1) (highestOf u (nodeCount x))) refl e
     where
-      go : (f : Found) → numberAt x at (u + 1) (highestOf u (nodeCount x)) ≡ f → unmarked seen (u + 1) f ≡ Good s → ArcRead s
+      go : (f : Found) → numberAt x at (u + 1) (highestOf u (nodeCount x)) ≡ f → unmarked seen (u + 1) f ≡ Good s
+          → SuccessorRead s
       go (Bad v) q e = let z : _≡_ {A = ℕ} 0 1 = cc in absurd (omega arith)
       go (Good t) q e = marked (eqb (getD seen t 0) (u + 1)) refl e
         where
-          marked : (b : Bool) → eqb (getD seen t 0) (u + 1) ≡ b → cond b (Bad OutOfRange) (Good t) ≡ Good s → ArcRead s
+          marked : (b : Bool) → eqb (getD seen t 0) (u + 1) ≡ b → cond b (Bad OutOfRange) (Good t) ≡ Good s
+              → SuccessorRead s
           marked true k e = let z : _≡_ {A = ℕ} 0 1 = cc in absurd (omega arith)
           marked false k e =
               let same : t ≡ s = cc in

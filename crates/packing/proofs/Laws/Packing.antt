@@ -13,7 +13,7 @@ use lib.Pow.{pow-pos}
 use borrow.Author.Tests.{ne-eqb}
 use Rattle.endian.specs.Lists.{all}
 use Rattle.packing.specs.Packing.{bits, numberOf, toBits, packedSize, packed, unpackedFrom, unpacked, paddedWithZeros}
-use Rattle.packing.specs.Offsets.{overlay, RightSize, Held}
+use Rattle.packing.specs.Offsets.{overlay, RightSize, CodeInBytes}
 use Rattle.packing.proofs.Laws.Stretches.{below-append, drop-zeros, Below, below-take, below-drop, below-flat, length-flat, flat-at}
 use Rattle.packing.proofs.Laws.Bits.{toBits-drop, number-of-none, number-of-cons, toBits-append, toBits-zeros, toBits-injective, length-bits, below-bits, number-bits, bits-number, toBits-toBytes, length-toBytes, length-toBits, below-toBits, below-toBytes}
 
@@ -206,7 +206,7 @@ module _ (b : ℕ) (codes : List ℕ) where
       (n ∙ sym long) (e ∙ put-over (drop size before))
 
 -- a code that is one of n lies in the bytes
-pub held : (b n i : ℕ) (bytes : List ℕ) → RightSize b n bytes → i < n → Held i b bytes
+pub held : (b n i : ℕ) (bytes : List ℕ) → RightSize b n bytes → i < n → CodeInBytes i b bytes
 held b n i bytes p h =
     let next : suc i ≤ n = h in
     record {

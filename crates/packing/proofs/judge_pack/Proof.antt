@@ -7,7 +7,7 @@ use Rattle.call.specs.Table.{unless}
 use Rattle.packing.specs.Width.{width, givenRows, badWordCount}
 use Rattle.call.specs.Limits.{badCount, badCode}
 use Rattle.packing.specs.Packing.{packAnswer, packedSize, packRows}
-use Rattle.packing.specs.Offsets.{Small}
+use Rattle.packing.specs.Offsets.{CodeLimits}
 use Rattle.endian.specs.Lists.{any}
 use lib.ListN.{length}
 use mathlib.Core.Bool.{false}
@@ -36,7 +36,9 @@ codes-good : (c : tie.Else3) →
     any (badCode (a .words)) (a .codes .now) ≡ false
 codes-good c = sym (c .before .has-bad-code .ensures) ∙ c .if3 .left
 
-small : (c : tie.After-width-of) → Small (length (c .before .before .before .before .before .before .before .before .before .args .codes .now)) (c .width-of .result)
+small : (c : tie.After-width-of)
+    → CodeLimits (length (c .before .before .before .before .before .before .before .before .before .args .codes .now))
+    (c .width-of .result)
 unfolding badWordCount badCount
 small c =
     let a = c .before .before .before .before .before .before .before .before .before .args in

@@ -10,7 +10,7 @@ use Rattle.call.specs.Table.{unless}
 use Rattle.packing.specs.Width.{width, givenRows, badWordCount}
 use Rattle.call.specs.Limits.{badCount, badCode}
 use Rattle.packing.specs.Packing.{unpackAnswer, unpacked, badPacked, unpackRows}
-use Rattle.packing.specs.Offsets.{Small}
+use Rattle.packing.specs.Offsets.{CodeLimits}
 use Rattle.packing.proofs.Laws.Width.{width-limit}
 use Rattle.packing.proofs.Laws.Calls.{inside, good-packed}
 use Rattle.packing.proofs.judge_unpack.Statement.{statement}
@@ -30,7 +30,8 @@ count-good : (c : tie.Else2) → badCount (c .before .before .before .before .be
 unfolding badCount
 count-good c = rw (← c .before .inside2 .ensures) (c .if2 .left)
 
-small : (c : tie.After-width-of) → Small (c .before .before .before .before .before .before .before .args .n) (c .width-of .result)
+small : (c : tie.After-width-of)
+    → CodeLimits (c .before .before .before .before .before .before .before .args .n) (c .width-of .result)
 unfolding badWordCount badCount
 small c =
     let a = c .before .before .before .before .before .before .before .args in

@@ -11,7 +11,7 @@ use mir.Facts.{toZ-ofZ}
 use borrow.Author.Needs.{needs}
 use Rattle.call.specs.Table.{value, unless}
 use Rattle.endian.proofs.Ranges.{inside, below, above}
-use Rattle.endian.proofs.Signed.{toZ-low, flip-fits, flip-is, is-neg, is-pos, negated-fits, negated-is}
+use Rattle.endian.proofs.Signed.{toZ-low, flip-fits, flip-is, is-neg, is-pos, negated-fits, from-zero-fits, negated-is}
 use Rattle.call.specs.Limits.{badFrameCount}
 use Rattle.ranking.specs.Mean.{meanAnswer, mean, floorQuotient}
 use Rattle.ranking.proofs.mean.Statement.{statement}
@@ -47,7 +47,9 @@ cast-quotient c =
 sub-t8 : tie.Need-sub-t8
 sub-t8 c =
     let s = c .before .before .before in
-    rw (flipped c) (negated-fits w32 (mag (s .args .score) / s .args .frames) (small (mag (s .args .score)) (s .args .frames) (s .fits .score .sfits)))
+    let n = mag (s .args .score) in
+    let h = small n (s .args .frames) (s .fits .score .sfits) in
+    rw (flipped c) (search (negated-fits w32 (n / s .args .frames) h, from-zero-fits w32 (n / s .args .frames) h))
 
 returns-3 : tie.Need-returns-3
 unfolding meanAnswer badFrameCount unless mean floorQuotient

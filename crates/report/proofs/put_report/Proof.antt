@@ -9,7 +9,8 @@ use Rattle.call.specs.Table.{value, answerOf}
 use Rattle.decoder.specs.Decoding.{decodeAnswer}
 use Rattle.report.specs.Report.{decimal, refusedText}
 use Rattle.report.proofs.Answers.{put-same}
-use Rattle.report.proofs.Decoded.{answer-lent, reported-value, reported-refused, frames-few, ready, hits-are, listed}
+use Rattle.report.proofs.Decoded.{answer-lent, reported-value, reported-refused, frames-few, accepted-arguments}
+use Rattle.report.proofs.Decoded.{hits-are, holds-hits}
 use Rattle.report.proofs.put_report.Statement.{statement}
 use Rattle.report.proofs.put_report.Tie as tie
 
@@ -33,10 +34,11 @@ put-list-requires c κs =
     let d = k .before .before .before .before in
     let s = d .before .before .before .before .before .before .before .before in
     let a = s .args in (
-      ready (a .voice .now) (a .lexicon .now) (a .frames .now) (a .n) _ _ _ (answers k)
+      accepted-arguments (a .voice .now) (a .lexicon .now) (a .frames .now) (a .n) _ _ _ (answers k)
           (omega (arith, d .decode .kept .1 .1 .1 .1 .0, d .before .before .before .work-space .ensures)),
       (
-        listed (a .voice .now) (a .lexicon .now) (a .frames .now) (a .n) _ _ _ (answers k) (d .decode .ensures .1 .1 .0)
+        holds-hits (a .voice .now) (a .lexicon .now) (a .frames .now) (a .n) _ _ _ (answers k)
+            (d .decode .ensures .1 .1 .0)
             (d .decode .kept .1 .1 .1 .1 .1 .0),
         s .pre,
       ),

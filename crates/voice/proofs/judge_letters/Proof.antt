@@ -17,7 +17,7 @@ use Rattle.voice.proofs.Walk.{stands, rowsLeft, row-bad, row-good, rows
 use Rattle.voice.proofs.judge_letters.Statement.{statement}
 use Rattle.voice.proofs.judge_letters.Tie as tie
 
-record Passed (v : List ℕ) (letters total i : ℕ) : Type 0 where
+record LettersGood (v : List ℕ) (letters total i : ℕ) : Type 0 where
   inside : i ≤ letters
   small : total ≤ 255 * i
   counted : total ≡ firstState v i
@@ -25,7 +25,7 @@ record Passed (v : List ℕ) (letters total i : ℕ) : Type 0 where
       ≡ andThen (firstBad (length v) (rowsLeft (letterFields v) i letters)) (fieldVerdict (length v) (statesAt v + 2) (eqb (stateCount v) (firstState v letters)))
 
 abbrev Inv-loop : tie.InvT-loop
-Inv-loop voice letters sum₀ i₀ sum i = Passed voice letters sum i
+Inv-loop voice letters sum₀ i₀ sum i = LettersGood voice letters sum i
 
 abbrev μ-loop : tie.MeasureT-loop
 μ-loop voice letters sum₀ i₀ sum i = letters - i

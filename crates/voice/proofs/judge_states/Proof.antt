@@ -17,14 +17,14 @@ use Rattle.voice.proofs.Walk.{rowsLeft, row-bad, row-good, rows-done, s
 use Rattle.voice.proofs.judge_states.Statement.{statement}
 use Rattle.voice.proofs.judge_states.Tie as tie
 
-record Passed (v : List ℕ) (letters end i : ℕ) : Type 0 where
+record StatesGood (v : List ℕ) (letters end i : ℕ) : Type 0 where
   inside : i ≤ letters
   small : end ≤ 3 + 2 * letters + 1020 * i
   ends : end ≡ 3 + 2 * letters + 4 * firstState v i
   left : firstBad (length v) (statesPart v) ≡ andThen (firstBad (length v) (rowsLeft (statesOf v) i letters)) wellFormed
 
 abbrev Inv-loop : tie.InvT-loop
-Inv-loop voice letters end₀ i₀ end i = Passed voice letters end i
+Inv-loop voice letters end₀ i₀ end i = StatesGood voice letters end i
 
 abbrev μ-loop : tie.MeasureT-loop
 μ-loop voice letters end₀ i₀ end i = letters - i

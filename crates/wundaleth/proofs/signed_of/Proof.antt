@@ -5,9 +5,9 @@ use native.Mathlib.Omega.{arith}
 use lib.IntN.{pos, negℤ}
 use mir.Syntax.{w32}
 use borrow.Author.Needs.{needs}
-use Rattle.endian.proofs.Signed.{toZ-low}
+use Rattle.endian.proofs.Signed.{toZ-low, from-zero-fits, negated-fits}
 use Rattle.call.specs.Table.{answerOf, signedAnswer}
-use Rattle.wundaleth.proofs.Negative.{negative-fits, negative-is}
+use Rattle.wundaleth.proofs.Negative.{negative-is}
 use Rattle.wundaleth.proofs.signed_of.Statement.{statement}
 use Rattle.wundaleth.proofs.signed_of.Tie as tie
 
@@ -15,7 +15,9 @@ small : (c : tie.After-known-told) → c .before .answer .given .0 .0 < 2 ^ 31
 small c = c .before .before .before .pre .below _ (ap answerOf (c .before .answer .given .1))
 
 sub-result : tie.Need-sub-result
-sub-result c = negative-fits w32 (c .number .result) (omega arith)
+sub-result c =
+    let h : c .number .result < 2 ^ 31 = omega arith in
+    search (from-zero-fits w32 (c .number .result) h, negated-fits w32 (c .number .result) h)
 
 returns : tie.Need-returns
 returns c = toZ-low w32 _ (small c) ∙ sym (ap (λ a. signedAnswer (answerOf a)) (c .before .answer .given .1))

@@ -3,12 +3,12 @@ use mathlib.Core.Path.{ap, _∙_}
 use mir.Facts.{toZ-ofZ}
 use borrow.Author.Needs.{needs}
 use Rattle.call.specs.Table.{signedAnswer}
-use Rattle.wundaleth.proofs.Bounds.{check-small}
+use Rattle.wundaleth.proofs.Bounds.{check-fits}
 use Rattle.wundaleth.proofs.wundaleth_check.Statement.{statement}
 use Rattle.wundaleth.proofs.wundaleth_check.Tie as tie
 
 signed-of-requires : tie.Need-signed-of-requires
-signed-of-requires c κs = rw (c .before .before .check .ensures .0) (check-small _ _ _)
+signed-of-requires c κs = rw (c .before .before .check .ensures .0) (check-fits _ _ _)
 
 returns : tie.Need-returns
 returns c =

@@ -3,12 +3,12 @@ use mathlib.Core.Path.{ap, _∙_}
 use mir.Facts.{toZ-ofZ}
 use borrow.Author.Needs.{needs}
 use Rattle.call.specs.Table.{signedAnswer}
-use Rattle.wundaleth.proofs.Bounds.{code-to-word-small}
+use Rattle.wundaleth.proofs.Bounds.{code-to-word-fits}
 use Rattle.wundaleth.proofs.wundaleth_code_to_word.Statement.{statement}
 use Rattle.wundaleth.proofs.wundaleth_code_to_word.Tie as tie
 
 signed-of-requires : tie.Need-signed-of-requires
-signed-of-requires c κs = rw (c .before .before .before .before .code-to-word .ensures .0) (code-to-word-small _ _ _ _ _)
+signed-of-requires c κs = rw (c .before .before .before .before .code-to-word .ensures .0) (code-to-word-fits _ _ _ _ _)
 
 returns : tie.Need-returns
 returns c =

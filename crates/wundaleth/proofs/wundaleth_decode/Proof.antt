@@ -3,13 +3,13 @@ use mathlib.Core.Path.{sym, ap, _∙_}
 use mir.Facts.{toZ-ofZ}
 use borrow.Author.Needs.{needs}
 use Rattle.call.specs.Table.{signedAnswer}
-use Rattle.wundaleth.proofs.Bounds.{decode-small}
+use Rattle.wundaleth.proofs.Bounds.{decode-fits}
 use Rattle.wundaleth.proofs.Signed.{value-signed}
 use Rattle.wundaleth.proofs.wundaleth_decode.Statement.{statement}
 use Rattle.wundaleth.proofs.wundaleth_decode.Tie as tie
 
 signed-of-requires : tie.Need-signed-of-requires
-signed-of-requires c κs = rw (c .before .before .before .before .decode .ensures .0) (decode-small _ _ _ _ _ _)
+signed-of-requires c κs = rw (c .before .before .before .before .decode .ensures .0) (decode-fits _ _ _ _ _ _)
 
 returns : tie.Need-returns
 returns c =

@@ -3,12 +3,12 @@ use mathlib.Core.Path.{ap, _∙_}
 use mir.Facts.{toZ-ofZ}
 use borrow.Author.Needs.{needs}
 use Rattle.call.specs.Table.{signedAnswer}
-use Rattle.wundaleth.proofs.Bounds.{list-small}
+use Rattle.wundaleth.proofs.Bounds.{list-fits}
 use Rattle.wundaleth.proofs.wundaleth_list.Statement.{statement}
 use Rattle.wundaleth.proofs.wundaleth_list.Tie as tie
 
 signed-of-requires : tie.Need-signed-of-requires
-signed-of-requires c κs = rw (c .before .before .before .before .list .ensures .0) (list-small _ _ _ _)
+signed-of-requires c κs = rw (c .before .before .before .before .list .ensures .0) (list-fits _ _ _ _)
 
 returns : tie.Need-returns
 returns c =

@@ -3,12 +3,12 @@ use mathlib.Core.Path.{ap, _∙_}
 use mir.Facts.{toZ-ofZ}
 use borrow.Author.Needs.{needs}
 use Rattle.call.specs.Table.{signedAnswer}
-use Rattle.wundaleth.proofs.Bounds.{pack-small}
+use Rattle.wundaleth.proofs.Bounds.{pack-fits}
 use Rattle.wundaleth.proofs.wundaleth_pack.Statement.{statement}
 use Rattle.wundaleth.proofs.wundaleth_pack.Tie as tie
 
 signed-of-requires : tie.Need-signed-of-requires
-signed-of-requires c κs = rw (c .before .before .pack .ensures .0) (pack-small _ _ _)
+signed-of-requires c κs = rw (c .before .before .pack .ensures .0) (pack-fits _ _ _)
 
 returns : tie.Need-returns
 returns c =

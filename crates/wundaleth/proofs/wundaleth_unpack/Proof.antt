@@ -3,12 +3,12 @@ use mathlib.Core.Path.{ap, _∙_}
 use mir.Facts.{toZ-ofZ}
 use borrow.Author.Needs.{needs}
 use Rattle.call.specs.Table.{signedAnswer}
-use Rattle.wundaleth.proofs.Bounds.{unpack-small}
+use Rattle.wundaleth.proofs.Bounds.{unpack-fits}
 use Rattle.wundaleth.proofs.wundaleth_unpack.Statement.{statement}
 use Rattle.wundaleth.proofs.wundaleth_unpack.Tie as tie
 
 signed-of-requires : tie.Need-signed-of-requires
-signed-of-requires c κs = rw (c .before .before .unpack .ensures .0) (unpack-small _ _ _ _)
+signed-of-requires c κs = rw (c .before .before .unpack .ensures .0) (unpack-fits _ _ _ _)
 
 returns : tie.Need-returns
 returns c =

@@ -3,12 +3,12 @@ use mathlib.Core.Path.{ap, _∙_}
 use mir.Facts.{toZ-ofZ}
 use borrow.Author.Needs.{needs}
 use Rattle.call.specs.Table.{signedAnswer}
-use Rattle.wundaleth.proofs.Bounds.{word-to-code-small}
+use Rattle.wundaleth.proofs.Bounds.{word-to-code-fits}
 use Rattle.wundaleth.proofs.wundaleth_word_to_code.Statement.{statement}
 use Rattle.wundaleth.proofs.wundaleth_word_to_code.Tie as tie
 
 signed-of-requires : tie.Need-signed-of-requires
-signed-of-requires c κs = rw (c .before .before .word-to-code .ensures .0) (word-to-code-small _ _ _ _)
+signed-of-requires c κs = rw (c .before .before .word-to-code .ensures .0) (word-to-code-fits _ _ _ _)
 
 returns : tie.Need-returns
 returns c =

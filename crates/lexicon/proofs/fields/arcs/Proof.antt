@@ -6,12 +6,12 @@ use native.Mathlib.Omega.{arith}
 use borrow.Author.Needs.{needs}
 use Rattle.lexicon.specs.Lexicon.{nodeCount}
 use Rattle.lexicon.proofs.Sections.Successors.{blank}
-use Rattle.lexicon.proofs.Sections.Lists.{ArcsLeft, arcs-start, arcs-fail, arcs-next, arcs-whole}
+use Rattle.lexicon.proofs.Sections.Lists.{ListsLeft, arcs-start, arcs-fail, arcs-next, arcs-whole}
 use Rattle.lexicon.proofs.fields.arcs.Statement.{statement}
 use Rattle.lexicon.proofs.fields.arcs.Tie as tie
 
 abbrev Inv-loop : tie.InvT-loop
-Inv-loop lexicon nodes seen₀ at₀ total₀ vertex₀ seen at total vertex = ArcsLeft lexicon seen at total vertex
+Inv-loop lexicon nodes seen₀ at₀ total₀ vertex₀ seen at total vertex = ListsLeft lexicon seen at total vertex
 
 abbrev μ-loop : tie.MeasureT-loop
 μ-loop lexicon nodes seen₀ at₀ total₀ vertex₀ seen at total vertex = nodes + 1 - vertex

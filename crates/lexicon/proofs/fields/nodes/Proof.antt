@@ -4,12 +4,13 @@ use Prim.Native.Nat.{_+_, _-_}
 use mathlib.Core.Path.{sym, _∙_}
 use native.Mathlib.Omega.{arith}
 use borrow.Author.Needs.{needs}
-use Rattle.lexicon.proofs.Sections.Nodes.{NodesLeft, nodes-fail, nodes-start, letter-missing, letter-out, letter-good, nodes-whole}
+use Rattle.lexicon.proofs.Sections.Nodes.{NodeLettersLeft, nodes-fail, nodes-start, letter-missing, letter-out}
+use Rattle.lexicon.proofs.Sections.Nodes.{letter-good, nodes-whole}
 use Rattle.lexicon.proofs.fields.nodes.Statement.{statement}
 use Rattle.lexicon.proofs.fields.nodes.Tie as tie
 
 abbrev Inv-loop : tie.InvT-loop
-Inv-loop lexicon letters found n node₀ node = NodesLeft letters lexicon n node
+Inv-loop lexicon letters found n node₀ node = NodeLettersLeft letters lexicon n node
 
 abbrev μ-loop : tie.MeasureT-loop
 μ-loop lexicon letters found n node₀ node = n + 1 - node

@@ -3,7 +3,7 @@
 use Prim.Native.Nat.{_-_}
 use native.Mathlib.Omega.{arith}
 use borrow.Author.Needs.{needs}
-use Rattle.report.proofs.Hits.{i32-again, Lined, lines-start, hit-named, still-ready, lines-next, lines-end}
+use Rattle.report.proofs.Hits.{i32-again, Lined, lines-start, hit-named, still-accepted, lines-next, lines-end}
 use Rattle.report.proofs.lines.put_lines.Statement.{statement}
 use Rattle.report.proofs.lines.put_lines.Tie as tie
 
@@ -23,8 +23,10 @@ put-hit-requires c κs =
     let p = t .before .loop .inv in
     let h = t .loop-test .taken in
     let e = c .before .before .code-at .ensures in
-    let below = hit-named (s .pre .1 .0) (t .before .loop .i) (omega arith) in
-    (still-ready (s .pre .0) (s .pre .1 .0) (omega (arith, s .pre .1 .1)) p, (rw e below, omega (arith, s .pre .1 .1, p .few-bytes, p .out-long)))
+    let below = hit-named (s .pre .1 .0) (t .before .loop .i) (omega arith) in (
+      still-accepted (s .pre .0) (s .pre .1 .0) (omega (arith, s .pre .1 .1)) p,
+      (rw e below, omega (arith, s .pre .1 .1, p .few-bytes, p .out-long)),
+    )
 
 loop-again : tie.Need-loop-again Inv-loop μ-loop
 loop-again c =

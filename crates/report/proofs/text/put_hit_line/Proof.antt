@@ -6,7 +6,7 @@ use mir.Facts.{toZ-ofZ}
 use borrow.Author.Needs.{needs}
 use lib.ListN.{length}
 use Rattle.report.specs.Report.{signedDecimal}
-use Rattle.report.specs.Put.{Put}
+use Rattle.report.specs.Text.{TextPut}
 use Rattle.report.proofs.Digits.{decimal-short, signed-short}
 use Rattle.report.proofs.Putting.{put-more}
 use Rattle.report.proofs.text.put_hit_line.Statement.{statement}
@@ -14,12 +14,14 @@ use Rattle.report.proofs.text.put_hit_line.Tie as tie
 
 -- the score and the mean are put
 score : (c : tie.After-put-spaced) → let p = c .before .before .before .before in
-    Put (32 ∷ signedDecimal (p .before .before .before .before .args .score)) (p .put-decimal .result) (p .put-decimal .last .1 .0)
+    TextPut (32 ∷ signedDecimal (p .before .before .before .before .args .score)) (p .put-decimal .result)
+    (p .put-decimal .last .1 .0)
     (c .put-spaced .last .1 .0) (c .put-spaced .result)
 score c = rw (toZ-ofZ (c .before .before .before .before .before .before .before .before .fits .score)) at (c .put-spaced .ensures)
 
 mean : (c : tie.After-put-spaced2) → let p = c .before .before .before .before in
-    Put (32 ∷ signedDecimal (p .before .before .before .before .before .before .before .before .args .mean)) (p .put-spaced .result)
+    TextPut (32 ∷ signedDecimal (p .before .before .before .before .before .before .before .before .args .mean))
+    (p .put-spaced .result)
     (p .put-spaced .last .1 .0) (c .put-spaced2 .last .1 .0) (c .put-spaced2 .result)
 mean c = rw (toZ-ofZ (c .before .before .before .before .before .before .before .before .before .before .before .before .fits .mean)) at (c .put-spaced2 .ensures)
 

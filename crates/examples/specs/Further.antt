@@ -21,6 +21,7 @@ use Rattle.codes.specs.Lookup.{wordToCodeAnswer, codeToWordAnswer, listAnswer, 
 use Rattle.ranking.specs.Hits.{Hit, hit}
 use Rattle.decoder.specs.Decoding.{hits, decodeAnswer, decodeOut}
 use Rattle.report.specs.Report.{countIn, report}
+use Rattle.report.specs.Arcs.{arcsText}
 use Rattle.examples.specs.SmallLexicon.{voice, P, it, work, minus, thirdRow}
 
 -- ---- small images
@@ -97,7 +98,7 @@ hitsOf v x frames = hits v (graphOf x) frames 8
 
 -- ---- refusal 1 and the work bytes; 2 and 3, 4 and 5 at both sides of every field's range
 
-pub record FieldPins : Type 0 where
+pub record FieldExamples : Type 0 where
   pub space : signedAnswer (checkAnswer [] [] (replicate 63999 9)) ∷ signedAnswer (checkAnswer [] [] work) ∷ [] ≡ minus 1 ∷ minus 2 ∷ []
   pub space-kept : cleared (replicate 63999 9) ≡ replicate 63999 9
   pub space-cleared : cleared (replicate 64002 9) ≡ replicate 64000 0 ++ 9 ∷ 9 ∷ []
@@ -125,7 +126,7 @@ pub record FieldPins : Type 0 where
 
 -- ---- 6 to 10
 
-pub record ConditionPins : Type 0 where
+pub record ConditionExamples : Type 0 where
   pub orphans : checkLexicon (3 ∷ 0 ∷ 0 ∷ 0 ∷ 0 ∷ 2 ∷ 0 ∷ 1 ∷ 0 ∷ 2 ∷ 0 ∷ 1 ∷ 0 ∷ 4 ∷ 0 ∷ 1 ∷ 0 ∷ 4 ∷ 0 ∷ 1 ∷ 0 ∷ 4 ∷ 0 ∷ 0 ∷ 0 ∷ []) ≡ minus 6
   -- 1,004 places, in a word too long: 7 comes before 8
   pub places : signedAnswer (checkAnswer fourStates (chain 251) work) ≡ minus 7
@@ -138,14 +139,18 @@ pub record ConditionPins : Type 0 where
   -- a then n, twice, by other nodes that join again; a to sink, and a to n, by two nodes a
   pub joined-again : signedAnswer (checkAnswer voice (4 ∷ 0 ∷ 0 ∷ 0 ∷ 2 ∷ 3 ∷ 2 ∷ 0 ∷ 1 ∷ 0 ∷ 2 ∷ 0 ∷ 1 ∷ 0 ∷ 3 ∷ 0 ∷ 2 ∷ 0 ∷ 3 ∷ 0 ∷ 4 ∷ 0 ∷ 1 ∷ 0 ∷ 5 ∷ 0 ∷ 1 ∷ 0 ∷ 5 ∷ 0 ∷ 0 ∷ 0 ∷ []) work) ≡ minus 10
   -- nodes a, i, a in this order, each from root to sink: not neighbours, but the same letters
-  pub twins-apart : signedAnswer (checkAnswer voice (3 ∷ 0 ∷ 0 ∷ 1 ∷ 0 ∷ 3 ∷ 0 ∷ 1 ∷ 0 ∷ 2 ∷ 0 ∷ 3 ∷ 0 ∷ 1 ∷ 0 ∷ 4 ∷ 0 ∷ 1 ∷ 0 ∷ 4 ∷ 0 ∷ 1 ∷ 0 ∷ 4 ∷ 0 ∷ 0 ∷ 0 ∷ []) work) ≡ minus 10
-  pub prefix-is-no-twin : signedAnswer (checkAnswer voice (3 ∷ 0 ∷ 0 ∷ 0 ∷ 2 ∷ 2 ∷ 0 ∷ 1 ∷ 0 ∷ 2 ∷ 0 ∷ 1 ∷ 0 ∷ 4 ∷ 0 ∷ 1 ∷ 0 ∷ 3 ∷ 0 ∷ 1 ∷ 0 ∷ 4 ∷ 0 ∷ 0 ∷ 0 ∷ []) work) ≡ pos 2
+  pub same-letters-apart : signedAnswer (checkAnswer voice
+      (3 ∷ 0 ∷ 0 ∷ 1 ∷ 0 ∷ 3 ∷ 0 ∷ 1 ∷ 0 ∷ 2 ∷ 0 ∷ 3 ∷ 0 ∷ 1 ∷ 0 ∷ 4 ∷ 0 ∷ 1 ∷ 0 ∷ 4 ∷ 0 ∷ 1 ∷ 0 ∷ 4 ∷ 0 ∷ 0 ∷ 0 ∷ [])
+      work) ≡ minus 10
+  pub prefix-differs : signedAnswer (checkAnswer voice
+      (3 ∷ 0 ∷ 0 ∷ 0 ∷ 2 ∷ 2 ∷ 0 ∷ 1 ∷ 0 ∷ 2 ∷ 0 ∷ 1 ∷ 0 ∷ 4 ∷ 0 ∷ 1 ∷ 0 ∷ 3 ∷ 0 ∷ 1 ∷ 0 ∷ 4 ∷ 0 ∷ 0 ∷ 0 ∷ []) work)
+      ≡ pos 2
   -- the voice model is judged before the lexicon
   pub voice-first : signedAnswer (checkAnswer (A ++ 0 ∷ []) (0 ∷ 0 ∷ []) work) ≡ minus 2
 
 -- ---- scores
 
-pub record ScorePins : Type 0 where
+pub record ScoreExamples : Type 0 where
   -- in aa staying in a and passing from a to a are two moves
   pub loop-or-link : hitsOf A wordsAA (0 ∷ 0 ∷ []) ≡ hit (minus 21) 0 ∷ hit (minus 25) 1 ∷ []
   pub link-better : hitsOf (oneLetter 251 255 255 255 246 255) wordsAA (0 ∷ 0 ∷ 0 ∷ []) ≡ hit (minus 36) 1 ∷ hit (minus 40) 0 ∷ []
@@ -164,7 +169,7 @@ pub record ScorePins : Type 0 where
 
 -- ---- decoding: its bytes, its refusals
 
-pub record DecodingPins : Type 0 where
+pub record DecodingExamples : Type 0 where
   pub hit-bytes : decodeOut A wordsAA (0 ∷ 0 ∷ []) 3 work (replicate 25 7)
       ≡ 235 ∷ 255 ∷ 255 ∷ 255 ∷ 0 ∷ 0 ∷ 0 ∷ 0 ∷ 231 ∷ 255 ∷ 255 ∷ 255 ∷ 1 ∷ 0 ∷ 0 ∷ 0 ∷ replicate 9 7
   pub large-score : decodeOut (oneLetter 255 127 0 0 255 127) wordA (0 ∷ 0 ∷ 0 ∷ []) 1 work (replicate 8 7) ≡ 251 ∷ 127 ∷ 2 ∷ 0 ∷ 0 ∷ 0 ∷ 0 ∷ 0 ∷ []
@@ -180,7 +185,7 @@ pub record DecodingPins : Type 0 where
 
 -- ---- words, codes and listing; width and mean; packing; successors
 
-pub record CodePins : Type 0 where
+pub record CodeExamples : Type 0 where
   pub no-words : map (λ w. signedAnswer (wordToCodeAnswer voice P w work)) ([] ∷ (97 ∷ []) ∷ (it ++ 116 ∷ []) ∷ (0 ∷ 2 ∷ []) ∷ (110 ∷ 97 ∷ []) ∷ [])
       ≡ minus 13 ∷ minus 13 ∷ minus 13 ∷ minus 13 ∷ minus 13 ∷ []
   pub code-limits : map (λ c. signedAnswer (codeToWordAnswer voice P c work [])) (0 ∷ 4 ∷ 5 ∷ 4294967295 ∷ [])
@@ -211,10 +216,19 @@ pub record CodePins : Type 0 where
 
 -- ---- the program: input cut in a length, in an image, before n, before the frames
 
-pub record ProgramPins : Type 0 where
+pub record ProgramExamples : Type 0 where
   pub reports-cut : map (λ n. report (take n thirdRow)) (0 ∷ 1 ∷ 64 ∷ 66 ∷ 102 ∷ 103 ∷ 104 ∷ []) ≡ refusedLine (50 ∷ []) ∷ refusedLine (50 ∷ []) ∷ refusedLine (50 ∷ []) ∷ refusedLine (52 ∷ []) ∷ refusedLine (52 ∷ []) ∷ refusedLine (49 ∷ 49 ∷ []) ∷ refusedLine (49 ∷ 49 ∷ []) ∷ []
   -- a missing n is 0
   pub counts-cut : map (λ n. countIn (take n thirdRow)) (0 ∷ 103 ∷ 104 ∷ []) ≡ 0 ∷ 0 ∷ 3 ∷ []
   -- no hits: one line
   pub no-hits-printed : report (length fiveStates ∷ 0 ∷ fiveStates ++ length fiveWords ∷ 0 ∷ fiveWords ++ 8 ∷ 0 ∷ [])
       ≡ 104 ∷ 105 ∷ 116 ∷ 115 ∷ 32 ∷ 48 ∷ 32 ∷ 119 ∷ 111 ∷ 114 ∷ 100 ∷ 115 ∷ 32 ∷ 53 ∷ 32 ∷ 98 ∷ 105 ∷ 116 ∷ 115 ∷ 32 ∷ 51 ∷ 10 ∷ []
+  -- the program arcs: a line for each vertex of P, and the refusals of a lexicon
+  pub arcs-printed : arcsText P
+      ≡ 48 ∷ 58 ∷ 32 ∷ 49 ∷ 32 ∷ 50 ∷ 10
+      ∷ 49 ∷ 32 ∷ 48 ∷ 58 ∷ 32 ∷ 51 ∷ 32 ∷ 52 ∷ 10
+      ∷ 50 ∷ 32 ∷ 49 ∷ 58 ∷ 32 ∷ 53 ∷ 32 ∷ 51 ∷ 32 ∷ 52 ∷ 10
+      ∷ 51 ∷ 32 ∷ 50 ∷ 58 ∷ 32 ∷ 53 ∷ 10
+      ∷ 52 ∷ 32 ∷ 51 ∷ 58 ∷ 32 ∷ 53 ∷ 10
+      ∷ []
+  pub arcs-refused : map arcsText ((0 ∷ []) ∷ (0 ∷ 0 ∷ []) ∷ []) ≡ refusedLine (52 ∷ []) ∷ refusedLine (53 ∷ []) ∷ []

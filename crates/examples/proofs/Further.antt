@@ -1,11 +1,12 @@
--- The pins hold: each is computed. Assumes nothing.
+-- The further examples hold: each is computed. Assumes nothing.
 use mathlib.Core.Path.{refl}
-use Rattle.examples.specs.Pins.{FieldPins, ConditionPins, ScorePins, DecodingPins, CodePins, ProgramPins}
+use Rattle.examples.specs.Further.{FieldExamples, ConditionExamples, ScoreExamples, DecodingExamples}
+use Rattle.examples.specs.Further.{CodeExamples, ProgramExamples}
 use Rattle.examples.proofs.Open.{everything}
 
-pub field-pins : FieldPins
+pub field-examples : FieldExamples
 unfolding everything
-field-pins = record {
+field-examples = record {
   space = refl;
   space-kept = refl;
   space-cleared = refl;
@@ -28,9 +29,9 @@ field-pins = record {
   arc-total = refl;
 }
 
-pub condition-pins : ConditionPins
+pub condition-examples : ConditionExamples
 unfolding everything
-condition-pins = record {
+condition-examples = record {
   orphans = refl;
   places = refl;
   place-counts = refl;
@@ -40,14 +41,14 @@ condition-pins = record {
   word-counts = refl;
   word-count-limit = refl;
   joined-again = refl;
-  twins-apart = refl;
-  prefix-is-no-twin = refl;
+  same-letters-apart = refl;
+  prefix-differs = refl;
   voice-first = refl;
 }
 
-pub score-pins : ScorePins
+pub score-examples : ScoreExamples
 unfolding everything
-score-pins = record {
+score-examples = record {
   loop-or-link = refl;
   link-better = refl;
   tied = refl;
@@ -61,9 +62,9 @@ score-pins = record {
   sum-is-possible = refl;
 }
 
-pub decoding-pins : DecodingPins
+pub decoding-examples : DecodingExamples
 unfolding everything
-decoding-pins = record {
+decoding-examples = record {
   hit-bytes = refl;
   large-score = refl;
   no-hits = refl;
@@ -74,9 +75,9 @@ decoding-pins = record {
   hit-room = refl;
 }
 
-pub code-pins : CodePins
+pub code-examples : CodeExamples
 unfolding everything
-code-pins = record {
+code-examples = record {
   no-words = refl;
   code-limits = refl;
   code-room = refl;
@@ -98,10 +99,12 @@ code-pins = record {
   parts-unread = refl;
 }
 
-pub program-pins : ProgramPins
+pub program-examples : ProgramExamples
 unfolding everything
-program-pins = record {
+program-examples = record {
   reports-cut = refl;
   counts-cut = refl;
   no-hits-printed = refl;
+  arcs-printed = refl;
+  arcs-refused = refl;
 }

@@ -5,6 +5,6 @@ use mathlib.Core.List.{List, _++_}
 use lib.ListN.{length, take, drop}
 
 -- out′ is out with the text from `at` on, which stops before `end`; all other bytes keep their values
-pub record Put (text : List ℕ) (at : ℕ) (out out′ : List ℕ) (end : ℕ) : Type 0 where
+pub record TextPut (text : List ℕ) (at : ℕ) (out out′ : List ℕ) (end : ℕ) : Type 0 where
   pub ends : end ≡ at + length text
   pub puts : out′ ≡ take at out ++ text ++ drop (at + length text) out
