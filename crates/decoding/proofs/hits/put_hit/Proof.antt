@@ -10,6 +10,7 @@ use lib.ListN.{length}
 use lib.Seq.{sets}
 use Rattle.endian.specs.Bytes.{i32Bytes, u32Bytes}
 use Rattle.decoder.specs.Score.{valueOf}
+use Rattle.decoder.specs.Token.{codePart}
 use Rattle.decoding.specs.Listing.{hitOf}
 use Rattle.decoding.proofs.Listing.{sets-append}
 use Rattle.decoding.proofs.hits.put_hit.Statement.{statement}
@@ -26,7 +27,7 @@ score c =
 
 code : (c : tie.After-u32-bytes) →
     c .u32-bytes .result ≡ u32Bytes (hitOf (c .before .before .before .before .before .before .before .before .before .before .before .args .token .0) .code)
-unfolding hitOf
+unfolding hitOf codePart
 code c = c .u32-bytes .ensures ∙ ap u32Bytes (c .before .code .ensures)
 
 put-bytes-requires : tie.Need-put-bytes-requires
