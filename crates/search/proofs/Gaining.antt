@@ -52,6 +52,14 @@ module _ (y : ℤ) (h : mag y < 32768) where
   number-some : 0 < raised bias y
   number-some = omega (arith, stored-is, size y, mag-size y h)
 
+pub number-none : (y : ℤ) → mag y < 32768 → numberOf (possible y) ≡ 0 → possible y ≡ none
+unfolding numberOf possible
+number-none y h = go (eqZ y impossible)
+  where
+    go : (b : Bool) → numberOf (cond b none (some y)) ≡ 0 → cond b none (some y) ≡ none
+    go true z = refl
+    go false z = absurd (omega (arith, number-some y h))
+
 pub sum-first : (b : ℕ) → numberSum 0 b ≡ 0
 unfolding numberSum
 sum-first b = refl

@@ -1,12 +1,13 @@
 -- Tokens passed on along the arcs of a vertex: one arc, and the loop over all. What is left to pass on from the store so far is what was to be
 -- passed on from the store at the beginning; the increment of the next arc is the sum of the counts before it. Assumes nothing.
-use Prim.Native.Nat.{ℕ, zero, suc, _+_, _*_, _^_, _≤_, _<_}
+use Prim.Native.Nat.{ℕ, zero, suc, _+_, _-_, _*_, _^_, _≤_, _<_}
 use mathlib.Core.Path.{_≡_, refl, sym, ap, ap₂, _∙_}
 use mathlib.Core.Bool.{Bool, true, false}
 use mathlib.Core.Logic.{inl, ⊎-elim}
 use mathlib.Core.List.{List, [], _∷_, _++_, Memᴰ·append-right, List·Memᴰ, List·Memᴰ·head as here, List·Memᴰ·tail as there, List·Memᴰ·append-cases as append-cases}
+use mathlib.Core.Option.{none}
 use native.Mathlib.Omega.{arith}
-use native.Mathlib.Nat.{add-zero}
+use native.Mathlib.Nat.{add-zero, pos-of-ne-zero}
 use native.Mathlib.Decide.{decLt, ℕ-discrete}
 use lib.ListN.{length, getD}
 use Rattle.endian.specs.Bytes.{u16}
@@ -36,8 +37,8 @@ use Rattle.search.specs.Stored.{VertexTable, Bound, Place, Stored, sourc
 use Rattle.search.specs.Carrying.{Worth, Offering, joined, Arc, overOne}
 use Rattle.search.proofs.Numbers.{token-some}
 use Rattle.search.proofs.Lending.{changed-apart}
-use Rattle.search.proofs.Storing.{PutAt, same, other, put-at, stored-put, stored-ext, pass-nothing, words-few, place-there, place-room, slot-small, carried-bound, bound-storable, movers}
-use Rattle.search.proofs.Gaining.{number-near, sum-both}
+use Rattle.search.proofs.Storing.{PutAt, same, other, put-at, stored-put, stored-ext, pass-nothing, pass-closed, words-few, place-there, place-room, slot-small, carried-bound, bound-storable, movers}
+use Rattle.search.proofs.Gaining.{number-near, number-none, sum-some, sum-both}
 use Rattle.search.proofs.Carrying.{emission-range, worth-by, passed-long, passed-take}
 
 -- ---- what is accepted
@@ -147,6 +148,15 @@ module _ {x : List ℕ} {n : ℕ} {vertices gains : List (List ℕ)} {link : ℕ
       entry-near = rw (entered-is k) (number-near _ (emission-range (h .v) _ (h .k)));
     }
 
+    -- the gain of a possible link and emission
+    pub arc-gain : ¬ (link ≡ 0) → ¬ (entered ≡ 0) → (link + entered - bias ≡ numberSum link entered) × ¬ (link + entered - bias ≡ 0)
+    arc-gain y z =
+        let a = pos-of-ne-zero y in
+        let b = pos-of-ne-zero z in
+        let l = arc-read .link-near .low a in
+        let m = arc-read .entry-near .low b in
+        (sym (sum-some link entered a b), λ q. omega arith)
+
     pub arc-slot : firstIn vertices u ≤ 8000
     arc-slot = rw slot-is (slot-small (h .v) x (h .ready .accepted) (h .roomy) (omega (arith, place-there (h .v) x place)))
 
@@ -188,6 +198,12 @@ module _ {x : List ℕ} {n : ℕ} {vertices gains : List (List ℕ)} {link : ℕ
 
   pub arc-node : ¬ (firstIn vertices u ≡ noPlace) → u ≤ nodeCount x
   arc-node z = slot-there (h .ready) arc-bounded z
+
+  pub arc-slot-fits : firstIn vertices u ≤ 65535
+  arc-slot-fits = elim (ℕ-discrete (firstIn vertices u) noPlace) [
+    | yes e ↦ omega (arith, e)
+    | no d ↦ omega (arith, arc-slot (arc-node d))
+  ]
 
   -- the sink has no place
   pub arc-sink : firstIn vertices u ≡ noPlace → Stored (h .v) g n (overOne t) b
@@ -391,6 +407,21 @@ module _ {x : List ℕ} {n : ℕ} {vertices gains : List (List ℕ)} {link w : �
     passing-done end =
         let e : L .Q ≡ passedOn t = rw (arcs-done (L .sums .arcs) end) at (L .passed) in
         record { stored = rw e at (L .stored); above = λ {u} {s} p l i. L .above p l (rw (sym (ap (λ (P : Store). P u s) e)) at i); long = L .long }
+
+  -- nothing is passed on over an impossible link
+  pub passing-closed : link ≡ 0 → PassedOn t b₀
+  unfolding passedOn
+  passing-closed z = record {
+    stored = stored-ext (t .stored) (λ u s p. nothing p);
+    above = λ p l i. t .above p l (rw (nothing p) at i);
+    long = refl;
+  }
+    where
+      e : t .score ≡ none
+      e = t .score-is ∙ number-none (t .moved) (t .small) (sym (t .link-is) ∙ z)
+
+      nothing : {u s : ℕ} → Place (t .v) (graphOf x) u s → passOn (t .v) (graphOf x) n (t .k) (λ u. t .score) w (t .l) (successors x w) (t .Q) u s ≡ t .Q u s
+      nothing p = rw e (pass-closed n (t .k) w (t .l) (successors x w) (t .Q) (λ u s q. t .stored .kept q) p)
 
   no-tokens : (m : ℕ) (l : List Hit) → 1 ≤ m → source root n from b₀ ≡ held m l → ((y : Hit) → List·Memᴰ y l → Bound (graphOf x) (t .M) w y)
       → getD (source root n from b₀) 0 0 ≡ 0 → l ≡ []

@@ -57,6 +57,10 @@ unfolding carried
 carried-nothing none d = refl
 carried-nothing (some a) d = refl
 
+closed : (o : Option ℤ) (d : ℕ) (l : List Hit) → carried (plus none o) d l ≡ []
+unfolding carried plus
+closed o d l = refl
+
 module _ {v : List ℕ} {g : Graph} where
   apart : (n : ℕ) {u s w r : ℕ} → Place v g u s → Place v g w r → ((w ≡ u) × (r ≡ s) → ⊥)
       → (n * (firstPlace v g w + r) + n ≤ n * (firstPlace v g u + s)) ⊎ (n * (firstPlace v g u + s) + n ≤ n * (firstPlace v g w + r))
@@ -100,6 +104,15 @@ module _ {v : List ℕ} {g : Graph} where
       pass-nothing n k score w us _
       (λ u s q. rw (put-nothing n P x 0 K (carried-nothing (plus (score x) (symbolScore v g k x 0)) (increment g w x)) q) (K u s q)) p
       ∙ put-nothing n P x 0 K (carried-nothing (plus (score x) (symbolScore v g k x 0)) (increment g w x)) p
+
+  -- nothing is offered over arcs that are impossible
+  pub pass-closed : (n k w : ℕ) (l : List Hit) (us : List ℕ) (P : Store) → Kept v g n P → {u s : ℕ} → Place v g u s
+      → passOn v g n k (λ u. none) w l us P u s ≡ P u s
+  unfolding passOn
+  pass-closed n k w l [] P K p = refl
+  pass-closed n k w l (x ∷ us) P K p =
+      pass-closed n k w l us _ (λ u s q. rw (put-nothing n P x 0 K (closed (symbolScore v g k x 0) (increment g w x) l) q) (K u s q)) p
+      ∙ put-nothing n P x 0 K (closed (symbolScore v g k x 0) (increment g w x) l) p
 
 -- ---- where places lie
 

@@ -33,7 +33,7 @@ firstIn t u = getD (getD t u []) 2 0
 
 -- the first slot of the sink, which has no place
 abbrev pub noPlace : ℕ
-noPlace = 4294967295
+noPlace = 65535
 
 -- the first slots are put into the table t, and nothing else; r is the number of all slots
 pub record SlotsPut (v x : List ℕ) (n : ℕ) (t t′ : List (List ℕ)) (r : ℕ) : Type 0 where

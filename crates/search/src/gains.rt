@@ -21,7 +21,7 @@ use decoder::score::Score;
 pub(crate) const ENTRY: usize = 4;
 
 // The score of a move and of the emission after it; impossible where one of them is.
-pub(crate) fn gain(moved: Score, emission: Score) -> Score
+fn gain(moved: Score, emission: Score) -> Score
     requires { ⌜ NearBias (moved .0) × NearBias (emission .0) ⌝ }
     ensures { λ r. ⌜ r .0 ≡ numberSum (moved .0) (emission .0) ⌝ }
 {

@@ -11,7 +11,7 @@ use checking::PATHS;
 use endian::u16_at;
 
 // The first slot of the sink, which has no place.
-pub(crate) const NO_PLACE: u32 = 4294967295;
+pub(crate) const NO_PLACE: usize = 65535;
 
 // Puts the first slot of each node into the table of vertices, where each place has n: n times the number of states of
 // all nodes below it. Answers the number of all slots.
@@ -31,6 +31,6 @@ pub(crate) fn find_slots(voice: &[u8], lexicon: &[u8], n: usize, vertices: &mut 
         node += 1;
     }
     let row = vertices[node];
-    vertices[node] = [row[ARCS_AT], row[PATHS], NO_PLACE];
+    vertices[node] = [row[ARCS_AT], row[PATHS], NO_PLACE as u32];
     slot
 }

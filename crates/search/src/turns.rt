@@ -10,9 +10,8 @@ ghost use Rattle.decoder.specs.Score.{bias};
 ghost use Rattle.search.specs.Slots.{slots};
 ghost use Rattle.search.specs.Held.{lift, held};
 ghost use Rattle.search.specs.Stored.{Stored, PassingOn, PassedOn, Turn, TurnDone};
-ghost use Rattle.search.specs.Carrying.{Staying, Arc, Own, Renewing, Renewal, stayed, overOne, renewedOne, renewedAll, renewal};
+ghost use Rattle.search.specs.Carrying.{Staying, Arc, Leading, Own, Renewing, Renewal, stayed, overOne, renewedOne, renewedAll, renewal};
 use crate::gains::ENTRY;
-use crate::gains::gain;
 use crate::letters::LOOP;
 use crate::letters::STEP;
 use crate::parts::offer_from;
@@ -20,10 +19,12 @@ use crate::places::NO_PLACE;
 use crate::store::clear_place;
 use crate::store::insert;
 use crate::store::shift;
+use crate::tokens::moved;
 use crate::tokens::token_at;
 use checking::ARCS_AT;
 use checking::FIRST_SLOT;
 use checking::PATHS;
+use decoder::score::BIAS;
 use decoder::score::Score;
 use decoder::token::LIFT;
 use decoder::token::Token;
@@ -38,32 +39,46 @@ fn number_at(lexicon: &[u8], at: usize) -> usize
     u16_of(lexicon[at], lexicon[at + 1]) as usize
 }
 
-// Passes tokens on over one arc, to vertex t: the link of the letter that is left, and the emission of the one entered.
+// What a node passes on: the tokens from a slot on, of which the first is the best.
+struct Source {
+    from: usize,
+    best: Token,
+}
+
+// Passes tokens on over one arc, to vertex t: with the link of the letter that is left and the emission of the one entered.
 fn pass_over(
     lexicon: &[u8],
     n: usize,
     vertices: &[[u32; 3]; 402],
     gains: &[[u32; 8]; 64],
     link: Score,
-    from: usize,
+    source: Source,
     t: usize,
     down: u64,
     store: &mut [u8],
 )
-    requires { ⌜ Arc (now lexicon) n (now vertices) (now gains) (link .0) false from t down (now store) ⌝ }
-    ensures { λ _. ⌜ ((a : Arc (now (lexicon .entry)) n (now (vertices .entry)) (now (gains .entry)) (link .0) false from t down (now (store .entry))) → Stored (a .passing-on .v) (graphOf (now (lexicon .entry))) n (overOne a) (now (store .exit))) ⌝ }
-    ensures { λ _. ⌜ slots n from (now (store .exit)) ≡ slots n from (now (store .entry)) ⌝ }
+    requires { ⌜ Arc (now lexicon) n (now vertices) (now gains) (link .0) false (source .from) t down (now store) ⌝ }
+    requires { ⌜ Leading (link .0) (source .from) (source .best .0) (now store) ⌝ }
+    ensures { λ _. ⌜ ((a : Arc (now (lexicon .entry)) n (now (vertices .entry)) (now (gains .entry)) (link .0) false (source .from) t down (now (store .entry))) → Stored (a .passing-on .v) (graphOf (now (lexicon .entry))) n (overOne a) (now (store .exit))) ⌝ }
+    ensures { λ _. ⌜ slots n (source .from) (now (store .exit)) ≡ slots n (source .from) (now (store .entry)) ⌝ }
 {
-    let slot = vertices[t][FIRST_SLOT];
+    let slot = vertices[t][FIRST_SLOT] as usize;
     if slot == NO_PLACE {
         return;
     }
     let letter = lexicon[1 + t] as usize;
-    let score = gain(link, Score(gains[letter][ENTRY]));
-    if score.is_impossible() {
+    let emission = Score(gains[letter][ENTRY]);
+    if emission.is_impossible() {
         return;
     }
-    offer_from(store, n, from, slot as usize, score.0 as u64 * UNIT, down);
+    let up = (link.0 + emission.0 - BIAS) as u64 * UNIT;
+    // most arcs end here: where the best does not enter, no other does
+    let candidate = moved(source.best, up, down);
+    let last = token_at(store, slot + n - 1);
+    if last.outranks(candidate) {
+        return;
+    }
+    offer_from(store, n, source.from, slot, up, down);
 }
 
 // Passes the tokens of a node, which it has from a slot on, on to the first state of each node that it leads to.
@@ -84,13 +99,20 @@ fn pass_on(
     if best.is_none() {
         return;
     }
+    if link.is_impossible() {
+        return;
+    }
+    let source = Source {
+        from: from,
+        best: best,
+    };
     let start = vertices[node][ARCS_AT] as usize;
     let stop = start + 2 + 2 * number_at(lexicon, start);
     let mut at = start + 2;
     let mut down = LIFT;
     while at < stop {
         let t = number_at(lexicon, at);
-        pass_over(lexicon, n, vertices, gains, link, from, t, down, store);
+        pass_over(lexicon, n, vertices, gains, link, source, t, down, store);
         down += vertices[t][PATHS] as u64;
         at += 2;
     }

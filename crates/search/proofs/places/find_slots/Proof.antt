@@ -113,6 +113,7 @@ find-slots-spec =
     (λ c. let h = last (c .before) in search needs)
     (λ c. search needs)
     (λ c. search needs)
+    (λ c. search needs)
     (λ c. let h = last (c .before .before) in search needs)
     (λ c. let h = last (c .before .before) in search needs)
     returns)

@@ -1,27 +1,28 @@
 -- `turns::pass_on` meets its contract: what is left to pass on from the store so far is what was to be passed on. The measure
 -- is what is left of the list. Assumes nothing.
 use Prim.Native.Nat.{_+_, _-_, _*_, _≤_, _<_}
-use mathlib.Core.Path.{_≡_, refl, sym, _∙_}
+use mathlib.Core.Path.{_≡_, refl, sym, ap, _∙_}
 use mathlib.Core.Bool.{false}
 use native.Mathlib.Omega.{arith}
 use borrow.Author.Needs.{needs}
 use lib.ListN.{getD}
 use Rattle.checking.proofs.Arcs.{arc-next}
+use Rattle.decoder.specs.Score.{numberOf}
 use Rattle.search.specs.Held.{lift}
 use Rattle.search.specs.Places.{arcsIn, pathsIn}
 use Rattle.search.specs.Stored.{source, PassingOn}
 use Rattle.search.proofs.Told.{same-told, other-told}
 use Rattle.search.proofs.Carrying.{node-first}
-use Rattle.search.proofs.PassingOn.{PassingLeft, source-room, vertex-few, list-of, passing-start, next-there, left-arc, successor-few, down-few, passing-next, passing-done, passing-nothing}
+use Rattle.search.proofs.PassingOn.{PassingLeft, source-room, vertex-few, list-of, passing-start, next-there, left-arc, successor-few, down-few, passing-next, passing-done, passing-nothing, passing-closed}
 use Rattle.search.proofs.turns.pass_on.Statement.{statement}
 use Rattle.search.proofs.turns.pass_on.Tie as tie
 
 abbrev Inv-loop : tie.InvT-loop
-Inv-loop lexicon n vertices gains link node from store₀ start stop at₀ down₀ store at down =
+Inv-loop lexicon n vertices gains link node from store₀ tokens start stop at₀ down₀ store at down =
     (t : PassingOn lexicon n vertices gains (link .0) node false from store₀) → PassingLeft t at stop down store
 
 abbrev μ-loop : tie.MeasureT-loop
-μ-loop lexicon n vertices gains link node from store₀ start stop at₀ down₀ store at down = stop - at
+μ-loop lexicon n vertices gains link node from store₀ tokens start stop at₀ down₀ store at down = stop - at
 
 abbrev begin : tie.After-token-at Inv-loop μ-loop → tie.Start Inv-loop μ-loop
 begin c = c .before .before .before .before
@@ -38,8 +39,15 @@ returns c =
     let t = c .before .before in
     λ p. passing-nothing p (first t ∙ same-told (c .before .is-none .ensures) (c .if1 .taken))
 
+returns-2 : tie.Need-returns-2 Inv-loop μ-loop
+unfolding numberOf
+returns-2 c = λ p. passing-closed p (same-told (c .before .is-impossible .ensures) (c .if2 .taken))
+
+abbrev read : tie.After-number-at Inv-loop μ-loop → tie.After-token-at Inv-loop μ-loop
+read c = c .before .before .before .before .before .before
+
 abbrev at-list : tie.After-number-at Inv-loop μ-loop → tie.Start Inv-loop μ-loop
-at-list c = begin (c .before .before .before .before)
+at-list c = begin (read c)
 
 loop-holds : tie.Need-loop-holds Inv-loop μ-loop
 loop-holds c = λ t. rw (c .number-at .ensures) (passing-start t)
@@ -47,7 +55,7 @@ loop-holds c = λ t. rw (c .number-at .ensures) (passing-start t)
 -- where the list ends
 small : (c : tie.After-number-at Inv-loop μ-loop) →
     let a = at-list c .args in arcsIn (a .vertices .now) (a .node) + 2 + 2 * c .number-at .result ≤ 9204
-small c = rw (c .number-at .ensures) (list-of (at-list c .pre) .small)
+small c = omega (arith, list-of (at-list c .pre) .small, c .number-at .ensures)
 
 abbrev start : tie.At-loop Inv-loop μ-loop → tie.Start Inv-loop μ-loop
 start l = at-list (l .before)
@@ -56,11 +64,21 @@ number-at-requires-2 : tie.Need-number-at-requires-2 Inv-loop μ-loop
 number-at-requires-2 c κs = let t = start (c .before) .pre in next-there t (c .before .loop .inv t) (c .loop-test .taken)
 
 pass-over-requires : tie.Need-pass-over-requires Inv-loop μ-loop
+unfolding numberOf
 pass-over-requires c κs =
     let m = c .before in
     let l = m .before .before in
     let t = start l .pre in
-    left-arc t (l .loop .inv t) (m .before .loop-test .taken) (m .number-at2 .ensures)
+    let a = start l .args in
+    let i = l .loop .inv t in
+    let e = l .before .before .before in
+    let f = e .before .before in
+    let first-now = node-first (a .n) (a .from) (l .loop .store) (t .roomy .one) in
+    (left-arc t i (m .before .loop-test .taken) (m .number-at2 .ensures), record {
+      possible = other-told (e .before .is-impossible .ensures) (e .if2 .left);
+      there = other-told (f .before .is-none .ensures) (f .if1 .left);
+      first = sym (first (read (l .before))) ∙ sym (ap (λ l. getD l 0 0) (i .source-kept)) ∙ first-now;
+    })
 
 -- the successor has an entry of the table
 entry : (c : tie.After-number-at2 Inv-loop μ-loop) → c .number-at2 .result ≤ 401
@@ -74,10 +92,9 @@ sum : (c : tie.After-number-at2 Inv-loop μ-loop) →
 sum c =
     let l = c .before .before in
     let t = start l .pre in
-    let e = l .before .before .before in
-    let i = e .before in
+    let f = l .before .before .before .before .before in
     down-few t (l .loop .inv t) (c .before .loop-test .taken) (c .number-at2 .ensures)
-    (λ z. other-told (i .is-none .ensures) (e .if1 .left) (sym (first (i .before)) ∙ z))
+    (λ z. other-told (f .before .is-none .ensures) (f .if1 .left) (sym (first (f .before .before)) ∙ z))
 
 add-at-2 : tie.Need-add-at-2 Inv-loop μ-loop
 add-at-2 c =
@@ -94,11 +111,11 @@ loop-again c =
     λ t. passing-next t (l .loop .inv t) (m .before .loop-test .taken) (m .number-at2 .ensures) (o .pass-over .ensures .0) (o .pass-over .ensures .1)
     (o .pass-over .kept .1 .1 .1 .1 .1 .1 .1 .1 .0)
 
-same-length-2 : tie.Need-same-length-2 Inv-loop μ-loop
-same-length-2 c = c .before .loop .inv (start (c .before) .pre) .long
+same-length-3 : tie.Need-same-length-3 Inv-loop μ-loop
+same-length-3 c = c .before .loop .inv (start (c .before) .pre) .long
 
-returns-2 : tie.Need-returns-2 Inv-loop μ-loop
-returns-2 c = λ t. passing-done t (c .before .loop .inv t) (c .loop-test .left)
+returns-3 : tie.Need-returns-3 Inv-loop μ-loop
+returns-3 c = λ t. passing-done t (c .before .loop .inv t) (c .loop-test .left)
 
 pub pass-on-spec : {M : Type 1} → statement M
 pass-on-spec =
@@ -110,12 +127,15 @@ pass-on-spec =
     (λ c κs. search needs)
     (λ c. search needs)
     returns
-    (λ c. let h = vertex-few (begin (c .before .before) .pre) in search needs)
-    (λ c. let h = vertex-few (begin (c .before .before) .pre) in search needs)
+    (λ c κs. search needs)
     (λ c. search needs)
-    (λ c. let h = list-of (begin (c .before .before .before) .pre) .small in search needs)
-    (λ c. let h = list-of (begin (c .before .before .before) .pre) .small in search needs)
-    (λ c κs. let h = list-of (begin (c .before .before .before) .pre) .there in omega (arith, h))
+    returns-2
+    (λ c. let h = vertex-few (begin (c .before .before .before .before) .pre) in search needs)
+    (λ c. let h = vertex-few (begin (c .before .before .before .before) .pre) in search needs)
+    (λ c. search needs)
+    (λ c. let h = list-of (begin (c .before .before .before .before .before) .pre) .small in search needs)
+    (λ c. let h = list-of (begin (c .before .before .before .before .before) .pre) .small in search needs)
+    (λ c κs. let h = list-of (begin (c .before .before .before .before .before) .pre) .there in omega (arith, h))
     (λ c. let h = small c in search needs)
     (λ c. let h = small c in search needs)
     (λ c. let h = small c in search needs)
@@ -130,5 +150,5 @@ pass-on-spec =
     add-at-2
     (λ c. let h = c .before .before .before .before .before .before .loop-test .taken in omega arith)
     loop-again
-    same-length-2
-    returns-2)
+    same-length-3
+    returns-3)
