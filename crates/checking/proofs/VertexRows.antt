@@ -45,7 +45,7 @@ module _ (x : List ℕ) where
   unfolding verticesOf
   vertices-at {u} h = row-at (vertexRow x) 0 402 u h ∙ ap (vertexRow x) (zero-add u)
 
-  after-sink : {u : ℕ} → sinkOf x < u → vertexRow x u ≡ 0 ∷ 0 ∷ 0 ∷ []
+  after-sink : {u : ℕ} → sinkOf x < u → vertexRow x u ≡ 0 ∷ 0 ∷ 0 ∷ 0 ∷ []
   unfolding vertexRow
   after-sink {u} h = rw (le-ltb u (sinkOf x) (omega arith), le-ltb u (suc (sinkOf x)) h)
 
@@ -56,20 +56,20 @@ pub record RowsPut (x : List ℕ) (u : ℕ) (vertices : List (List ℕ)) : Type 
   pub long : length vertices ≡ 402
   pub vertex : u ≤ suc (sinkOf x)
   pub done : {i : ℕ} → i < u → getD vertices i [] ≡ vertexRow x i
-  pub zero-row : {i : ℕ} → u ≤ i → i < 402 → getD vertices i [] ≡ 0 ∷ 0 ∷ 0 ∷ []
+  pub zero-row : {i : ℕ} → u ≤ i → i < 402 → getD vertices i [] ≡ 0 ∷ 0 ∷ 0 ∷ 0 ∷ []
 
 module _ (x : List ℕ) where
-  pub rows-start : RowsPut x 0 (replicate 402 (0 ∷ 0 ∷ 0 ∷ []))
+  pub rows-start : RowsPut x 0 (replicate 402 (0 ∷ 0 ∷ 0 ∷ 0 ∷ []))
   rows-start = record {
     long = refl;
     vertex = omega arith;
     done = λ {i} h. absurd (omega arith);
-    zero-row = λ {i} h k. getD-replicate 402 i (0 ∷ 0 ∷ 0 ∷ []) [] k;
+    zero-row = λ {i} h k. getD-replicate 402 i (0 ∷ 0 ∷ 0 ∷ 0 ∷ []) [] k;
   }
 
 module _ {x : List ℕ} {u : ℕ} {vertices : List (List ℕ)} (r : RowsPut x u vertices) where
   pub rows-next : {offsets counts row : List ℕ} → WellFormed x → Tables x offsets counts → u ≤ sinkOf x
-      → row ≡ getD offsets u 0 ∷ getD counts u 0 ∷ 0 ∷ [] → RowsPut x (u + 1) (set vertices u row)
+      → row ≡ getD offsets u 0 ∷ getD counts u 0 ∷ 0 ∷ 0 ∷ [] → RowsPut x (u + 1) (set vertices u row)
   unfolding vertexRow
   rows-next {row = row} w t h e = rw add-one (record {
     long = length-set vertices u row ∙ r .long;

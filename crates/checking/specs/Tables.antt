@@ -1,4 +1,4 @@
--- The table that checking fills for the calls after it: a row of three numbers for each vertex. Assumes nothing.
+-- The table that checking fills for the calls after it: a row of four numbers for each vertex. Assumes nothing.
 use Prim.Native.Nat.{ℕ, suc, min, _<_}
 use mathlib.Core.Path.{_≡_}
 use mathlib.Core.Bool.{cond}
@@ -13,10 +13,10 @@ use Rattle.lexicon.specs.Lexicon.{sinkOf, arcsAt, lexiconVerdict}
 use Rattle.graph.specs.Graph.{Graph, graphOf, pathCount}
 
 -- the row of vertex u: where its list of successors begins, with its count (0 to N); its path count (0 to N + 1); and 0
--- for its first slot in the token store, which the search fills. After the sink nothing but 0
+-- for its first slot in the token store and for its letter, which the search fills. After the sink nothing but 0
 unfoldable pub vertexRow : List ℕ → ℕ → List ℕ
 vertexRow x u =
-    cond (ltb u (sinkOf x)) (arcsAt x u) 0 ∷ cond (ltb u (suc (sinkOf x))) (pathCount (graphOf x) u) 0 ∷ 0 ∷ []
+    cond (ltb u (sinkOf x)) (arcsAt x u) 0 ∷ cond (ltb u (suc (sinkOf x))) (pathCount (graphOf x) u) 0 ∷ 0 ∷ 0 ∷ []
 
 -- 402 rows, enough for every vertex of 400 nodes
 unfoldable pub verticesOf : List ℕ → List (List ℕ)
@@ -54,10 +54,10 @@ pub record Tables (x offsets counts : List ℕ) : Type 0 where
   pub located : TableOf (sinkOf x) (arcsAt x) offsets
   pub counted : TableOf (suc (sinkOf x)) (pathCount (graphOf x)) counts
 
--- the same in the first two columns of a table of 402 rows of three numbers
+-- the same in the first two columns of a table of 402 rows of four numbers
 pub record Vertices (x : List ℕ) (vertices : List (List ℕ)) : Type 0 where
   pub long : length vertices ≡ 402
-  pub wide : {u : ℕ} → u < 402 → length (getD vertices u []) ≡ 3
+  pub wide : {u : ℕ} → u < 402 → length (getD vertices u []) ≡ 4
   pub tables : Tables x (arcsColumn vertices) (pathsColumn vertices)
 
 -- for some number of letters the lexicon is well formed

@@ -38,12 +38,14 @@ pub const LETTERS: u16 = 32;
 const WORDS: u32 = 1048576;
 
 // The columns of a vertex's row: where its list of successors begins in the image, with its count; its path count; and
-// its first slot in the token store, which is the search's to fill.
+// its first slot in the token store and its letter, which are the search's to fill.
 pub const ARCS_AT: usize = 0;
 
 pub const PATHS: usize = 1;
 
 pub const FIRST_SLOT: usize = 2;
+
+pub const LETTER: usize = 3;
 
 // Rows 6 to 10, or W. A count of paths stops above the limit, so that W is exact wherever row 9 does not apply.
 fn judge_graph(
@@ -121,7 +123,7 @@ fn judge_images(
 
 // Checks both images, answers W, and leaves the row of each vertex for the work that follows. A refusal leaves the
 // table as it was.
-pub fn open(voice: &[u8], lexicon: &[u8], work: &mut [u8], vertices: &mut [[u32; 3]; 402]) -> Answer
+pub fn open(voice: &[u8], lexicon: &[u8], work: &mut [u8], vertices: &mut [[u32; 4]; 402]) -> Answer
     ensures { λ r. ⌜ answerOf r ≡ checkAnswer (now (voice .entry)) (now (lexicon .entry)) (now (work .entry)) ⌝ }
     ensures { λ _. ⌜ now (work .exit) ≡ checkWork (now (voice .entry)) (now (lexicon .entry)) (now (work .entry)) ⌝ }
     ensures { λ r. ⌜ now (vertices .exit)
@@ -154,6 +156,6 @@ pub fn check(voice: &[u8], lexicon: &[u8], work: &mut [u8]) -> Answer
     ensures { λ r. ⌜ answerOf r ≡ checkAnswer (now (voice .entry)) (now (lexicon .entry)) (now (work .entry)) ⌝ }
     ensures { λ _. ⌜ now (work .exit) ≡ checkWork (now (voice .entry)) (now (lexicon .entry)) (now (work .entry)) ⌝ }
 {
-    let mut vertices = [[0u32; 3]; 402];
+    let mut vertices = [[0u32; 4]; 402];
     open(voice, lexicon, work, &mut vertices)
 }

@@ -22,7 +22,7 @@ pub(crate) struct Step {
 }
 
 // The arc along which the code leads, and what of the code is left behind it: the path counts of the successors before it are taken off.
-fn descend(lexicon: &[u8], vertices: &[[u32; 3]; 402], vertex: usize, code: u32) -> Step
+fn descend(lexicon: &[u8], vertices: &[[u32; 4]; 402], vertex: usize, code: u32) -> Step
     requires { ⌜ Tabled (now lexicon) (now vertices) ⌝ }
     requires { ⌜ (vertex ≤ nodeCount (now lexicon)) × (code < pathCount (graphOf (now lexicon)) vertex) ⌝ }
     ensures { λ r. ⌜ Stepped (graphOf (now (lexicon .entry))) vertex code (r .vertex) (r .code) ⌝ }
@@ -47,7 +47,7 @@ fn descend(lexicon: &[u8], vertices: &[[u32; 3]; 402], vertex: usize, code: u32)
 pub(crate) fn spell(
     voice: &[u8],
     lexicon: &[u8],
-    vertices: &[[u32; 3]; 402],
+    vertices: &[[u32; 4]; 402],
     code: u32,
     letters: &mut [u8; 32],
 ) -> usize

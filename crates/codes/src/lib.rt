@@ -22,7 +22,7 @@ pub fn word_to_code(voice: &[u8], lexicon: &[u8], word: &[u8], work: &mut [u8]) 
     ensures { λ r. ⌜ answerOf r ≡ wordToCodeAnswer (now (voice .entry)) (now (lexicon .entry)) (now (word .entry)) (now (work .entry)) ⌝ }
     ensures { λ _. ⌜ now (work .exit) ≡ wordToCodeWork (now (voice .entry)) (now (lexicon .entry)) (now (word .entry)) (now (work .entry)) ⌝ }
 {
-    let mut vertices = [[0u32; 3]; 402];
+    let mut vertices = [[0u32; 4]; 402];
     let opened = open(voice, lexicon, work, &mut vertices);
     let Answer::Value(_) = opened else {
         return opened;
@@ -44,7 +44,7 @@ pub fn code_to_word(
     ensures { λ _. ⌜ now (work .exit) ≡ codeToWordWork (now (voice .entry)) (now (lexicon .entry)) code (now (work .entry)) ⌝ }
     ensures { λ _. ⌜ now (out .exit) ≡ codeToWordOut (now (voice .entry)) (now (lexicon .entry)) code (now (work .entry)) (now (out .entry)) ⌝ }
 {
-    let mut vertices = [[0u32; 3]; 402];
+    let mut vertices = [[0u32; 4]; 402];
     let opened = open(voice, lexicon, work, &mut vertices);
     let Answer::Value(words) = opened else {
         return opened;
@@ -63,7 +63,7 @@ pub fn list(voice: &[u8], lexicon: &[u8], work: &mut [u8], out: &mut [u8]) -> An
     ensures { λ _. ⌜ now (work .exit) ≡ listWork (now (voice .entry)) (now (lexicon .entry)) (now (work .entry)) ⌝ }
     ensures { λ _. ⌜ now (out .exit) ≡ listOut (now (voice .entry)) (now (lexicon .entry)) (now (work .entry)) (now (out .entry)) ⌝ }
 {
-    let mut vertices = [[0u32; 3]; 402];
+    let mut vertices = [[0u32; 4]; 402];
     let answer = open(voice, lexicon, work, &mut vertices);
     match answer {
         Answer::Value(_) => put_listing(voice, lexicon, &vertices, out),

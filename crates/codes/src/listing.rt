@@ -35,7 +35,7 @@ fn put_line(word: &[u8; 32], letters: usize, out: &mut [u8], at: usize) -> usize
 fn vertex_step(
     voice: &[u8],
     lexicon: &[u8],
-    vertices: &[[u32; 3]; 402],
+    vertices: &[[u32; 4]; 402],
     vertex: usize,
     word: &mut [u8; 32],
     depth: usize,
@@ -61,7 +61,7 @@ fn vertex_step(
 fn arc_step(
     voice: &[u8],
     lexicon: &[u8],
-    vertices: &[[u32; 3]; 402],
+    vertices: &[[u32; 4]; 402],
     vertex: usize,
     arc: usize,
     word: &mut [u8; 32],
@@ -86,7 +86,7 @@ fn arc_step(
 // The arcs on all ways from a vertex: each way has its first arc, and the arcs of a way from the vertex that it leads to.
 fn arcs_on_ways(
     lexicon: &[u8],
-    vertices: &[[u32; 3]; 402],
+    vertices: &[[u32; 4]; 402],
     totals: &[u32; 402],
     vertex: usize,
 ) -> u32
@@ -106,7 +106,7 @@ fn arcs_on_ways(
 }
 
 // The bytes of the listing, which are known before one of them is written.
-fn listing_size(lexicon: &[u8], vertices: &[[u32; 3]; 402]) -> u32
+fn listing_size(lexicon: &[u8], vertices: &[[u32; 4]; 402]) -> u32
     requires { ⌜ Countable (now lexicon) (now vertices) ⌝ }
     ensures { λ r. ⌜ r ≡ arcsOnWays (graphOf (now (lexicon .entry))) 0 ⌝ }
 {
@@ -123,7 +123,7 @@ fn listing_size(lexicon: &[u8], vertices: &[[u32; 3]; 402]) -> u32
 pub(crate) fn put_listing(
     voice: &[u8],
     lexicon: &[u8],
-    vertices: &[[u32; 3]; 402],
+    vertices: &[[u32; 4]; 402],
     out: &mut [u8],
 ) -> Answer
     requires { ⌜ OpenedImages (now voice) (now lexicon) (now vertices) ⌝ }

@@ -29,7 +29,7 @@ pub(crate) const TABLE: usize = 13266;
 // Whether a successor of the vertex has a mark in the row that begins at an offset.
 fn leads(
     lexicon: &[u8],
-    vertices: &[[u32; 3]; 402],
+    vertices: &[[u32; 4]; 402],
     table: &[u8],
     vertex: usize,
     row: usize,
@@ -54,7 +54,7 @@ fn leads(
 fn mark(
     voice: &[u8],
     lexicon: &[u8],
-    vertices: &[[u32; 3]; 402],
+    vertices: &[[u32; 4]; 402],
     word: &[u8],
     table: &[u8],
     i: usize,
@@ -85,7 +85,7 @@ fn mark(
 fn fill_row(
     voice: &[u8],
     lexicon: &[u8],
-    vertices: &[[u32; 3]; 402],
+    vertices: &[[u32; 4]; 402],
     word: &[u8],
     table: &mut [u8],
     i: usize,
@@ -104,7 +104,7 @@ fn fill_row(
 }
 
 // Fills the table from the row for the end of the word up to its first.
-fn fill(voice: &[u8], lexicon: &[u8], vertices: &[[u32; 3]; 402], word: &[u8], table: &mut [u8])
+fn fill(voice: &[u8], lexicon: &[u8], vertices: &[[u32; 4]; 402], word: &[u8], table: &mut [u8])
     requires { ⌜ Marking (now voice) (now lexicon) (now vertices) (now word) × (length (now table) ≡ 13266) ⌝ }
     ensures { λ _. ⌜ RowsFrom (now (voice .entry)) (graphOf (now (lexicon .entry))) (now (word .entry)) (now (table .exit)) 0 ⌝ }
 {
@@ -118,7 +118,7 @@ fn fill(voice: &[u8], lexicon: &[u8], vertices: &[[u32; 3]; 402], word: &[u8], t
 // The first successor that has a mark in the row, and the increment of the arc to it.
 fn first_marked(
     lexicon: &[u8],
-    vertices: &[[u32; 3]; 402],
+    vertices: &[[u32; 4]; 402],
     table: &[u8],
     vertex: usize,
     row: usize,
@@ -144,7 +144,7 @@ fn first_marked(
 pub(crate) fn look_up(
     voice: &[u8],
     lexicon: &[u8],
-    vertices: &[[u32; 3]; 402],
+    vertices: &[[u32; 4]; 402],
     word: &[u8],
     table: &mut [u8],
 ) -> Answer

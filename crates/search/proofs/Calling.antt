@@ -111,6 +111,7 @@ module _ (v x work : List ℕ) where
         arcs = λ {u} h. s .arcs u ∙ sym (column-at 0 u t) ∙ entry (o .tables .located) (omega arith);
         paths = λ {u} h. s .paths u ∙ sym (column-at 1 u t) ∙ entry (o .tables .counted) (omega arith);
         first = s .first;
+        letter = s .letter;
         sink = s .sink;
       };
       roomy = record { one = c .one; few = c .few; room = omega (arith, l, s .total) };

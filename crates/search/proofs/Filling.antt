@@ -22,7 +22,7 @@ use Rattle.voice.proofs.Letters.{states-range}
 use Rattle.voice.proofs.Scores.{letters-few, emission-there}
 use Rattle.lexicon.specs.Lexicon.{nodeCount, nodeLetter}
 use Rattle.decoder.specs.Score.{numberOf, possible}
-use Rattle.search.specs.Gains.{NearBias, numberSum, letterPairs, pairScore, loopNumber, stepNumber, loopGain, stepGain, LettersMarked, LetterEntries, letterIn, LetterRow, letterAt, HasRow, NodeLetters, GainRow, Gained, MoveGains, EntryGains, KnownSymbol, AtLetter, StatePut, FirstPut}
+use Rattle.search.specs.Gains.{NearBias, numberSum, letterPairs, pairScore, loopNumber, stepNumber, loopGain, stepGain, LettersMarked, LetterEntries, letterIn, LetterRow, letterAt, HasRow, NodeLetters, GainRow, GainsRoom, Gained, MoveGains, EntryGains, KnownSymbol, AtLetter, StatePut, FirstPut}
 use Rattle.search.proofs.Gaining.{number-near, sum-both, letter-small, letter-few, state-there, loop-score, step-score, LettersPassed, letters-start, letters-next}
 use Rattle.search.proofs.Carrying.{emission-range}
 
@@ -176,19 +176,22 @@ tabling-done few known h m f = record {
   all = λ u l k. f .all _ (omega (arith, known u l k)) (m .marked u l k);
 }
 
-pub gained-start : {v : List ℕ} {k : ℕ} {scores gains : List (List ℕ)} → length gains ≡ 64 → Gained v k scores 0 gains
-gained-start e = record { long = e; row = λ i h. absurd (omega arith) }
+pub gained-start : {v : List ℕ} {k : ℕ} {scores gains : List (List ℕ)} → GainsRoom gains → Gained v k scores 0 gains
+gained-start e = record { room = e; row = λ i h. absurd (omega arith) }
 
 pub gained-next : {v : List ℕ} {k i : ℕ} {scores gains : List (List ℕ)} {row : List ℕ} → letterAt scores i < 64 → Gained v k scores i gains
     → GainRow v k (letterAt scores i) row → Gained v k scores (i + 1) (set gains (letterAt scores i) row)
 gained-next {v} {k} {i} {scores} {gains} {row} h d p = record {
-  long = length-set gains (letterAt scores i) row ∙ d .long;
+  room = record {
+    long = length-set gains (letterAt scores i) row ∙ d .room .long;
+    nothing = rw (getD-set-other gains (letterAt scores i) 64 row [] (λ q. omega arith)) (d .room .nothing);
+  };
   row = λ j m. at j m (ℕ-discrete (letterAt scores j) (letterAt scores i));
 }
   where
     at : (j : ℕ) → j < i + 1 → Dec (letterAt scores j ≡ letterAt scores i)
         → GainRow v k (letterAt scores j) (getD (set gains (letterAt scores i) row) (letterAt scores j) [])
-    at j m (yes e) = rw (e, getD-set-same gains (letterAt scores i) row [] (omega (arith, d .long))) p
+    at j m (yes e) = rw (e, getD-set-same gains (letterAt scores i) row [] (omega (arith, d .room .long))) p
     at j m (no e) = rw (getD-set-other gains (letterAt scores i) (letterAt scores j) row [] e) (d .row j (before (ℕ-discrete j i)))
       where
         before : Dec (j ≡ i) → j < i
@@ -196,7 +199,7 @@ gained-next {v} {k} {i} {scores} {gains} {row} h d p = record {
         before (no q) = omega (arith, q)
 
 pub gained-done : {v : List ℕ} {k n i : ℕ} {scores gains : List (List ℕ)} → n ≤ i → Gained v k scores i gains → Gained v k scores n gains
-gained-done h d = record { long = d .long; row = λ j k. d .row j (omega arith) }
+gained-done h d = record { room = d .room; row = λ j k. d .row j (omega arith) }
 
 pub letter-scored : {v row : List ℕ} {l first : ℕ} → AtLetter v l first → getD row 8 0 ≡ l → getD row 9 0 ≡ first
     → LetterEntries v (loopNumber v) (stepNumber v) l row → LetterRow v row
@@ -290,4 +293,4 @@ module _ {v x : List ℕ} {n : ℕ} {scores : List (List ℕ)} (t : NodeLetters 
   move-gains = λ u l h. node-row u l h .moves
 
   pub entry-gains : EntryGains v x k gains
-  entry-gains = record { long = g .long; entry = λ u l h. node-row u l h .entry }
+  entry-gains = record { room = g .room; entry = λ u l h. node-row u l h .entry }

@@ -17,7 +17,7 @@ use Rattle.graph.specs.Graph.{Graph, graphOf, sink}
 use Rattle.graph.specs.Conditions.{placeCount}
 use Rattle.checking.proofs.Arcs.{shape-of}
 use Rattle.checking.proofs.Counting.{Images, well-formed, node-read}
-use Rattle.search.specs.Places.{firstPlace, firstSlot, arcsIn, pathsIn, firstIn, noPlace, SlotsPut}
+use Rattle.search.specs.Places.{firstPlace, firstSlot, arcsIn, pathsIn, firstIn, vertexLetter, noLetter, SlotsPut}
 
 module _ (v : List ℕ) (g : Graph) where
   -- after a node's places come those of the next
@@ -61,10 +61,12 @@ module _ (v : List ℕ) (g : Graph) where
 
 -- ---- the table
 
--- the nodes below this one have their first slot, and its own is known; nothing else of the table t has changed
+-- the nodes below this one have their first slot and letter, and its own slot is known; nothing else of the table t has
+-- changed
 pub record SlotsFound (v x : List ℕ) (n node slot : ℕ) (t t′ : List (List ℕ)) : Type 0 where
   pub long : length t′ ≡ 402
   pub first : {u : ℕ} → 1 ≤ u → u < node → firstIn t′ u ≡ firstSlot v (graphOf x) n u
+  pub letter : {u : ℕ} → 1 ≤ u → u < node → vertexLetter t′ u ≡ nodeLetter x u
   pub arcs : (u : ℕ) → arcsIn t′ u ≡ arcsIn t u
   pub paths : (u : ℕ) → pathsIn t′ u ≡ pathsIn t u
   pub here : slot ≡ firstSlot v (graphOf x) n node
@@ -77,6 +79,7 @@ unfolding firstPlace sinkOf from sum
 slots-start v x n h = record {
   long = h;
   first = λ l k. absurd (omega arith);
+  letter = λ l k. absurd (omega arith);
   arcs = λ u. refl;
   paths = λ u. refl;
   here = sym (mul-zero n);
@@ -85,40 +88,48 @@ slots-start v x n h = record {
   few = omega arith;
 }
 
--- a row with another first slot
-abbrev rowWith : List (List ℕ) → ℕ → ℕ → List ℕ
-rowWith t u slot = arcsIn t u ∷ pathsIn t u ∷ slot ∷ []
+-- a row with another first slot and letter
+abbrev rowWith : List (List ℕ) → ℕ → ℕ → ℕ → List ℕ
+rowWith t u slot letter = arcsIn t u ∷ pathsIn t u ∷ slot ∷ letter ∷ []
 
-module _ (t : List (List ℕ)) (w slot : ℕ) (h : w < length t) where
-  set-row : {u : ℕ} → u ≡ w → getD (set t w (rowWith t w slot)) u [] ≡ rowWith t w slot
-  set-row e = rw e (getD-set-same t w (rowWith t w slot) [] h)
+module _ (t : List (List ℕ)) (w slot letter : ℕ) (h : w < length t) where
+  set-row : {u : ℕ} → u ≡ w → getD (set t w (rowWith t w slot letter)) u [] ≡ rowWith t w slot letter
+  set-row e = rw e (getD-set-same t w (rowWith t w slot letter) [] h)
 
-  kept-row : {u : ℕ} → ¬ (u ≡ w) → getD (set t w (rowWith t w slot)) u [] ≡ getD t u []
-  kept-row {u} d = getD-set-other t w u (rowWith t w slot) [] d
+  kept-row : {u : ℕ} → ¬ (u ≡ w) → getD (set t w (rowWith t w slot letter)) u [] ≡ getD t u []
+  kept-row {u} d = getD-set-other t w u (rowWith t w slot letter) [] d
 
-  pub slot-put : firstIn (set t w (rowWith t w slot)) w ≡ slot
+  pub slot-put : firstIn (set t w (rowWith t w slot letter)) w ≡ slot
   slot-put = rw (set-row refl)
 
-  pub slot-other : {u : ℕ} → ¬ (u ≡ w) → firstIn (set t w (rowWith t w slot)) u ≡ firstIn t u
+  pub slot-other : {u : ℕ} → ¬ (u ≡ w) → firstIn (set t w (rowWith t w slot letter)) u ≡ firstIn t u
   slot-other d = ap (λ r. getD r 2 0) (kept-row d)
 
-  pub arcs-kept : (u : ℕ) → arcsIn (set t w (rowWith t w slot)) u ≡ arcsIn t u
+  pub letter-put : vertexLetter (set t w (rowWith t w slot letter)) w ≡ letter
+  letter-put = rw (set-row refl)
+
+  pub letter-other : {u : ℕ} → ¬ (u ≡ w) → vertexLetter (set t w (rowWith t w slot letter)) u ≡ vertexLetter t u
+  letter-other d = ap (λ r. getD r 3 0) (kept-row d)
+
+  pub arcs-kept : (u : ℕ) → arcsIn (set t w (rowWith t w slot letter)) u ≡ arcsIn t u
   arcs-kept u = elim (ℕ-discrete u w) [ yes e ↦ rw (set-row e, e) | no d ↦ ap (λ r. getD r 0 0) (kept-row d) ]
 
-  pub paths-kept : (u : ℕ) → pathsIn (set t w (rowWith t w slot)) u ≡ pathsIn t u
+  pub paths-kept : (u : ℕ) → pathsIn (set t w (rowWith t w slot letter)) u ≡ pathsIn t u
   paths-kept u = elim (ℕ-discrete u w) [ yes e ↦ rw (set-row e, e) | no d ↦ ap (λ r. getD r 1 0) (kept-row d) ]
 
 pub slots-next : {v x : List ℕ} {n node slot : ℕ} {t t′ : List (List ℕ)} → Images v x → n ≤ 8 → SlotsFound v x n node slot t t′ → node ≤ nodeCount x
     → (n * getD v (2 + 2 * getD x (1 + node) 0) 0 ≤ 32)
-    × SlotsFound v x n (node + 1) (slot + n * getD v (2 + 2 * getD x (1 + node) 0) 0) t (set t′ node (arcsIn t′ node ∷ pathsIn t′ node ∷ slot ∷ []))
+    × SlotsFound v x n (node + 1) (slot + n * getD v (2 + 2 * getD x (1 + node) 0) 0) t 
+    (set t′ node (arcsIn t′ node ∷ pathsIn t′ node ∷ slot ∷ getD x (1 + node) 0 ∷ []))
 unfolding nodeLetter states sinkOf
 slots-next {v} {x} {n} {node} {slot} {t} {t′} i e p h = (
   slots-few,
   rw add-one (record {
-    long = length-set t′ node (rowWith t′ node slot) ∙ p .long;
+    long = length-set t′ node (rowWith t′ node slot own) ∙ p .long;
     first = λ {u} l k. first l k (ℕ-discrete u node);
-    arcs = λ u. arcs-kept t′ node slot room u ∙ p .arcs u;
-    paths = λ u. paths-kept t′ node slot room u ∙ p .paths u;
+    letter = λ {u} l k. letter l k (ℕ-discrete u node);
+    arcs = λ u. arcs-kept t′ node slot own room u ∙ p .arcs u;
+    paths = λ u. paths-kept t′ node slot own room u ∙ p .paths u;
     here = next node (p .low) (p .here);
     low = omega arith;
     high = omega arith;
@@ -132,9 +143,18 @@ slots-next {v} {x} {n} {node} {slot} {t} {t′} i e p h = (
     slots-few : n * states v (nodeLetter x node) ≤ 32
     slots-few = mul-le-mul {n₂ = 8} {m₂ = 4} e (node-read i (p .low) h .few)
 
-    first : {u : ℕ} → 1 ≤ u → u < suc node → Dec (u ≡ node) → firstIn (set t′ node (rowWith t′ node slot)) u ≡ firstSlot v (graphOf x) n u
-    first l k (yes q) = rw q (slot-put t′ node slot room ∙ p .here)
-    first l k (no d) = slot-other t′ node slot room d ∙ p .first l (omega (arith, d))
+    own : ℕ
+    own = getD x (1 + node) 0
+
+    first : {u : ℕ} → 1 ≤ u → u < suc node → Dec (u ≡ node)
+        → firstIn (set t′ node (rowWith t′ node slot own)) u ≡ firstSlot v (graphOf x) n u
+    first l k (yes q) = rw q (slot-put t′ node slot own room ∙ p .here)
+    first l k (no d) = slot-other t′ node slot own room d ∙ p .first l (omega (arith, d))
+
+    letter : {u : ℕ} → 1 ≤ u → u < suc node → Dec (u ≡ node)
+        → vertexLetter (set t′ node (rowWith t′ node slot own)) u ≡ nodeLetter x u
+    letter l k (yes q) = rw q (letter-put t′ node slot own room)
+    letter l k (no d) = letter-other t′ node slot own room d ∙ p .letter l (omega (arith, d))
 
     next : (u : ℕ) → 1 ≤ u → slot ≡ firstSlot v (graphOf x) n u → slot + n * states v (nodeLetter x u) ≡ firstSlot v (graphOf x) n (suc u)
     next zero l q = absurd (omega arith)
@@ -142,15 +162,16 @@ slots-next {v} {x} {n} {node} {slot} {t} {t′} i e p h = (
 
 -- the sink's row comes last
 pub slots-done : {v x : List ℕ} {n node slot : ℕ} {t t′ : List (List ℕ)} → SlotsFound v x n node slot t t′ → nodeCount x < node → node < 402
-    → SlotsPut v x n t (set t′ node (arcsIn t′ node ∷ pathsIn t′ node ∷ noPlace ∷ [])) slot
+    → SlotsPut v x n t (set t′ node (arcsIn t′ node ∷ pathsIn t′ node ∷ slot ∷ noLetter ∷ [])) slot
 unfolding sinkOf sink
-slots-done {v} {x} {n} {node} {t′ = t′} p h k =
+slots-done {v} {x} {n} {node} {slot} {t′ = t′} p h k =
     let e : node ≡ suc (nodeCount x) = omega (arith, p .high) in
     let room : node < length t′ = omega (arith, p .long) in
     record {
-      first = λ {u} l m. slot-other t′ node noPlace room (λ q. omega arith) ∙ p .first l (omega arith);
-      sink = rw (sym e) (slot-put t′ node noPlace room);
-      arcs = λ u. arcs-kept t′ node noPlace room u ∙ p .arcs u;
-      paths = λ u. paths-kept t′ node noPlace room u ∙ p .paths u;
+      first = λ {u} l m. slot-other t′ node slot noLetter room (λ q. omega arith) ∙ p .first l (omega arith);
+      letter = λ {u} l m. letter-other t′ node slot noLetter room (λ q. omega arith) ∙ p .letter l (omega arith);
+      sink = rw (sym e) (letter-put t′ node slot noLetter room);
+      arcs = λ u. arcs-kept t′ node slot noLetter room u ∙ p .arcs u;
+      paths = λ u. paths-kept t′ node slot noLetter room u ∙ p .paths u;
       total = p .here ∙ ap (firstSlot v (graphOf x) n) e ∙ ap (λ (a : ℕ). n * a) (places-all v (graphOf x));
     }

@@ -32,14 +32,14 @@ use Rattle.passing.proofs.InPlace.{put-node}
 use Rattle.search.specs.Slots.{Changed}
 use Rattle.search.specs.Held.{held, pad, lift, downOf}
 use Rattle.search.specs.Gains.{NearBias, numberSum, entryNumber}
-use Rattle.search.specs.Places.{firstPlace, firstSlot, arcsIn, pathsIn, firstIn, noPlace}
+use Rattle.search.specs.Places.{firstPlace, firstSlot, arcsIn, pathsIn, firstIn, vertexLetter}
 use Rattle.search.specs.Stored.{VertexTable, Bound, Place, Stored, source, PassingOn, PassedOn, passedOn}
 use Rattle.search.specs.Carrying.{Worth, Offering, joined, Arc, overOne}
 use Rattle.search.proofs.Numbers.{token-some}
 use Rattle.search.proofs.Lending.{changed-apart}
 use Rattle.search.proofs.Storing.{PutAt, same, other, put-at, stored-put, stored-ext, pass-nothing, pass-closed, words-few, place-there, place-room, slot-small, carried-bound, bound-storable, movers}
-use Rattle.search.proofs.Gaining.{number-near, number-none, sum-some, sum-both}
-use Rattle.search.proofs.Carrying.{emission-range, worth-by, passed-long, passed-take}
+use Rattle.search.proofs.Gaining.{number-near, number-none, sum-second, sum-some, sum-both}
+use Rattle.search.proofs.Carrying.{emission-range, worth-by, passed-long, passed-take, pass-to-nothing}
 
 -- ---- what is accepted
 
@@ -63,23 +63,14 @@ module _ {v x : List ℕ} {n : ℕ} {vertices : List (List ℕ)} (r : VertexTabl
   unfolding sink
   place-of h k l = record { low = h; high = omega arith; state = l }
 
-  -- no node's first slot is the sink's
-  pub slot-there : {u : ℕ} → u ≤ sinkOf x → ¬ (firstIn vertices u ≡ noPlace) → u ≤ nodeCount x
-  unfolding sinkOf
-  slot-there {u} h z = elim (decLt u (suc (nodeCount x))) [
-    | yes l ↦ omega arith
-    | no n ↦ let q : u ≡ suc (nodeCount x) = omega arith in absurd (z (ap (firstIn vertices) q ∙ r .sink))
-  ]
-
 -- ---- one arc
 
--- the bytes and entries that are read for it
-pub record ArcRead (x : List ℕ) (gains : List (List ℕ)) (link u : ℕ) : Type 0 where
-  pub there : 1 + u < length x
-  pub letter : getD x (1 + u) 0 < 64
-  pub long-gains : length gains ≡ 64
+-- the entries that are read for it
+pub record ArcRead (vertices gains : List (List ℕ)) (link u : ℕ) : Type 0 where
+  pub letter : vertexLetter vertices u < 65
+  pub long-gains : length gains ≡ 65
   pub link-near : NearBias link
-  pub entry-near : NearBias (getD (getD gains (getD x (1 + u) 0) []) 4 0)
+  pub entry-near : NearBias (getD (getD gains (vertexLetter vertices u) []) 4 0)
 
 -- what is passed on stays where another place changes
 source-apart : (root : Bool) (n k : ℕ) {slot : ℕ} {l b b′ : List ℕ} → (root ≡ false → k + n ≤ slot) → Changed slot n l b b′
@@ -114,11 +105,47 @@ module _ {x : List ℕ} {n : ℕ} {vertices gains : List (List ℕ)} {link : ℕ
 
   -- what is read of the letter that is entered
   abbrev entered : ℕ
-  entered = getD (getD gains (getD x (1 + u) 0) []) 4 0
+  entered = getD (getD gains (vertexLetter vertices u) []) 4 0
 
   entered-is : u ≤ nodeCount x → entered ≡ numberOf (possible (emission (h .v) (firstState (h .v) (nodeLetter x u) + 0) (h .k)))
   unfolding nodeLetter entryNumber
-  entered-is k = h .entry-gains .entry u (omega (arith, rises .0)) k
+  entered-is k =
+      let one : 1 ≤ u = omega (arith, rises .0) in
+      ap (λ l. getD (getD gains l []) 4 0) (h .ready .letter one k) ∙ h .entry-gains .entry u one k
+
+  -- it leads to the sink at most, which has no letter
+  pub arc-bounded : u ≤ sinkOf x
+  unfolding sinkOf sink
+  arc-bounded = rises .1
+
+  at-sink : ¬ (u < suc (nodeCount x)) → vertexLetter vertices u ≡ 64
+  unfolding sinkOf
+  at-sink d = let q : u ≡ suc (nodeCount x) = omega (arith, arc-bounded, d) in ap (vertexLetter vertices) q ∙ h .ready .sink
+
+  no-entry : ¬ (u < suc (nodeCount x)) → entered ≡ 0
+  no-entry d = ap (λ l. getD (getD gains l []) 4 0) (at-sink d) ∙ h .entry-gains .room .nothing
+
+  -- only a node has an emission
+  pub arc-node : ¬ (entered ≡ 0) → u ≤ nodeCount x
+  arc-node z = elim (decLt u (suc (nodeCount x))) [ yes l ↦ omega arith | no d ↦ absurd (z (no-entry d)) ]
+
+  pub arc-read : ArcRead vertices gains link u
+  unfolding nodeLetter
+  arc-read = record {
+    letter = elim (decLt u (suc (nodeCount x))) [
+      | yes l ↦
+        let one : 1 ≤ u = omega (arith, rises .0) in
+        let k : u ≤ nodeCount x = omega arith in
+        rw (h .ready .letter one k) (omega (arith, letter-few (h .ready) one k))
+      | no d ↦ rw (at-sink d) (omega arith)
+    ];
+    long-gains = h .entry-gains .room .long;
+    link-near = rw (h .link-is) (number-near (h .moved) (h .small));
+    entry-near = elim (decLt u (suc (nodeCount x))) [
+      | yes l ↦ rw (entered-is (omega arith)) (number-near _ (emission-range (h .v) _ (h .k)))
+      | no d ↦ rw (no-entry d) (record { low = λ l. absurd (omega arith); high = omega arith })
+    ];
+  }
 
   worth : u ≤ nodeCount x → Worth (numberSum link entered) (plus (h .score) (symbolScore (h .v) g (h .k) u 0))
   unfolding nodeLetter symbolScore stateOf
@@ -137,16 +164,6 @@ module _ {x : List ℕ} {n : ℕ} {vertices gains : List (List ℕ)} {link : ℕ
 
     slot-is : firstIn vertices u ≡ n * (firstPlace (h .v) g u + 0)
     slot-is = rw add-zero (h .ready .first one k)
-
-    pub arc-read : ArcRead x gains link u
-    unfolding nodeLetter
-    arc-read = record {
-      there = omega (arith, nodes-there (lexicon-formed (h .ready)));
-      letter = letter-few (h .ready) one k;
-      long-gains = h .entry-gains .long;
-      link-near = rw (h .link-is) (number-near (h .moved) (h .small));
-      entry-near = rw (entered-is k) (number-near _ (emission-range (h .v) _ (h .k)));
-    }
 
     -- the gain of a possible link and emission
     pub arc-gain : ¬ (link ≡ 0) → ¬ (entered ≡ 0) → (link + entered - bias ≡ numberSum link entered) × ¬ (link + entered - bias ≡ 0)
@@ -187,31 +204,27 @@ module _ {x : List ℕ} {n : ℕ} {vertices gains : List (List ℕ)} {link : ℕ
     unfolding joined overOne arc-offering
     arc-done q c = stored-put place (h .stored) (rw slot-is at c) (best-best hits-strict n _)
 
-  -- it leads to the sink at most, which has an entry of the table
-  pub arc-bounded : u ≤ sinkOf x
-  unfolding sinkOf sink
-  arc-bounded = rises .1
-
   pub arc-few : u ≤ 401
   unfolding sinkOf
   arc-few = omega (arith, arc-bounded, shape-of (lexicon-formed (h .ready)) .few)
 
-  pub arc-node : ¬ (firstIn vertices u ≡ noPlace) → u ≤ nodeCount x
-  arc-node z = slot-there (h .ready) arc-bounded z
-
-  pub arc-slot-fits : firstIn vertices u ≤ 65535
-  arc-slot-fits = elim (ℕ-discrete (firstIn vertices u) noPlace) [
-    | yes e ↦ omega (arith, e)
-    | no d ↦ omega (arith, arc-slot (arc-node d))
-  ]
-
   -- the sink has no place
-  pub arc-sink : firstIn vertices u ≡ noPlace → Stored (h .v) g n (overOne t) b
+  arc-sink : ¬ (u < suc (nodeCount x)) → Stored (h .v) g n (overOne t) b
   unfolding overOne sink
-  arc-sink k = stored-ext (h .stored) (λ z s p. put-node (h .Q) u 0 _ (λ e. not-node (rw e at p)))
+  arc-sink d = stored-ext (h .stored) (λ z s p. put-node (h .Q) u 0 _ (λ e. not-node (rw e at p)))
     where
       not-node : {s : ℕ} → Place (h .v) g u s → ⊥
-      not-node p = omega (arith, arc-slot (omega (arith, p .high)), k)
+      not-node p = d (p .high)
+
+  -- without an emission nothing enters
+  pub arc-closed : entered ≡ 0 → Stored (h .v) g n (overOne t) b
+  arc-closed z = elim (decLt u (suc (nodeCount x))) [
+    | yes l ↦
+      let k : u ≤ nodeCount x = omega arith in
+      let q : 0 ≡ numberSum link entered = sym (ap (numberSum link) z ∙ sum-second link) in
+      arc-done k q (pass-to-nothing (arc-offering k q) refl)
+    | no d ↦ arc-sink d
+  ]
 
   pub arc-above : {z s : ℕ} {y : Hit} → Place (h .v) g z s → w < z → List·Memᴰ y (overOne t z s) → Bound g (h .M + frameLimit) z y
   unfolding overOne sink

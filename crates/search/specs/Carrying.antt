@@ -16,7 +16,7 @@ use Rattle.decoder.specs.Score.{frameLimit, reach, numberOf}
 use Rattle.passing.specs.Best.{shift}
 use Rattle.passing.specs.Tokens.{Store, bestTokens, carried, overArc, renewed}
 use Rattle.passing.specs.InPlace.{put, renewDown}
-use Rattle.search.specs.Slots.{tokenAt, slots, PlaceRoom}
+use Rattle.search.specs.Slots.{slots, PlaceRoom}
 use Rattle.search.specs.Held.{held, downOf, Storable}
 use Rattle.search.specs.Places.{firstSlot}
 use Rattle.search.specs.Gains.{MoveRow}
@@ -74,12 +74,6 @@ pub record Arc (x : List ℕ) (n : ℕ) (vertices gains : List (List ℕ)) (link
   pub passing-on : PassingOn x n vertices gains link w root from b
   pub arc : List·Memᴰ u (successors x w)
   pub down-is : down ≡ downOf (increment (graphOf x) w u)
-
--- the link is possible, and the token in slot `from` is there
-pub record Leading (link from best : ℕ) (b : List ℕ) : Type 0 where
-  pub possible : ¬ (link ≡ 0)
-  pub there : ¬ (best ≡ 0)
-  pub first : best ≡ tokenAt b from
 
 unfoldable pub overOne : {x : List ℕ} {n : ℕ} {vertices gains : List (List ℕ)} {link : ℕ} {root : Bool} {from u down : ℕ}
     {b : List ℕ} → Arc x n vertices gains link root from u down b → Store

@@ -7,7 +7,7 @@ use mathlib.Core.List.{List, [], map}
 use lib.ListN.{getD}
 use Rattle.endian.specs.Lists.{from, sum}
 use Rattle.voice.specs.Voice.{states}
-use Rattle.lexicon.specs.Lexicon.{nodeCount, sinkOf}
+use Rattle.lexicon.specs.Lexicon.{nodeCount, nodeLetter, sinkOf}
 use Rattle.graph.specs.Graph.{Graph, graphOf}
 use Rattle.graph.specs.Conditions.{placeCount}
 
@@ -20,7 +20,8 @@ firstPlace v g (suc m) = sum (map (λ n. states v (g .letter n)) (from 1 m))
 abbrev pub firstSlot : List ℕ → Graph → ℕ → ℕ → ℕ
 firstSlot v g n u = n * firstPlace v g u
 
--- ---- the table of vertices: where vertex u's list begins, its path count, and its first slot
+-- ---- the table of vertices: where vertex u's list begins, its path count, its first slot, and its
+-- letter
 
 abbrev pub arcsIn : List (List ℕ) → ℕ → ℕ
 arcsIn t u = getD (getD t u []) 0 0
@@ -31,14 +32,18 @@ pathsIn t u = getD (getD t u []) 1 0
 abbrev pub firstIn : List (List ℕ) → ℕ → ℕ
 firstIn t u = getD (getD t u []) 2 0
 
--- the first slot of the sink, which has no place
-abbrev pub noPlace : ℕ
-noPlace = 65535
+abbrev pub vertexLetter : List (List ℕ) → ℕ → ℕ
+vertexLetter t u = getD (getD t u []) 3 0
 
--- the first slots are put into the table t, and nothing else; r is the number of all slots
+-- the letter of the sink, which has none
+abbrev pub noLetter : ℕ
+noLetter = 64
+
+-- the first slots and the letters are put into the table t, and nothing else; r is the number of all slots
 pub record SlotsPut (v x : List ℕ) (n : ℕ) (t t′ : List (List ℕ)) (r : ℕ) : Type 0 where
   pub first : {u : ℕ} → 1 ≤ u → u ≤ nodeCount x → firstIn t′ u ≡ firstSlot v (graphOf x) n u
-  pub sink : firstIn t′ (sinkOf x) ≡ noPlace
+  pub letter : {u : ℕ} → 1 ≤ u → u ≤ nodeCount x → vertexLetter t′ u ≡ nodeLetter x u
+  pub sink : vertexLetter t′ (sinkOf x) ≡ noLetter
   pub arcs : (u : ℕ) → arcsIn t′ u ≡ arcsIn t u
   pub paths : (u : ℕ) → pathsIn t′ u ≡ pathsIn t u
   pub total : r ≡ n * placeCount v (graphOf x)

@@ -9,7 +9,7 @@ use lib.IntN.{ℤ, pos, natAbs}
 use lib.Signed.{mag}
 use lib.ListN.{length}
 use Rattle.voice.specs.Voice.{states, linkScore}
-use Rattle.lexicon.specs.Lexicon.{nodeCount, sinkOf, arcsAt, successors}
+use Rattle.lexicon.specs.Lexicon.{nodeCount, nodeLetter, sinkOf, arcsAt, successors}
 use Rattle.graph.specs.Graph.{Graph, graphOf, sink, pathCount, wordCount}
 use Rattle.graph.specs.Conditions.{placeCount}
 use Rattle.graph.specs.Checking.{Accepted}
@@ -19,7 +19,7 @@ use Rattle.passing.specs.Tokens.{Store, bestTokens}
 use Rattle.passing.specs.InPlace.{passOn, passNode}
 use Rattle.search.specs.Slots.{slots, PlaceRoom}
 use Rattle.search.specs.Held.{held}
-use Rattle.search.specs.Places.{firstPlace, firstSlot, arcsIn, pathsIn, firstIn, noPlace}
+use Rattle.search.specs.Places.{firstPlace, firstSlot, arcsIn, pathsIn, firstIn, vertexLetter, noLetter}
 use Rattle.search.specs.Gains.{MoveGains, EntryGains}
 
 -- accepted images, and the table of their vertices; the first slots are those of n tokens a place
@@ -28,7 +28,8 @@ pub record VertexTable (v x : List ℕ) (n : ℕ) (vertices : List (List ℕ)) :
   pub arcs : {u : ℕ} → u ≤ nodeCount x → arcsIn vertices u ≡ arcsAt x u
   pub paths : {u : ℕ} → u ≤ sinkOf x → pathsIn vertices u ≡ pathCount (graphOf x) u
   pub first : {u : ℕ} → 1 ≤ u → u ≤ nodeCount x → firstIn vertices u ≡ firstSlot v (graphOf x) n u
-  pub sink : firstIn vertices (sinkOf x) ≡ noPlace
+  pub letter : {u : ℕ} → 1 ≤ u → u ≤ nodeCount x → vertexLetter vertices u ≡ nodeLetter x u
+  pub sink : vertexLetter vertices (sinkOf x) ≡ noLetter
 
 -- n tokens a place, 1 to 8, and room for every place
 pub record StoreRoom (v x : List ℕ) (n : ℕ) (b : List ℕ) : Type 0 where

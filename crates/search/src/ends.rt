@@ -18,7 +18,7 @@ use endian::u16_at;
 
 // The increment of the arc to the sink: the path counts of the successors stored before it. Without such an arc it is the
 // sum of all, the node's own path count, which no increment reaches.
-fn last_increment(lexicon: &[u8], vertices: &[[u32; 3]; 402], node: usize) -> u32
+fn last_increment(lexicon: &[u8], vertices: &[[u32; 4]; 402], node: usize) -> u32
     requires { ⌜ Arcs (now lexicon) (now vertices) × (node ≤ nodeCount (now lexicon)) ⌝ }
     ensures { λ r. ⌜ LastArc (graphOf (now (lexicon .entry))) node r ⌝ }
 {
@@ -43,7 +43,7 @@ fn offer_end(
     voice: &[u8],
     lexicon: &[u8],
     n: usize,
-    vertices: &[[u32; 3]; 402],
+    vertices: &[[u32; 4]; 402],
     node: usize,
     store: &[u8],
     list: &mut [u8],
@@ -68,7 +68,7 @@ pub(crate) fn best_words(
     lexicon: &[u8],
     frames: &[u8],
     n: usize,
-    vertices: &[[u32; 3]; 402],
+    vertices: &[[u32; 4]; 402],
     store: &mut [u8],
 ) -> [u64; 8]
     requires { ⌜ Run (now voice) (now lexicon) (now frames) n (now vertices) (now store) ⌝ }

@@ -30,9 +30,9 @@ fn first_frame(
     lexicon: &[u8],
     frames: &[u8],
     numbers: Numbers,
-    vertices: &[[u32; 3]; 402],
+    vertices: &[[u32; 4]; 402],
     letters: &[[u32; 10]; 64],
-    gains: &mut [[u32; 8]; 64],
+    gains: &mut [[u32; 8]; 65],
     store: &mut [u8],
 )
     requires { ⌜ Run (now voice) (now lexicon) (now frames) (numbers .n) (now vertices) (now store) × Empty (now store) ⌝ }
@@ -52,7 +52,7 @@ fn next_gains(
     t: usize,
     numbers: Numbers,
     letters: &[[u32; 10]; 64],
-    gains: &mut [[u32; 8]; 64],
+    gains: &mut [[u32; 8]; 65],
 )
     requires { ⌜ (suc t < length (now frames)) × (length (now frames) ≤ 1000) × KnownSymbol (now voice) (getD (now frames) (t + 1) 0) ⌝ }
     requires { ⌜ LetterTable (now voice) (numbers .used) (now letters) × (numbers .symbols ≡ symbolsAt (now voice)) ⌝ }
@@ -73,9 +73,9 @@ fn next_frame(
     frames: &[u8],
     t: usize,
     numbers: Numbers,
-    vertices: &[[u32; 3]; 402],
+    vertices: &[[u32; 4]; 402],
     letters: &[[u32; 10]; 64],
-    gains: &mut [[u32; 8]; 64],
+    gains: &mut [[u32; 8]; 65],
     store: &mut [u8],
 )
     requires { ⌜ Run (now voice) (now lexicon) (now frames) (numbers .n) (now vertices) (now store) × (suc t < length (now frames)) ⌝ }
@@ -99,9 +99,9 @@ fn later_frames(
     lexicon: &[u8],
     frames: &[u8],
     numbers: Numbers,
-    vertices: &[[u32; 3]; 402],
+    vertices: &[[u32; 4]; 402],
     letters: &[[u32; 10]; 64],
-    gains: &mut [[u32; 8]; 64],
+    gains: &mut [[u32; 8]; 65],
     store: &mut [u8],
 )
     requires { ⌜ Run (now voice) (now lexicon) (now frames) (numbers .n) (now vertices) (now store) ⌝ }
@@ -122,7 +122,7 @@ pub(crate) fn all_frames(
     lexicon: &[u8],
     frames: &[u8],
     n: usize,
-    vertices: &[[u32; 3]; 402],
+    vertices: &[[u32; 4]; 402],
     store: &mut [u8],
 )
     requires { ⌜ Run (now voice) (now lexicon) (now frames) n (now vertices) (now store) ⌝ }
@@ -140,7 +140,7 @@ pub(crate) fn all_frames(
         used: used,
         link: link,
     };
-    let mut gains = [[0u32; 8]; 64];
+    let mut gains = [[0u32; 8]; 65];
     first_frame(voice, lexicon, frames, numbers, vertices, &letters, &mut gains, store);
     later_frames(voice, lexicon, frames, numbers, vertices, &letters, &mut gains, store);
 }

@@ -40,7 +40,7 @@ pub fn search(
     ensures { λ _. ⌜ now (work .exit) ≡ decodeWork (now (voice .entry)) (now (lexicon .entry)) (now (frames .entry)) n (now (work .entry)) ⌝ }
     ensures { λ r. ⌜ r .tokens ≡ searchTokens (now (voice .entry)) (now (lexicon .entry)) (now (frames .entry)) n (now (work .entry)) (now (out .entry)) ⌝ }
 {
-    let mut vertices = [[0u32; 3]; 402];
+    let mut vertices = [[0u32; 4]; 402];
     let opened = open(voice, lexicon, work, &mut vertices);
     let Answer::Value(_) = opened else {
         return Searched {

@@ -10,12 +10,12 @@ use checking::ARCS_AT;
 use checking::PATHS;
 use endian::u16_at;
 
-// The first slot of the sink, which has no place.
-pub(crate) const NO_PLACE: usize = 65535;
+// The letter of the sink, which has none: after the rows of 64 letters a frame's table of gains has one of no gain.
+pub(crate) const NO_LETTER: u32 = 64;
 
-// Puts the first slot of each node into the table of vertices, where each place has n: n times the number of states of
-// all nodes below it. Answers the number of all slots.
-pub(crate) fn find_slots(voice: &[u8], lexicon: &[u8], n: usize, vertices: &mut [[u32; 3]; 402]) -> usize
+// Puts the letter and the first slot of each node into the table of vertices, where each place has n: n times the number
+// of states of all nodes below it. Answers the number of all slots.
+pub(crate) fn find_slots(voice: &[u8], lexicon: &[u8], n: usize, vertices: &mut [[u32; 4]; 402]) -> usize
     requires { ⌜ (voiceVerdict (now voice) ≡ wellFormed) × (lexiconVerdict (letterCount (now voice)) (now lexicon) ≡ wellFormed) ⌝ }
     requires { ⌜ (n ≤ 8) × (length (now vertices) ≡ 402) ⌝ }
     ensures { λ r. ⌜ SlotsPut (now (voice .entry)) (now (lexicon .entry)) n (now (vertices .entry)) (now (vertices .exit)) r ⌝ }
@@ -25,12 +25,12 @@ pub(crate) fn find_slots(voice: &[u8], lexicon: &[u8], n: usize, vertices: &mut 
     let mut node = 1;
     while node <= nodes {
         let row = vertices[node];
-        vertices[node] = [row[ARCS_AT], row[PATHS], slot as u32];
         let letter = lexicon[1 + node] as usize;
+        vertices[node] = [row[ARCS_AT], row[PATHS], slot as u32, letter as u32];
         slot += n * (voice[2 + 2 * letter] as usize);
         node += 1;
     }
     let row = vertices[node];
-    vertices[node] = [row[ARCS_AT], row[PATHS], NO_PLACE as u32];
+    vertices[node] = [row[ARCS_AT], row[PATHS], slot as u32, NO_LETTER];
     slot
 }

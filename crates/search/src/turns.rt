@@ -2,7 +2,7 @@
 // renewed. At the first frame the root's token is passed on instead, which has no place in the store.
 ghost use mathlib.Core.Path.{_≡_};
 ghost use mathlib.Core.Bool.{true, false};
-ghost use Prim.Native.Nat.{suc, _+_, _*_, _≤_};
+ghost use Prim.Native.Nat.{suc, _+_, _*_, _≤_, _<_};
 ghost use lib.ListN.{length};
 ghost use Rattle.endian.specs.Bytes.{u16};
 ghost use Rattle.graph.specs.Graph.{graphOf};
@@ -10,19 +10,18 @@ ghost use Rattle.decoder.specs.Score.{bias};
 ghost use Rattle.search.specs.Slots.{slots};
 ghost use Rattle.search.specs.Held.{lift, held};
 ghost use Rattle.search.specs.Stored.{Stored, PassingOn, PassedOn, Turn, TurnDone};
-ghost use Rattle.search.specs.Carrying.{Staying, Arc, Leading, Own, Renewing, Renewal, stayed, overOne, renewedOne, renewedAll, renewal};
+ghost use Rattle.search.specs.Carrying.{Staying, Arc, Own, Renewing, Renewal, stayed, overOne, renewedOne, renewedAll, renewal};
 use crate::gains::ENTRY;
 use crate::letters::LOOP;
 use crate::letters::STEP;
 use crate::parts::offer_from;
-use crate::places::NO_PLACE;
 use crate::store::clear_place;
 use crate::store::insert;
 use crate::store::shift;
-use crate::tokens::moved;
 use crate::tokens::token_at;
 use checking::ARCS_AT;
 use checking::FIRST_SLOT;
+use checking::LETTER;
 use checking::PATHS;
 use decoder::score::BIAS;
 use decoder::score::Score;
@@ -39,54 +38,40 @@ fn number_at(lexicon: &[u8], at: usize) -> usize
     u16_of(lexicon[at], lexicon[at + 1]) as usize
 }
 
-// What a node passes on: the tokens from a slot on, of which the first is the best.
-struct Source {
-    from: usize,
-    best: Token,
-}
-
 // Passes tokens on over one arc, to vertex t: with the link of the letter that is left and the emission of the one entered.
 fn pass_over(
     lexicon: &[u8],
     n: usize,
-    vertices: &[[u32; 3]; 402],
-    gains: &[[u32; 8]; 64],
+    vertices: &[[u32; 4]; 402],
+    gains: &[[u32; 8]; 65],
     link: Score,
-    source: Source,
+    from: usize,
     t: usize,
     down: u64,
     store: &mut [u8],
 )
-    requires { ⌜ Arc (now lexicon) n (now vertices) (now gains) (link .0) false (source .from) t down (now store) ⌝ }
-    requires { ⌜ Leading (link .0) (source .from) (source .best .0) (now store) ⌝ }
-    ensures { λ _. ⌜ ((a : Arc (now (lexicon .entry)) n (now (vertices .entry)) (now (gains .entry)) (link .0) false (source .from) t down (now (store .entry))) → Stored (a .passing-on .v) (graphOf (now (lexicon .entry))) n (overOne a) (now (store .exit))) ⌝ }
-    ensures { λ _. ⌜ slots n (source .from) (now (store .exit)) ≡ slots n (source .from) (now (store .entry)) ⌝ }
+    requires { ⌜ Arc (now lexicon) n (now vertices) (now gains) (link .0) false from t down (now store) ⌝ }
+    requires { ⌜ 0 < (link .0) ⌝ }
+    ensures { λ _. ⌜ ((a : Arc (now (lexicon .entry)) n (now (vertices .entry)) (now (gains .entry)) (link .0) false from t down (now (store .entry))) → Stored (a .passing-on .v) (graphOf (now (lexicon .entry))) n (overOne a) (now (store .exit))) ⌝ }
+    ensures { λ _. ⌜ slots n from (now (store .exit)) ≡ slots n from (now (store .entry)) ⌝ }
 {
-    let slot = vertices[t][FIRST_SLOT] as usize;
-    if slot == NO_PLACE {
-        return;
-    }
-    let letter = lexicon[1 + t] as usize;
+    let letter = vertices[t][LETTER] as usize;
     let emission = Score(gains[letter][ENTRY]);
+    // the sink has none
     if emission.is_impossible() {
         return;
     }
     let up = (link.0 + emission.0 - BIAS) as u64 * UNIT;
-    // most arcs end here: where the best does not enter, no other does
-    let candidate = moved(source.best, up, down);
-    let last = token_at(store, slot + n - 1);
-    if last.outranks(candidate) {
-        return;
-    }
-    offer_from(store, n, source.from, slot, up, down);
+    let slot = vertices[t][FIRST_SLOT] as usize;
+    offer_from(store, n, from, slot, up, down);
 }
 
 // Passes the tokens of a node, which it has from a slot on, on to the first state of each node that it leads to.
 fn pass_on(
     lexicon: &[u8],
     n: usize,
-    vertices: &[[u32; 3]; 402],
-    gains: &[[u32; 8]; 64],
+    vertices: &[[u32; 4]; 402],
+    gains: &[[u32; 8]; 65],
     link: Score,
     node: usize,
     from: usize,
@@ -95,24 +80,20 @@ fn pass_on(
     requires { ⌜ PassingOn (now lexicon) n (now vertices) (now gains) (link .0) node false from (now store) ⌝ }
     ensures { λ _. ⌜ ((t : PassingOn (now (lexicon .entry)) n (now (vertices .entry)) (now (gains .entry)) (link .0) node false from (now (store .entry))) → PassedOn t (now (store .exit))) ⌝ }
 {
-    let best = token_at(store, from);
-    if best.is_none() {
+    let first = token_at(store, from);
+    if first.is_none() {
         return;
     }
     if link.is_impossible() {
         return;
     }
-    let source = Source {
-        from: from,
-        best: best,
-    };
     let start = vertices[node][ARCS_AT] as usize;
     let stop = start + 2 + 2 * number_at(lexicon, start);
     let mut at = start + 2;
     let mut down = LIFT;
     while at < stop {
         let t = number_at(lexicon, at);
-        pass_over(lexicon, n, vertices, gains, link, source, t, down, store);
+        pass_over(lexicon, n, vertices, gains, link, from, t, down, store);
         down += vertices[t][PATHS] as u64;
         at += 2;
     }
@@ -122,8 +103,8 @@ fn pass_on(
 fn enter_node(
     lexicon: &[u8],
     n: usize,
-    vertices: &[[u32; 3]; 402],
-    gains: &[[u32; 8]; 64],
+    vertices: &[[u32; 4]; 402],
+    gains: &[[u32; 8]; 65],
     t: usize,
     increment: u32,
     store: &mut [u8],
@@ -131,7 +112,7 @@ fn enter_node(
     requires { ⌜ Arc (now lexicon) n (now vertices) (now gains) bias true 0 t (lift + increment) (now store) ⌝ }
     ensures { λ _. ⌜ ((a : Arc (now (lexicon .entry)) n (now (vertices .entry)) (now (gains .entry)) bias true 0 t (lift + increment) (now (store .entry))) → Stored (a .passing-on .v) (graphOf (now (lexicon .entry))) n (overOne a) (now (store .exit))) ⌝ }
 {
-    let letter = lexicon[1 + t] as usize;
+    let letter = vertices[t][LETTER] as usize;
     let score = Score(gains[letter][ENTRY]);
     if score.is_impossible() {
         return;
@@ -145,8 +126,8 @@ fn enter_node(
 pub(crate) fn enter_nodes(
     lexicon: &[u8],
     n: usize,
-    vertices: &[[u32; 3]; 402],
-    gains: &[[u32; 8]; 64],
+    vertices: &[[u32; 4]; 402],
+    gains: &[[u32; 8]; 65],
     store: &mut [u8],
 )
     requires { ⌜ PassingOn (now lexicon) n (now vertices) (now gains) bias 0 true 0 (now store) ⌝ }
@@ -223,8 +204,8 @@ pub(crate) fn take_turn(
     voice: &[u8],
     lexicon: &[u8],
     n: usize,
-    vertices: &[[u32; 3]; 402],
-    gains: &[[u32; 8]; 64],
+    vertices: &[[u32; 4]; 402],
+    gains: &[[u32; 8]; 65],
     link: Score,
     node: usize,
     store: &mut [u8],

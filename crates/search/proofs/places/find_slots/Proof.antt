@@ -47,7 +47,7 @@ next : (c : tie.In-loop Inv-loop μ-loop) →
     let a = l .before .before .before .before .args in
     let count = getD (a .voice .now) (2 + 2 * getD (a .lexicon .now) (1 + l .loop .node) 0) 0 in
     (a .n * count ≤ 32) × SlotsFound (a .voice .now) (a .lexicon .now) (a .n) (l .loop .node + 1) (l .loop .slot + a .n * count) (a .vertices .now)
-    (set (l .loop .vertices) (l .loop .node) (arcsIn (l .loop .vertices) (l .loop .node) ∷ pathsIn (l .loop .vertices) (l .loop .node) ∷ l .loop .slot ∷ []))
+    (set (l .loop .vertices) (l .loop .node) (arcsIn (l .loop .vertices) (l .loop .node) ∷ pathsIn (l .loop .vertices) (l .loop .node) ∷ l .loop .slot ∷ getD (a .lexicon .now) (1 + l .loop .node) 0 ∷ []))
 next c =
     let s = c .before .before .before .before .before in
     slots-next (images s) (s .pre .1 .0) (c .before .loop .inv) (high c)
@@ -92,14 +92,15 @@ find-slots-spec =
     loop-holds
     (λ c. let h = last (c .before) in search needs)
     (λ c. let h = last (c .before) in search needs)
-    (λ c. search needs)
-    (λ c. search needs)
-    (λ c. let h = small (c .before .before) in search needs)
-    (λ c. let h = last (c .before .before) in search needs)
-    (λ c. let h = last (c .before .before) in search needs)
     (λ c. let h = few (c .before .before .before) in search needs)
     (λ c. let h = node (c .before .before) .node-there in search needs)
     (λ c. let h = letter c in search needs)
+    (λ c. search needs)
+    (λ c. search needs)
+    (λ c. let h = small (c .before .before .before) in search needs)
+    (λ c. let h = letter c in search needs)
+    (λ c. let h = last (c .before .before .before) in search needs)
+    (λ c. let h = last (c .before .before .before) in search needs)
     (λ c. let h = letter c in search needs)
     (λ c. let h = letter c in search needs)
     (λ c. let h = node (c .before .before .before) .states-there in search needs)
@@ -113,7 +114,7 @@ find-slots-spec =
     (λ c. let h = last (c .before) in search needs)
     (λ c. search needs)
     (λ c. search needs)
-    (λ c. search needs)
+    (λ c. let h = small (c .before .before) in search needs)
     (λ c. let h = last (c .before .before) in search needs)
     (λ c. let h = last (c .before .before) in search needs)
     returns)

@@ -10,7 +10,7 @@ use lib.ListN.{getD}
 use Rattle.lexicon.specs.Lexicon.{nodeCount}
 use Rattle.decoder.specs.Score.{bias, numberOf}
 use Rattle.search.specs.Slots.{enter, PlaceRoom}
-use Rattle.search.specs.Places.{firstIn}
+use Rattle.search.specs.Places.{firstIn, vertexLetter}
 use Rattle.search.specs.Gains.{numberSum}
 use Rattle.search.proofs.Told.{same-told, other-told}
 use Rattle.search.proofs.Lending.{part-size, part-slots, part-room, part-back}
@@ -23,11 +23,11 @@ use Rattle.search.proofs.turns.enter_node.Tie as tie
 node : (c : tie.Start) → c .args .t ≤ nodeCount (c .args .lexicon .now)
 node c = root-node (c .pre)
 
-read : (c : tie.Start) → let a = c .args in ArcRead (a .lexicon .now) (a .gains .now) bias (a .t)
-read c = arc-read (c .pre) (node c)
+read : (c : tie.Start) → let a = c .args in ArcRead (a .vertices .now) (a .gains .now) bias (a .t)
+read c = arc-read (c .pre)
 
 abbrev score : tie.Start → ℕ
-score c = getD (getD (c .args .gains .now) (getD (c .args .lexicon .now) (1 + c .args .t) 0) []) 4 0
+score c = getD (getD (c .args .gains .now) (vertexLetter (c .args .vertices .now) (c .args .t)) []) 4 0
 
 -- the emission alone is the gain
 gain : (c : tie.Start) → score c ≡ numberSum bias (score c)
@@ -78,7 +78,8 @@ enter-node-spec =
     tie.close
     (tie.spec
     (λ c. let h = arc-few (c .before .before .pre) in search needs)
-    (λ c. let h = read (c .before .before .before) .there in search needs)
+    (λ c. let h = arc-few (c .before .before .pre) in search needs)
+    (λ c. search needs)
     (λ c. let h = read (c .before .before .before) .letter in search needs)
     (λ c. let h = read (c .before .before .before) .letter in search needs)
     (λ c. let h = read (c .before .before .before) .letter in search needs)

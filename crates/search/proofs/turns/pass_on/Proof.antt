@@ -1,7 +1,7 @@
 -- `turns::pass_on` meets its contract: what is left to pass on from the store so far is what was to be passed on. The measure
 -- is what is left of the list. Assumes nothing.
 use Prim.Native.Nat.{_+_, _-_, _*_, _≤_, _<_}
-use mathlib.Core.Path.{_≡_, refl, sym, ap, _∙_}
+use mathlib.Core.Path.{_≡_, refl, sym, _∙_}
 use mathlib.Core.Bool.{false}
 use native.Mathlib.Omega.{arith}
 use borrow.Author.Needs.{needs}
@@ -18,11 +18,11 @@ use Rattle.search.proofs.turns.pass_on.Statement.{statement}
 use Rattle.search.proofs.turns.pass_on.Tie as tie
 
 abbrev Inv-loop : tie.InvT-loop
-Inv-loop lexicon n vertices gains link node from store₀ tokens start stop at₀ down₀ store at down =
+Inv-loop lexicon n vertices gains link node from store₀ start stop at₀ down₀ store at down =
     (t : PassingOn lexicon n vertices gains (link .0) node false from store₀) → PassingLeft t at stop down store
 
 abbrev μ-loop : tie.MeasureT-loop
-μ-loop lexicon n vertices gains link node from store₀ tokens start stop at₀ down₀ store at down = stop - at
+μ-loop lexicon n vertices gains link node from store₀ start stop at₀ down₀ store at down = stop - at
 
 abbrev begin : tie.After-token-at Inv-loop μ-loop → tie.Start Inv-loop μ-loop
 begin c = c .before .before .before .before
@@ -69,16 +69,9 @@ pass-over-requires c κs =
     let m = c .before in
     let l = m .before .before in
     let t = start l .pre in
-    let a = start l .args in
-    let i = l .loop .inv t in
     let e = l .before .before .before in
-    let f = e .before .before in
-    let first-now = node-first (a .n) (a .from) (l .loop .store) (t .roomy .one) in
-    (left-arc t i (m .before .loop-test .taken) (m .number-at2 .ensures), record {
-      possible = other-told (e .before .is-impossible .ensures) (e .if2 .left);
-      there = other-told (f .before .is-none .ensures) (f .if1 .left);
-      first = sym (first (read (l .before))) ∙ sym (ap (λ l. getD l 0 0) (i .source-kept)) ∙ first-now;
-    })
+    let z : ¬ (start l .args .link .0 ≡ 0) = other-told (e .before .is-impossible .ensures) (e .if2 .left) in
+    (left-arc t (l .loop .inv t) (m .before .loop-test .taken) (m .number-at2 .ensures), omega (arith, z))
 
 -- the successor has an entry of the table
 entry : (c : tie.After-number-at2 Inv-loop μ-loop) → c .number-at2 .result ≤ 401
