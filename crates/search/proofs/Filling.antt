@@ -22,7 +22,7 @@ use Rattle.voice.proofs.Letters.{states-range}
 use Rattle.voice.proofs.Scores.{letters-few, emission-there}
 use Rattle.lexicon.specs.Lexicon.{nodeCount, nodeLetter}
 use Rattle.decoder.specs.Score.{numberOf, possible}
-use Rattle.search.specs.Gains.{NearBias, numberSum, letterPairs, pairScore, loopNumber, stepNumber, loopGain, stepGain, LettersMarked, LetterEntries, letterIn, LetterRow, letterAt, HasRow, NodeLetters, GainRow, Gained, MoveGains, EntryGains, KnownSymbol, AtLetter, StatePut, FirstPut}
+use Rattle.search.specs.Gains.{NearBias, numberSum, letterPairs, pairScore, loopNumber, stepNumber, loopGain, stepGain, LettersMarked, LetterEntries, letterIn, LetterRow, letterAt, HasRow, NodeLetters, GainRow, GainsRoom, Gained, MoveGains, EntryGains, KnownSymbol, AtLetter, StatePut, FirstPut}
 use Rattle.search.proofs.Gaining.{number-near, sum-both, letter-small, letter-few, state-there, loop-score, step-score, LettersPassed, letters-start, letters-next}
 use Rattle.search.proofs.Carrying.{emission-range}
 
@@ -176,8 +176,8 @@ tabling-done few known h m f = record {
   all = λ u l k. f .all _ (omega (arith, known u l k)) (m .marked u l k);
 }
 
-pub gained-start : {v : List ℕ} {k : ℕ} {scores gains : List (List ℕ)} → length gains ≡ 64 → Gained v k scores 0 gains
-gained-start e = record { long = e; row = λ i h. absurd (omega arith) }
+pub gained-start : {v : List ℕ} {k : ℕ} {scores gains : List (List ℕ)} → GainsRoom gains → Gained v k scores 0 gains
+gained-start r = record { long = r .long; row = λ i h. absurd (omega arith) }
 
 pub gained-next : {v : List ℕ} {k i : ℕ} {scores gains : List (List ℕ)} {row : List ℕ} → letterAt scores i < 64 → Gained v k scores i gains
     → GainRow v k (letterAt scores i) row → Gained v k scores (i + 1) (set gains (letterAt scores i) row)
@@ -194,6 +194,9 @@ gained-next {v} {k} {i} {scores} {gains} {row} h d p = record {
         before : Dec (j ≡ i) → j < i
         before (yes q) = absurd (e (ap (λ m. letterAt scores m) q))
         before (no q) = omega (arith, q)
+
+pub gains-room : {v : List ℕ} {k n : ℕ} {scores gains : List (List ℕ)} → Gained v k scores n gains → GainsRoom gains
+gains-room d = record { long = d .long }
 
 pub gained-done : {v : List ℕ} {k n i : ℕ} {scores gains : List (List ℕ)} → n ≤ i → Gained v k scores i gains → Gained v k scores n gains
 gained-done h d = record { long = d .long; row = λ j k. d .row j (omega arith) }

@@ -114,6 +114,10 @@ pub record GainRow (v : List ℕ) (k l : ℕ) (row : List ℕ) : Type 0 where
   pub moves : LetterEntries v (loopGain v k) (stepGain v k) l row
   pub entry : getD row 4 0 ≡ entryNumber v k l
 
+-- room for the table of a frame: a row for each letter
+pub record GainsRoom (gains : List (List ℕ)) : Type 0 where
+  pub long : length gains ≡ 64
+
 -- the table of a frame: row l is that of letter l, for the letters of the first n rows of a call's table
 pub record Gained (v : List ℕ) (k : ℕ) (letters : List (List ℕ)) (n : ℕ) (gains : List (List ℕ)) : Type 0 where
   pub long : length gains ≡ 64

@@ -8,7 +8,7 @@ ghost use lib.ListN.{length, getD};
 ghost use Rattle.endian.specs.Bytes.{i16};
 ghost use Rattle.voice.specs.Voice.{symbolsAt};
 ghost use Rattle.decoder.specs.Score.{numberOf, possible};
-ghost use Rattle.search.specs.Gains.{NearBias, numberSum, LetterRow, GainRow, LetterTable, Gained, KnownSymbol, StatePut, FirstPut, letterIn};
+ghost use Rattle.search.specs.Gains.{NearBias, numberSum, LetterRow, GainRow, LetterTable, GainsRoom, Gained, KnownSymbol, StatePut, FirstPut, letterIn};
 use crate::letters::FIRST_STATE;
 use crate::letters::LETTER;
 use crate::letters::LOOP;
@@ -95,7 +95,7 @@ pub(crate) fn frame_gains(
     gains: &mut [[u32; 8]; 64],
 )
     requires { ⌜ KnownSymbol (now voice) k × (at ≡ symbolsAt (now voice)) ⌝ }
-    requires { ⌜ LetterTable (now voice) used (now letters) × (length (now gains) ≡ 64) ⌝ }
+    requires { ⌜ LetterTable (now voice) used (now letters) × GainsRoom (now gains) ⌝ }
     ensures { λ _. ⌜ Gained (now (voice .entry)) k (now (letters .entry)) used (now (gains .exit)) ⌝ }
 {
     let mut i = 0;
