@@ -198,6 +198,9 @@ gained-next {v} {k} {i} {scores} {gains} {row} h d p = record {
         before (yes q) = absurd (e (ap (λ m. letterAt scores m) q))
         before (no q) = omega (arith, q)
 
+pub gains-room : {v : List ℕ} {k n : ℕ} {scores gains : List (List ℕ)} → Gained v k scores n gains → GainsRoom gains
+gains-room d = d .room
+
 pub gained-done : {v : List ℕ} {k n i : ℕ} {scores gains : List (List ℕ)} → n ≤ i → Gained v k scores i gains → Gained v k scores n gains
 gained-done h d = record { room = d .room; row = λ j k. d .row j (omega arith) }
 

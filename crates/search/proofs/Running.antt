@@ -31,10 +31,12 @@ use Rattle.passing.specs.InPlace.{passNode, passDown, passRoot}
 use Rattle.passing.proofs.InPlace.{first-frame, next-frame}
 use Rattle.passing.proofs.Bounds.{token-bounded}
 use Rattle.search.specs.Slots.{slots}
-use Rattle.search.specs.Gains.{MoveGains, EntryGains, KnownSymbol}
+use Rattle.search.specs.declared.frames.Numbers.{Numbers}
+use Rattle.search.specs.Gains.{GainsRoom, MoveGains, EntryGains, KnownSymbol}
 use Rattle.search.specs.Stored.{StoreRoom, Bound, Stored, Within, source, PassingOn, passedOn, PassedOn, Turn, turned, TurnDone}
-use Rattle.search.specs.Running.{Empty, Run, StoredAt}
+use Rattle.search.specs.Running.{Empty, Run, StoredAt, FrameHeld, FramesDone}
 use Rattle.search.proofs.Held.{held-none}
+use Rattle.search.proofs.Filling.{gains-room}
 use Rattle.search.proofs.Storing.{stored-ext}
 
 -- ---- stores
@@ -202,6 +204,31 @@ pub run-same : {v x frames : List ℕ} {n : ℕ} {vertices : List (List ℕ)} {b
     → Run v x frames n vertices b′
 run-same e r = record { ready = r .ready; roomy = roomy-same e (r .roomy); accepted = r .accepted }
 
-pub frames-end : (v x frames : List ℕ) (n t : ℕ) (b : List ℕ) → length frames ≤ t + 1 → t < length frames → StoredAt v x frames n t b
-    → StoredAt v x frames n (length frames - 1) b
-frames-end v x frames n t b h l s = let e : length frames - 1 ≡ t = omega arith in rw e s
+-- a frame that isn't the first comes after the one before it
+pub before-is : {t : ℕ} → ¬ (t ≡ 0) → suc (t - 1) ≡ t
+before-is h = omega (arith, h)
+
+-- of the same frame
+module _ {v x frames : List ℕ} {n : ℕ} {vertices : List (List ℕ)} {b₀ : List ℕ} (r : Run v x frames n vertices b₀) {i j : ℕ} (e : i ≡ j) where
+  pub entry-same : {gains : List (List ℕ)} → EntryGains v x (getD frames i 0) gains → EntryGains v x (getD frames j 0) gains
+  entry-same g = rw e at g
+
+  pub stored-same : {b : List ℕ} → StoredAt v x frames n i b → StoredAt v x frames n j b
+  stored-same s = rw e at s
+
+module _ {v x frames : List ℕ} {c : Numbers} {letters gains : List (List ℕ)} {b : List ℕ} where
+  pub frames-start : GainsRoom gains → Empty b → FramesDone v x frames 0 c letters gains b
+  frames-start r e = record { room = r; empty = λ z. e; held = λ h. absurd (omega arith) }
+
+  pub frames-next : {t : ℕ} → FrameHeld v x frames t c letters gains b → FramesDone v x frames (t + 1) c letters gains b
+  frames-next {t} d = record {
+    room = gains-room (d .gained);
+    empty = λ z. absurd (omega arith);
+    held = λ h. let e : t + 1 - 1 ≡ t = omega arith in rw e d;
+  }
+
+  pub frames-end : {t : ℕ} → AcceptedFrames v frames → length frames ≤ t → t ≤ length frames → FramesDone v x frames t c letters gains b
+      → StoredAt v x frames (c .n) (length frames - 1) b
+  frames-end {t} a h l d =
+      let e : length frames - 1 ≡ t - 1 = omega arith in
+      rw e (d .held (omega (arith, frame-count v frames a)) .stored)

@@ -1,6 +1,6 @@
 -- What the functions over all frames ask and leave: frame by frame, and at the end node by node. No public contract cites this.
 -- Assumes nothing.
-use Prim.Native.Nat.{ℕ, _≤_}
+use Prim.Native.Nat.{ℕ, _-_, _≤_, _<_}
 use mathlib.Core.Path.{_≡_}
 use mathlib.Core.Bool.{true, false}
 use mathlib.Core.List.{List, _++_, List·Memᴰ}
@@ -17,7 +17,7 @@ use Rattle.passing.specs.Tokens.{Store, bestTokens, tokens, ending}
 use Rattle.search.specs.Slots.{tokenAt, slots}
 use Rattle.search.specs.Held.{held, Storable}
 use Rattle.search.specs.declared.frames.Numbers.{Numbers}
-use Rattle.search.specs.Gains.{NodeLetters, Gained}
+use Rattle.search.specs.Gains.{NodeLetters, GainsRoom, Gained}
 use Rattle.search.specs.Places.{arcsIn, pathsIn}
 use Rattle.search.specs.Stored.{VertexTable, StoreRoom, Bound, Place, Stored}
 
@@ -46,6 +46,13 @@ pub record CallNumbers (v x : List ℕ) (c : Numbers) (letters : List (List ℕ)
 pub record FrameHeld (v x frames : List ℕ) (t : ℕ) (c : Numbers) (letters gains : List (List ℕ)) (b : List ℕ) : Type 0 where
   pub stored : StoredAt v x frames (c .n) t b
   pub gained : Gained v (getD frames t 0) letters (c .used) gains
+
+-- after the first t frames: what holds after the last of them, or an empty store where there is none
+pub record FramesDone (v x frames : List ℕ) (t : ℕ) (c : Numbers) (letters gains : List (List ℕ)) (b : List ℕ) : Type 0
+    where
+  pub room : GainsRoom gains
+  pub empty : t ≡ 0 → Empty b
+  pub held : 0 < t → FrameHeld v x frames (t - 1) c letters gains b
 
 -- ---- the end
 

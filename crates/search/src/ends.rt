@@ -75,6 +75,10 @@ pub(crate) fn best_words(
     requires { ⌜ Empty (now store) ⌝ }
     ensures { λ r. ⌜ r ≡ held 8 (hits (now (voice .entry)) (graphOf (now (lexicon .entry))) (now (frames .entry)) n) ⌝ }
 {
+    // n is at least 1: said here, it takes the test of n out of every loop over a place
+    if n == 0 {
+        return [0; 8];
+    }
     all_frames(voice, lexicon, frames, n, vertices, store);
     let mut list = [0u8; 64];
     let mut node = u16_at(lexicon, 0) as usize;

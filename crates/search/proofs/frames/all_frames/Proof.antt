@@ -1,30 +1,41 @@
--- `frames::all_frames` meets its contract: the table of the letters in use is filled, and then come the frames. Assumes nothing.
-use mathlib.Core.Path.{refl, ap, _∙_}
+-- `frames::all_frames` meets its contract: the table of the letters in use is filled, and then before each turn t frames
+-- are done. The measure is the frames left. Assumes nothing.
+use Prim.Native.Nat.{_-_, _≤_}
+use mathlib.Core.Path.{_≡_, refl, ap, _∙_}
+use native.Mathlib.Omega.{arith}
 use borrow.Author.Needs.{needs}
 use lib.IntN.{ℤ}
+use lib.ListN.{length}
 use Rattle.lexicon.specs.Lexicon.{nodeCount}
 use Rattle.graph.proofs.Accepted.{AcceptedImages, accepted}
 use Rattle.decoder.specs.Score.{numberOf, possible}
-use Rattle.search.specs.Running.{CallNumbers}
+use Rattle.search.specs.Running.{CallNumbers, FramesDone}
 use Rattle.search.proofs.Gaining.{back}
-use Rattle.search.proofs.Running.{run-same}
+use Rattle.search.proofs.Running.{frame-count, run-same, frames-start, frames-next, frames-end}
 use Rattle.search.proofs.frames.all_frames.Statement.{statement}
 use Rattle.search.proofs.frames.all_frames.Tie as tie
 
-images : (c : tie.Start) → AcceptedImages (c .args .voice .now) (c .args .lexicon .now)
+abbrev Inv-loop : tie.InvT-loop
+Inv-loop voice lexicon frames n vertices store₀ letters used nodes numbers gains₀ t₀ store gains t =
+    FramesDone voice lexicon frames t numbers letters gains store × (t ≤ length frames) × (length store ≡ length store₀)
+
+abbrev μ-loop : tie.MeasureT-loop
+μ-loop voice lexicon frames n vertices store₀ letters used nodes numbers gains₀ t₀ store gains t = length frames - t
+
+images : (c : tie.Start Inv-loop μ-loop) → AcceptedImages (c .args .voice .now) (c .args .lexicon .now)
 images c = accepted (c .pre .0 .ready .accepted)
 
-letter-table-requires : tie.Need-letter-table-requires
+letter-table-requires : tie.Need-letter-table-requires Inv-loop μ-loop
 letter-table-requires c κs = let i = images (c .before .before .before .before .before) in ((i .voice, i .lexicon), refl)
 
-abbrev begin : tie.After-letter-table → tie.Start
+abbrev begin : tie.After-letter-table Inv-loop μ-loop → tie.Start Inv-loop μ-loop
 begin t = t .before .before .before .before .before .before
 
-abbrev start : tie.After-symbols-at → tie.Start
+abbrev start : tie.After-symbols-at Inv-loop μ-loop → tie.Start Inv-loop μ-loop
 start c = begin (c .before .before .before .before)
 
 -- what is read once a call
-numbers : (c : tie.After-symbols-at) →
+numbers : (c : tie.After-symbols-at Inv-loop μ-loop) →
     let u = c .before in
     let f = u .before in
     let t = f .before .before in
@@ -44,31 +55,47 @@ numbers c =
       letters-of = f .before .before .letter-table .ensures;
     }
 
-first-frame-requires : tie.Need-first-frame-requires
-first-frame-requires c κs =
-    let s = c .before .before .before in
-    let p = start s .pre in
-    ((p .0, p .1), (numbers s, refl))
+loop-holds : tie.Need-loop-holds Inv-loop μ-loop
+loop-holds c = (frames-start (record { long = refl }) (start c .pre .1), omega arith, refl)
 
-later-frames-requires : tie.Need-later-frames-requires
-later-frames-requires c κs =
-    let f = c .before .before .before .before .before in
-    let s = f .before .before .before .before in
-    (run-same (f .first-frame .kept .1 .1 .1 .1 .1 .1 .1 .0) (start s .pre .0), (numbers s, f .first-frame .ensures))
+frame-requires : tie.Need-frame-requires Inv-loop μ-loop
+frame-requires c κs =
+    let i = c .before .before .before in
+    let l = i .before in
+    let s = l .before in
+    ((run-same (l .loop .inv .2) (start s .pre .0), i .loop-test .taken), (numbers s, l .loop .inv .0))
+
+loop-again : tie.Need-loop-again Inv-loop μ-loop
+loop-again c =
+    let f = c .before .before in
+    let i = f .before .before .before .before in
+    (frames-next (f .frame .ensures), omega (arith, i .loop-test .taken), f .frame .kept .1 .1 .1 .1 .1 .1 .1 .1 .0 ∙ i .before .loop .inv .2)
+
+returns : tie.Need-returns Inv-loop μ-loop
+returns c =
+    let i = c .before .loop .inv in
+    frames-end (start (c .before .before) .pre .0 .accepted) (c .loop-test .left) (i .1) (i .0)
 
 pub all-frames-spec : {M : Type 1} → statement M
 all-frames-spec =
     tie.close
     (tie.spec
+    Inv-loop
+    μ-loop
     letter-table-requires
     (λ c κs. images (begin c) .voice)
     (λ c κs. search needs)
     (λ c κs. search needs)
     (λ c. search needs)
     (λ c κs. images (begin (c .before .before .before)) .voice)
-    first-frame-requires
-    later-frames-requires
+    loop-holds
+    frame-requires
     (λ c.
-    let l = c .before .before in
-    l .later-frames .kept .1 .1 .1 .1 .1 .1 .1 .0 ∙ l .before .before .before .before .before .before .first-frame .kept .1 .1 .1 .1 .1 .1 .1 .0)
-    (λ c. c .before .before .later-frames .ensures))
+    let i = c .before .before .before .before .before .before in
+    let h = i .loop-test .taken in
+    let f = frame-count _ _ (start (i .before .before) .pre .0 .accepted) .1 in
+    search needs)
+    (λ c. let h = c .before .before .before .before .before .before .loop-test .taken in omega arith)
+    loop-again
+    (λ c. c .before .loop .inv .2)
+    returns)
