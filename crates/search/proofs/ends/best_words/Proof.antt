@@ -16,15 +16,22 @@ Inv-loop voice lexicon frames n vertices store list₀ node₀ list node = EndsL
 abbrev μ-loop : tie.MeasureT-loop
 μ-loop voice lexicon frames n vertices store list₀ node₀ list node = node
 
+-- n is at least 1
+returns : tie.Need-returns Inv-loop μ-loop
+returns c = absurd (omega (arith, c .if1 .taken, c .before .before .before .before .before .pre .0 .roomy .one))
+
+abbrev start : tie.Else1 Inv-loop μ-loop → tie.Start Inv-loop μ-loop
+start c = c .before .before .before .before .before
+
 all-frames-requires : tie.Need-all-frames-requires Inv-loop μ-loop
-all-frames-requires c κs = c .before .before .before .before .before .pre
+all-frames-requires c κs = start (c .before) .pre
 
 -- after all frames
 run : (c : tie.After-all-frames Inv-loop μ-loop) →
-    let a = c .before .before .before .before .before .before .args in
+    let a = start (c .before .before) .args in
     Run (a .voice .now) (a .lexicon .now) (a .frames .now) (a .n) (a .vertices .now)
     (c .all-frames .last .1 .1 .1 .1 .1 .0)
-run c = run-same (c .all-frames .kept .1 .1 .1 .1 .1 .0) (c .before .before .before .before .before .before .pre .0)
+run c = run-same (c .all-frames .kept .1 .1 .1 .1 .1 .0) (start (c .before .before) .pre .0)
 
 loop-holds : tie.Need-loop-holds Inv-loop μ-loop
 unfolding nodeCount
@@ -50,8 +57,8 @@ copy-place-requires c κs =
     let f = l .before .before .before .before in
     (list-ready (run f) (f .all-frames .ensures) (l .loop .inv), refl)
 
-returns : tie.Need-returns Inv-loop μ-loop
-returns c =
+returns-2 : tie.Need-returns-2 Inv-loop μ-loop
+returns-2 c =
     let l = c .before .before .before in
     let f = l .before .before .before .before .before in
     ends-done (run f) (f .all-frames .ensures) (l .loop-test .left) (l .before .loop .inv) (c .copy-place .ensures)
@@ -83,6 +90,7 @@ best-words-spec =
     (tie.spec
     Inv-loop
     μ-loop
+    returns
     all-frames-requires
     u16-at-requires
     cast-node
@@ -95,4 +103,4 @@ best-words-spec =
     slice-aggregate-copy-place
     copy-place-requires
     same-length
-    returns)
+    returns-2)

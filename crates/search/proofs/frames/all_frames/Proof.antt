@@ -56,7 +56,7 @@ numbers c =
     }
 
 loop-holds : tie.Need-loop-holds Inv-loop μ-loop
-loop-holds c = (frames-start (record { long = refl }) (start c .pre .1), omega arith, refl)
+loop-holds c = (frames-start (record { long = refl; nothing = refl }) (start c .pre .1), omega arith, refl)
 
 frame-requires : tie.Need-frame-requires Inv-loop μ-loop
 frame-requires c κs =
