@@ -209,8 +209,10 @@ pub before-is : {t : ℕ} → ¬ (t ≡ 0) → suc (t - 1) ≡ t
 before-is h = omega (arith, h)
 
 -- of the same frame
-module _ {v x frames : List ℕ} {n : ℕ} {vertices : List (List ℕ)} {b₀ : List ℕ} (r : Run v x frames n vertices b₀) {i j : ℕ} (e : i ≡ j) where
-  pub entry-same : {gains : List (List ℕ)} → EntryGains v x (getD frames i 0) gains → EntryGains v x (getD frames j 0) gains
+module _ {v x frames : List ℕ} {n : ℕ} {vertices : List (List ℕ)} {b₀ : List ℕ} (r : Run v x frames n vertices b₀)
+    {i j : ℕ} (e : i ≡ j) where
+  pub entry-same : {gains : List (List ℕ)} → EntryGains v x (getD frames i 0) gains
+      → EntryGains v x (getD frames j 0) gains
   entry-same g = rw e at g
 
   pub stored-same : {b : List ℕ} → StoredAt v x frames n i b → StoredAt v x frames n j b
@@ -227,8 +229,8 @@ module _ {v x frames : List ℕ} {c : Numbers} {letters gains : List (List ℕ)}
     held = λ h. let e : t + 1 - 1 ≡ t = omega arith in rw e d;
   }
 
-  pub frames-end : {t : ℕ} → AcceptedFrames v frames → length frames ≤ t → t ≤ length frames → FramesDone v x frames t c letters gains b
-      → StoredAt v x frames (c .n) (length frames - 1) b
+  pub frames-end : {t : ℕ} → AcceptedFrames v frames → length frames ≤ t → t ≤ length frames
+      → FramesDone v x frames t c letters gains b → StoredAt v x frames (c .n) (length frames - 1) b
   frames-end {t} a h l d =
       let e : length frames - 1 ≡ t - 1 = omega arith in
       rw e (d .held (omega (arith, frame-count v frames a)) .stored)

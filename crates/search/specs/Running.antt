@@ -48,8 +48,8 @@ pub record FrameHeld (v x frames : List ℕ) (t : ℕ) (c : Numbers) (letters ga
   pub gained : Gained v (getD frames t 0) letters (c .used) gains
 
 -- after the first t frames: what holds after the last of them, or an empty store where there is none
-pub record FramesDone (v x frames : List ℕ) (t : ℕ) (c : Numbers) (letters gains : List (List ℕ)) (b : List ℕ) : Type 0
-    where
+pub record FramesDone (v x frames : List ℕ) (t : ℕ) (c : Numbers) (letters gains : List (List ℕ))
+    (b : List ℕ) : Type 0 where
   pub room : GainsRoom gains
   pub empty : t ≡ 0 → Empty b
   pub held : 0 < t → FrameHeld v x frames (t - 1) c letters gains b

@@ -24,7 +24,8 @@ pub(crate) struct Numbers {
     pub link: Score,
 }
 
-// The gains of frame t: they stay where the symbol is that of the frame before, since a sound lasts longer than a frame.
+// The gains of frame t: they stay where the symbol is that of the frame before, since a sound lasts longer than a
+// frame.
 fn new_gains(
     voice: &[u8],
     frames: &[u8],
@@ -35,8 +36,10 @@ fn new_gains(
 )
     requires { ⌜ (t < length (now frames)) × KnownSymbol (now voice) (getD (now frames) t 0) ⌝ }
     requires { ⌜ LetterTable (now voice) (numbers .used) (now letters) × (numbers .symbols ≡ symbolsAt (now voice)) ⌝ }
-    requires { ⌜ GainsRoom (now gains) × (0 < t → Gained (now voice) (getD (now frames) (t - 1) 0) (now letters) (numbers .used) (now gains)) ⌝ }
-    ensures { λ _. ⌜ Gained (now (voice .entry)) (getD (now (frames .entry)) t 0) (now (letters .entry)) (numbers .used) (now (gains .exit)) ⌝ }
+    requires { ⌜ GainsRoom (now gains)
+        × (0 < t → Gained (now voice) (getD (now frames) (t - 1) 0) (now letters) (numbers .used) (now gains)) ⌝ }
+    ensures { λ _. ⌜ Gained (now (voice .entry)) (getD (now (frames .entry)) t 0) (now (letters .entry))
+        (numbers .used) (now (gains .exit)) ⌝ }
 {
     let symbol = frames[t];
     if t > 0 {
@@ -59,10 +62,12 @@ fn frame(
     gains: &mut [[u32; 8]; 65],
     store: &mut [u8],
 )
-    requires { ⌜ Run (now voice) (now lexicon) (now frames) (numbers .n) (now vertices) (now store) × (t < length (now frames)) ⌝ }
+    requires { ⌜ Run (now voice) (now lexicon) (now frames) (numbers .n) (now vertices) (now store)
+        × (t < length (now frames)) ⌝ }
     requires { ⌜ CallNumbers (now voice) (now lexicon) numbers (now letters) ⌝ }
     requires { ⌜ FramesDone (now voice) (now lexicon) (now frames) t numbers (now letters) (now gains) (now store) ⌝ }
-    ensures { λ _. ⌜ FrameHeld (now (voice .entry)) (now (lexicon .entry)) (now (frames .entry)) t numbers (now (letters .entry)) (now (gains .exit)) (now (store .exit)) ⌝ }
+    ensures { λ _. ⌜ FrameHeld (now (voice .entry)) (now (lexicon .entry)) (now (frames .entry)) t numbers
+        (now (letters .entry)) (now (gains .exit)) (now (store .exit)) ⌝ }
 {
     new_gains(voice, frames, t, numbers, letters, gains);
     let n = numbers.n;

@@ -1,5 +1,5 @@
--- `frames::all_frames` meets its contract: the table of the letters in use is filled, and then before each turn t frames
--- are done. The measure is the frames left. Assumes nothing.
+-- `frames::all_frames` meets its contract: the table of the letters in use is filled, and then before each turn t
+-- frames are done. The measure is the frames left. Assumes nothing.
 use Prim.Native.Nat.{_-_, _≤_}
 use mathlib.Core.Path.{_≡_, refl, ap, _∙_}
 use native.Mathlib.Omega.{arith}
@@ -68,8 +68,11 @@ frame-requires c κs =
 loop-again : tie.Need-loop-again Inv-loop μ-loop
 loop-again c =
     let f = c .before .before in
-    let i = f .before .before .before .before in
-    (frames-next (f .frame .ensures), omega (arith, i .loop-test .taken), f .frame .kept .1 .1 .1 .1 .1 .1 .1 .1 .0 ∙ i .before .loop .inv .2)
+    let i = f .before .before .before .before in (
+      frames-next (f .frame .ensures),
+      omega (arith, i .loop-test .taken),
+      f .frame .kept .1 .1 .1 .1 .1 .1 .1 .1 .0 ∙ i .before .loop .inv .2,
+    )
 
 returns : tie.Need-returns Inv-loop μ-loop
 returns c =

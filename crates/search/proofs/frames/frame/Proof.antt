@@ -1,13 +1,14 @@
 -- `frames::frame` meets its contract: the root's token enters an empty store; or the turns that are left give what all
 -- turns give. The measure is the nodes left. Assumes nothing.
 use Prim.Native.Nat.{suc, _-_, _<_}
-use mathlib.Core.Path.{_≡_, sym}
+use mathlib.Core.Path.{sym}
 use native.Mathlib.Omega.{arith}
 use borrow.Author.Needs.{needs}
 use lib.ListN.{length, getD}
 use Rattle.search.specs.Gains.{Gained, MoveGains, EntryGains}
 use Rattle.search.proofs.Filling.{move-gains, entry-gains}
-use Rattle.search.proofs.Running.{known-symbol, root-passing, root-stored, TurnsLeft, turns-start, turn-next, turns-next, turns-done, before-is, entry-same, stored-same}
+use Rattle.search.proofs.Running.{known-symbol, root-passing, root-stored, before-is, entry-same}
+use Rattle.search.proofs.Running.{TurnsLeft, turns-start, turn-next, turns-next, turns-done, stored-same}
 use Rattle.search.proofs.frames.frame.Statement.{statement}
 use Rattle.search.proofs.frames.frame.Tie as tie
 
@@ -23,8 +24,10 @@ new-gains-requires c κs =
     let s = c .before .before .before .before .before in
     let r = s .pre .0 in
     let n = s .pre .1 .0 in
-    let d = s .pre .1 .1 in
-    ((r .1, known-symbol (r .0) (s .args .t) (r .1)), ((n .letters-of .table, n .symbols), (d .room, λ h. d .held h .gained)))
+    let d = s .pre .1 .1 in (
+      (r .1, known-symbol (r .0) (s .args .t) (r .1)),
+      ((n .letters-of .table, n .symbols), (d .room, λ h. d .held h .gained)),
+    )
 
 abbrev start : tie.After-new-gains Inv-loop μ-loop → tie.Start Inv-loop μ-loop
 start c = c .before .before .before .before .before .before
@@ -41,7 +44,8 @@ entries : (c : tie.Then1 Inv-loop μ-loop) →
     EntryGains (a .voice .now) (a .lexicon .now) (getD (a .frames .now) 0 0) (g .new-gains .last .1 .1 .1 .1 .1 .0)
 entries c =
     let g = first c in
-    entry-same (start g .pre .0 .0) (c .if1 .taken) (entry-gains (start g .pre .1 .0 .letters-of) (g .new-gains .ensures))
+    let p = start g .pre in
+    entry-same (p .0 .0) (c .if1 .taken) (entry-gains (p .1 .0 .letters-of) (g .new-gains .ensures))
 
 enter-nodes-requires : tie.Need-enter-nodes-requires Inv-loop μ-loop
 enter-nodes-requires c κs =
@@ -55,9 +59,12 @@ returns c =
     let i = m .before .before .before in
     let g = first i in
     let p = start g .pre in
-    let e = p .1 .1 .empty (i .if1 .taken) in
+    let r = p .0 .0 in
+    let z = i .if1 .taken in
+    let e = p .1 .1 .empty z in
+    let d = m .enter-nodes .ensures (root-passing r e (entries i)) in
     record {
-      stored = stored-same (p .0 .0) (sym (i .if1 .taken)) (root-stored (p .0 .0) e (entries i) (m .enter-nodes .ensures (root-passing (p .0 .0) e (entries i))));
+      stored = stored-same r (sym z) (root-stored r e (entries i) d);
       gained = g .new-gains .ensures;
     }
 
@@ -76,13 +83,15 @@ gained c = rw (before-is (c .if1 .left)) (later c .new-gains .ensures)
 moves : (c : tie.Else1 Inv-loop μ-loop) →
     let g = later c in
     let a = start g .args in
-    MoveGains (a .voice .now) (a .lexicon .now) (getD (a .frames .now) (suc (a .t - 1)) 0) (g .new-gains .last .1 .1 .1 .1 .1 .0)
+    MoveGains (a .voice .now) (a .lexicon .now) (getD (a .frames .now) (suc (a .t - 1)) 0)
+    (g .new-gains .last .1 .1 .1 .1 .1 .0)
 moves c = move-gains (start (later c) .pre .1 .0 .letters-of) (gained c)
 
 links : (c : tie.Else1 Inv-loop μ-loop) →
     let g = later c in
     let a = start g .args in
-    EntryGains (a .voice .now) (a .lexicon .now) (getD (a .frames .now) (suc (a .t - 1)) 0) (g .new-gains .last .1 .1 .1 .1 .1 .0)
+    EntryGains (a .voice .now) (a .lexicon .now) (getD (a .frames .now) (suc (a .t - 1)) 0)
+    (g .new-gains .last .1 .1 .1 .1 .1 .0)
 links c = entry-gains (start (later c) .pre .1 .0 .letters-of) (gained c)
 
 inside : (c : tie.Else1 Inv-loop μ-loop) →
@@ -118,8 +127,10 @@ returns-2 c =
     let i = c .before .before in
     let g = later i in
     let s = start g in
+    let r = s .pre .0 .0 in
+    let d = turns-done r (s .args .t - 1) (c .loop-test .left) (c .before .loop .inv) in
     record {
-      stored = stored-same (s .pre .0 .0) (before-is (i .if1 .left)) (turns-done (s .pre .0 .0) (s .args .t - 1) (c .loop-test .left) (c .before .loop .inv));
+      stored = stored-same r (before-is (i .if1 .left)) d;
       gained = g .new-gains .ensures;
     }
 

@@ -1,5 +1,5 @@
--- `frames::new_gains` meets its contract: by the tests, the symbol is the one before, or its gains are found. Assumes nothing.
-use mathlib.Core.Path.{_≡_}
+-- `frames::new_gains` meets its contract: by the tests, the symbol is the one before, or its gains are
+-- found. Assumes nothing.
 use borrow.Author.Needs.{needs}
 use Rattle.voice.proofs.Scores.{symbols-few}
 use Rattle.search.proofs.frames.new_gains.Statement.{statement}
