@@ -255,7 +255,7 @@ module _ {v x : List ℕ} {n : ℕ} {vertices : List (List ℕ)} {w : ℕ} {b li
         → Ended e list′
     end-offered o =
         let f : offered (upOf (pos 0)) (downOf d) (held n (bestTokens n last-tokens)) (held n (bestTokens n (e .s)))
-            ≡ held n (bestTokens n (e .s ++ map (shift (pos 0) d) last-tokens)) =
+        ≡ held n (bestTokens n (e .s ++ map (shift (pos 0) d) last-tokens)) =
         offered-best n (pos 0) d last-tokens end-moves (e .s) (e .storable) in
         record { holds = o ∙ rw (last-slots, e .holds, ends-so) (rw (level-up, level-down d) at f) }
 

@@ -119,7 +119,7 @@ module _ (t : List (List ℕ)) (w slot letter : ℕ) (h : w < length t) where
 
 pub slots-next : {v x : List ℕ} {n node slot : ℕ} {t t′ : List (List ℕ)} → Images v x → n ≤ 8 → SlotsFound v x n node slot t t′ → node ≤ nodeCount x
     → (n * getD v (2 + 2 * getD x (1 + node) 0) 0 ≤ 32)
-    × SlotsFound v x n (node + 1) (slot + n * getD v (2 + 2 * getD x (1 + node) 0) 0) t 
+    × SlotsFound v x n (node + 1) (slot + n * getD v (2 + 2 * getD x (1 + node) 0) 0) t
     (set t′ node (arcsIn t′ node ∷ pathsIn t′ node ∷ slot ∷ getD x (1 + node) 0 ∷ []))
 unfolding nodeLetter states sinkOf
 slots-next {v} {x} {n} {node} {slot} {t} {t′} i e p h = (

@@ -134,9 +134,9 @@ module _ {x : List ℕ} {n : ℕ} {vertices gains : List (List ℕ)} {link : ℕ
   arc-read = record {
     letter = elim (decLt u (suc (nodeCount x))) [
       | yes l ↦
-        let one : 1 ≤ u = omega (arith, rises .0) in
-        let k : u ≤ nodeCount x = omega arith in
-        rw (h .ready .letter one k) (omega (arith, letter-few (h .ready) one k))
+          let one : 1 ≤ u = omega (arith, rises .0) in
+          let k : u ≤ nodeCount x = omega arith in
+          rw (h .ready .letter one k) (omega (arith, letter-few (h .ready) one k))
       | no d ↦ rw (at-sink d) (omega arith)
     ];
     long-gains = h .entry-gains .room .long;
@@ -220,9 +220,9 @@ module _ {x : List ℕ} {n : ℕ} {vertices gains : List (List ℕ)} {link : ℕ
   pub arc-closed : entered ≡ 0 → Stored (h .v) g n (overOne t) b
   arc-closed z = elim (decLt u (suc (nodeCount x))) [
     | yes l ↦
-      let k : u ≤ nodeCount x = omega arith in
-      let q : 0 ≡ numberSum link entered = sym (ap (numberSum link) z ∙ sum-second link) in
-      arc-done k q (pass-to-nothing (arc-offering k q) refl)
+        let k : u ≤ nodeCount x = omega arith in
+        let q : 0 ≡ numberSum link entered = sym (ap (numberSum link) z ∙ sum-second link) in
+        arc-done k q (pass-to-nothing (arc-offering k q) refl)
     | no d ↦ arc-sink d
   ]
 

@@ -47,7 +47,14 @@ fn new_gains(
             return;
         }
     }
-    frame_gains(voice, numbers.symbols, symbol as usize, letters, numbers.used, gains);
+    frame_gains(
+        voice,
+        numbers.symbols,
+        symbol as usize,
+        letters,
+        numbers.used,
+        gains,
+    );
 }
 
 // One frame: at the first the root's token enters an empty store, and at each later one every node takes its turn.
@@ -110,7 +117,17 @@ pub(crate) fn all_frames(
     let mut gains = [[0u32; 8]; 65];
     let mut t = 0;
     while t < frames.len() {
-        frame(voice, lexicon, frames, t, numbers, vertices, &letters, &mut gains, store);
+        frame(
+            voice,
+            lexicon,
+            frames,
+            t,
+            numbers,
+            vertices,
+            &letters,
+            &mut gains,
+            store,
+        );
         t += 1;
     }
 }

@@ -58,7 +58,14 @@ pub fn search(
     let slots = find_slots(voice, lexicon, n as usize, &mut vertices);
     // a store of n tokens a place; checking left the work space clear, so nothing else has to be cleared again
     let store = 8 * slots;
-    let tokens = best_words(voice, lexicon, frames, n as usize, &vertices, &mut work[0..store]);
+    let tokens = best_words(
+        voice,
+        lexicon,
+        frames,
+        n as usize,
+        &vertices,
+        &mut work[0..store],
+    );
     zero(&mut work[0..store]);
     Searched {
         answer: judged,

@@ -15,7 +15,12 @@ pub(crate) const NO_LETTER: u32 = 64;
 
 // Puts the letter and the first slot of each node into the table of vertices, where each place has n: n times the number
 // of states of all nodes below it. Answers the number of all slots.
-pub(crate) fn find_slots(voice: &[u8], lexicon: &[u8], n: usize, vertices: &mut [[u32; 4]; 402]) -> usize
+pub(crate) fn find_slots(
+    voice: &[u8],
+    lexicon: &[u8],
+    n: usize,
+    vertices: &mut [[u32; 4]; 402],
+) -> usize
     requires { ⌜ (voiceVerdict (now voice) ≡ wellFormed) × (lexiconVerdict (letterCount (now voice)) (now lexicon) ≡ wellFormed) ⌝ }
     requires { ⌜ (n ≤ 8) × (length (now vertices) ≡ 402) ⌝ }
     ensures { λ r. ⌜ SlotsPut (now (voice .entry)) (now (lexicon .entry)) n (now (vertices .entry)) (now (vertices .exit)) r ⌝ }
