@@ -70,8 +70,10 @@ value-above n h = rw (le-ltb n (bias - scoreLimit) (omega arith), lt-ltb (bias +
 -- a score within the limits is the value of its number
 pub value-back : (z : ℤ) → natAbs z ≤ scoreLimit → valueOf (raised bias z) ≡ z
 unfolding raised scoreLimit
-value-back (pos n) h = value-within (bias + n) (unfold scoreLimit in omega arith) (unfold scoreLimit in omega arith) ∙ rw (le-ltb (bias + n) bias (omega arith)) (ap pos (omega arith))
-value-back (negsuc n) h = value-within (bias - suc n) (unfold scoreLimit in omega arith) (unfold scoreLimit in omega arith) ∙ rw (lt-ltb (bias - suc n) bias (omega arith)) (ap negsuc (omega arith))
+value-back (pos n) h = value-within (bias + n) (unfold scoreLimit in omega arith) (unfold scoreLimit in omega arith)
+    ∙ rw (le-ltb (bias + n) bias (omega arith)) (ap pos (omega arith))
+value-back (negsuc n) h = value-within (bias - suc n) (unfold scoreLimit in omega arith)
+    (unfold scoreLimit in omega arith) ∙ rw (lt-ltb (bias - suc n) bias (omega arith)) (ap negsuc (omega arith))
 
 -- the bits of -32,768 are 32,768, and no other i16 has them
 pub not-possible : (z : ℤ) → SFits w16 z → ofZ w16 z ≡ 32768 → possible z ≡ none

@@ -8,5 +8,7 @@ use Rattle.decoder.specs.Decoding.{pathScore, scored, row, hits, frameRo
 use Rattle.decoder.specs.Demand.{decodedList}
 
 unfoldable pub everything : Unit {0}
-unfolding stateAt lastSpot moveScore partsOf scoreOf permitted scoreLimit higher highest stay movesTo pathsTo parts bestOf bestTo trueScore raised numberOf valueOf possible plus codePart pathScore scored row hits frameRows decodeRows decodeAnswer decodeOut decodedList
+unfolding stateAt lastSpot moveScore partsOf scoreOf permitted scoreLimit higher highest stay movesTo pathsTo parts
+    bestOf bestTo trueScore raised numberOf valueOf possible plus codePart pathScore scored row hits frameRows
+    decodeRows decodeAnswer decodeOut decodedList
 everything = tt

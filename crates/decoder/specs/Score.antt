@@ -34,7 +34,8 @@ numberOf (some z) = raised bias z
 -- the score of a number; one that passes a limit gives the limit
 unfoldable pub valueOf : ℕ → ℤ
 valueOf n =
-    cond (ltb n (bias - scoreLimit)) (negℤ (pos scoreLimit)) (cond (ltb (bias + scoreLimit) n) (pos scoreLimit) (subℕ n bias))
+    cond (ltb n (bias - scoreLimit)) (negℤ (pos scoreLimit))
+        (cond (ltb (bias + scoreLimit) n) (pos scoreLimit) (subℕ n bias))
 
 -- a stored score, where it is not impossible
 unfoldable pub possible : ℤ → Option ℤ

@@ -1,5 +1,5 @@
-// A token is a candidate as one number: (score + bias) × 2^32 + (2^32 - 1 - code). Its high half is a `Score`'s number. So a
-// token outranks another exactly if its number is greater, and a move adds to it and takes from it.
+// A token is a candidate as one number: (score + bias) × 2^32 + (2^32 - 1 - code). Its high half is a `Score`'s number.
+// So a token outranks another exactly if its number is greater, and a move adds to it and takes from it.
 ghost use mathlib.Core.Path.{_≡_};
 ghost use Prim.Native.Nat.{_+_, _-_, _*_, _/_};
 ghost use lib.Dec.{ltb, eqb};

@@ -59,7 +59,8 @@ module _ (v x frames work out : List ℕ) (n : ℕ) where
       held-so = f ∙ ap (λ a. found a (hits v (graphOf x) frames n)) e
 
       pub says-hits : hitsOf tokens ≡ hits v (graphOf x) frames n
-      says-hits = rw held-so (hits-held 8 (hits v (graphOf x) frames n) (omega (arith, few-hits, call .few-wanted)) within)
+      says-hits = rw held-so (hits-held 8 (hits v (graphOf x) frames n) (omega (arith, few-hits, call .few-wanted))
+          within)
 
       pub listable : Listable tokens out
       listable = record {

@@ -151,8 +151,10 @@ module _ (h : Hit) (s : Within h) where
   unfolding tokenOf hitOf
   token-says =
       let c = s .1 in
-      let high : (raised bias (h .score) * 4294967296 + (4294967295 - h .code)) / 4294967296 ≡ raised bias (h .score) = omega arith in
-      let low : 4294967295 - (raised bias (h .score) * 4294967296 + (4294967295 - h .code)) % 4294967296 ≡ h .code = omega arith in
+      let high : (raised bias (h .score) * 4294967296 + (4294967295 - h .code)) / 4294967296 ≡ raised bias (h .score) =
+          omega arith in
+      let low : 4294967295 - (raised bias (h .score) * 4294967296 + (4294967295 - h .code)) % 4294967296 ≡ h .code =
+          omega arith in
       ap₂ hit (ap valueOf high ∙ value-back (h .score) (s .0)) low
 
 -- so the tokens of a list of candidates say the list

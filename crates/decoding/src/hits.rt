@@ -24,7 +24,8 @@ fn put_bytes(out: &mut [u8], at: usize, bytes: [u8; 4])
 // A hit is written in 8 bytes: i32 score, u32 code.
 fn put_hit(out: &mut [u8], at: usize, token: Token)
     requires { ⌜ at + 8 ≤ length (now out) ⌝ }
-    ensures { λ _. ⌜ now (out .exit) ≡ sets (now (out .entry)) at (i32Bytes (hitOf (token .0) .score) ++ u32Bytes (hitOf (token .0) .code)) ⌝ }
+    ensures { λ _. ⌜ now (out .exit)
+        ≡ sets (now (out .entry)) at (i32Bytes (hitOf (token .0) .score) ++ u32Bytes (hitOf (token .0) .code)) ⌝ }
 {
     let score = token.score();
     put_bytes(out, at, i32_bytes(score.value()));

@@ -1,5 +1,6 @@
--- Tokens stay within bounds. A frame changes a score by at most `frameLimit`, since a move and an emission have 16 bits each. A token's code and the number of
--- paths that go on from its node are together at most W, since a vertex's paths are counted successor by successor. Assumes nothing.
+-- Tokens stay within bounds. A frame changes a score by at most `frameLimit`, since a move and an emission have 16 bits
+-- each. A token's code and the number of paths that go on from its node are together at most W, since a vertex's paths
+-- are counted successor by successor. Assumes nothing.
 use Prim.Native.Nat.{ℕ, suc, _+_, _*_, _^_, _≤_, _<_}
 use mathlib.Core.List.{List}
 use native.Mathlib.Omega.{arith}

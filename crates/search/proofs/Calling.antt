@@ -102,7 +102,8 @@ module _ (v x work : List ℕ) where
         record { frames-accepted = q .0; one = b .0; few = b .1; room = ltb-false (length out) (8 * n) (s .1 .0) }
 
     -- a store of n tokens a place
-    pub call-run : {W r : ℕ} {t t′ : List (List ℕ)} {b : List ℕ} → Passed v x work W → Clear → Vertices x t → SlotsPut v x n t t′ r
+    pub call-run : {W r : ℕ} {t t′ : List (List ℕ)} {b : List ℕ} → Passed v x work W → Clear → Vertices x t
+        → SlotsPut v x n t t′ r
         → length b ≡ 8 * r → Run v x frames n t′ b
     unfolding sinkOf
     call-run {t = t} p c o s l = record {

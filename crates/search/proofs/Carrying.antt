@@ -44,7 +44,8 @@ sizeOf none = 0
 sizeOf (some a) = natAbs a
 
 -- a move of two stored scores
-pub move-small : (y z : ℤ) → mag y < 32768 → mag z < 32768 → {a : ℤ} → plus (possible y) (possible z) ≡ some a → natAbs a ≤ frameLimit
+pub move-small : (y z : ℤ) → mag y < 32768 → mag z < 32768 → {a : ℤ} → plus (possible y) (possible z) ≡ some a
+    → natAbs a ≤ frameLimit
 unfolding possible plus sizeOf
 move-small y z h k q = rw q at size
   where
@@ -54,14 +55,16 @@ move-small y z h k q = rw q at size
         go : (b c : Bool) → sizeOf (plus (cond b none (some y)) (cond c none (some z))) ≤ frameLimit
         go true c = omega arith
         go false true = omega arith
-        go false false = let s : natAbs (y +ℤ z) ≤ frameLimit = omega (arith, size-sum y z, mag-size y h, mag-size z k) in s
+        go false false = let s : natAbs (y +ℤ z) ≤ frameLimit =
+            omega (arith, size-sum y z, mag-size y h, mag-size z k) in s
 
 -- and its gain
 pub worth-of : {gain : ℕ} (y z : ℤ) → mag y < 32768 → mag z < 32768 → gain ≡ numberOf (plus (possible y) (possible z))
     → Worth gain (plus (possible y) (possible z))
 worth-of y z h k e = record { gain-is = e; small = λ q. move-small y z h k q }
 
-pub worth-by : {gain : ℕ} {o : Option ℤ} (y z : ℤ) → o ≡ possible y → mag y < 32768 → mag z < 32768 → gain ≡ numberOf (plus o (possible z))
+pub worth-by : {gain : ℕ} {o : Option ℤ} (y z : ℤ) → o ≡ possible y → mag y < 32768 → mag z < 32768
+    → gain ≡ numberOf (plus o (possible z))
     → Worth gain (plus o (possible z))
 worth-by y z q h k e = rw q (worth-of y z h k (rw q at e))
 
@@ -138,7 +141,8 @@ module _ {n slot gain : ℕ} {b : List ℕ} (t : Staying n slot gain b) where
       let a = possible-score (t .worth) z in
       rw (up-is (t .worth) (a .1), t .holds) (held-movable (a .0) 0 n (t .l) (rw (t .movers .best) at (moves-of (t .worth) (t .movers) (a .1))))
 
-  pub stay-done : ¬ (gain ≡ 0) → {l : List ℕ} → l ≡ shifted (gain * 4294967296) lift (slots n slot b) → l ≡ held n (stayed t)
+  pub stay-done : ¬ (gain ≡ 0) → {l : List ℕ} → l ≡ shifted (gain * 4294967296) lift (slots n slot b)
+      → l ≡ held n (stayed t)
   unfolding stayed carried downOf
   stay-done z e =
       let a = possible-score (t .worth) z in
@@ -182,14 +186,17 @@ root-source : (n : ℕ) (b : List ℕ) → take n (source true n 0 b) ≡ held n
 unfolding source
 root-source n b = held-take-more n n (hit (pos 0) 0 ∷ []) (omega arith)
 
-module _ {n slot gain : ℕ} (d : ℕ) {b : List ℕ} (t : Offering n slot gain (lift + d) (source true n 0 b) b) (z : ¬ (gain ≡ 0)) where
+module _ {n slot gain : ℕ} (d : ℕ) {b : List ℕ} (t : Offering n slot gain (lift + d) (source true n 0 b) b)
+    (z : ¬ (gain ≡ 0)) where
   -- the root's token is moved to one of the gain and the increment
-  root-moved : d < 4294967296 → tokenOf (hit (pos 0) 0) + gain * 4294967296 - (lift + d) ≡ gain * 4294967296 + (4294967295 - d)
+  root-moved : d < 4294967296 → tokenOf (hit (pos 0) 0) + gain * 4294967296 - (lift + d)
+      ≡ gain * 4294967296 + (4294967295 - d)
   unfolding tokenOf raised
   root-moved h = omega arith
 
   root-enters : (m : ℕ) (l : List ℕ) → 0 < m → d < 4294967296
-      → offered (gain * 4294967296) (lift + d) (held m (hit (pos 0) 0 ∷ [])) l ≡ enter (gain * 4294967296 + (4294967295 - d)) l
+      → offered (gain * 4294967296) (lift + d) (held m (hit (pos 0) 0 ∷ [])) l
+          ≡ enter (gain * 4294967296 + (4294967295 - d)) l
   unfolding offered pad
   root-enters zero l h k = absurd (omega arith)
   root-enters (suc m) l h k = rw (first-some, root-moved k) (offered-none (gain * 4294967296) (lift + d) m _)
@@ -197,7 +204,8 @@ module _ {n slot gain : ℕ} (d : ℕ) {b : List ℕ} (t : Offering n slot gain 
       first-some : eqb (tokenOf (hit (pos 0) 0)) 0 ≡ false
       first-some = unfold tokenOf raised in refl
 
-  pub root-done : d < 4294967296 → {b′ : List ℕ} → Changed slot n (enter (gain * 4294967296 + (4294967295 - d)) (slots n slot b)) b b′
+  pub root-done : d < 4294967296 → {b′ : List ℕ}
+      → Changed slot n (enter (gain * 4294967296 + (4294967295 - d)) (slots n slot b)) b b′
       → Changed slot n (held n (joined t)) b b′
   root-done k c =
       pass-to-done t z (record {
@@ -206,7 +214,8 @@ module _ {n slot gain : ℕ} (d : ℕ) {b : List ℕ} (t : Offering n slot gain 
       })
 
 -- the tokens of a node
-module _ {n slot gain down : ℕ} (k : ℕ) {b : List ℕ} (t : Offering n slot gain down (source false n k b) b) (z : ¬ (gain ≡ 0)) where
+module _ {n slot gain down : ℕ} (k : ℕ) {b : List ℕ} (t : Offering n slot gain down (source false n k b) b)
+    (z : ¬ (gain ≡ 0)) where
   own-tokens : source false n k b ≡ slots n k b
   unfolding source
   own-tokens = refl

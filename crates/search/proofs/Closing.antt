@@ -140,9 +140,11 @@ pub record EndPlace (v x : List ℕ) (n : ℕ) (vertices : List (List ℕ)) (w :
   pub slot-small : firstIn vertices w + n * lastAt v x w ≤ 8000
   pub room : PlaceRoom n (firstIn vertices w + n * lastAt v x w) b
   pub place : Place v (graphOf x) w (lastState v (graphOf x) w)
-  pub slot : slots n (firstIn vertices w + n * lastAt v x w) b ≡ slots n (n * (firstPlace v (graphOf x) w + lastState v (graphOf x) w)) b
+  pub slot : slots n (firstIn vertices w + n * lastAt v x w) b
+      ≡ slots n (n * (firstPlace v (graphOf x) w + lastState v (graphOf x) w)) b
 
-module _ {v x : List ℕ} {n : ℕ} {vertices : List (List ℕ)} {w : ℕ} {b : List ℕ} (r : VertexTable v x n vertices) (m : StoreRoom v x n b)
+module _ {v x : List ℕ} {n : ℕ} {vertices : List (List ℕ)} {w : ℕ} {b : List ℕ} (r : VertexTable v x n vertices)
+    (m : StoreRoom v x n b)
     (low : 1 ≤ w) (high : w ≤ nodeCount x) where
   known : nodeLetter x w < letterCount v
   known = letter-known (letterCount v) x (images r .lexicon) w low high
@@ -179,7 +181,8 @@ pub level-down : (d : ℕ) → downOf d ≡ lift + d
 unfolding downOf
 level-down d = omega arith
 
-module _ {v x : List ℕ} {n : ℕ} {vertices : List (List ℕ)} {w : ℕ} {b list : List ℕ} (e : Ending v x n vertices w b list) where
+module _ {v x : List ℕ} {n : ℕ} {vertices : List (List ℕ)} {w : ℕ} {b list : List ℕ}
+    (e : Ending v x n vertices w b list) where
   end-at : EndPlace v x n vertices w b
   end-at = end-place (e .ready) (e .roomy) (e .low) (e .high)
 
@@ -196,14 +199,16 @@ module _ {v x : List ℕ} {n : ℕ} {vertices : List (List ℕ)} {w : ℕ} {b li
   own : pathsIn vertices w ≡ pathCount (graphOf x) w
   own = count-own (arcs-of (e .ready)) (e .high)
 
-  pub end-none : {d : ℕ} → LastArc (graphOf x) w d → d ≡ pathsIn vertices w → has (sink (graphOf x)) (successors x w) ≡ false
+  pub end-none : {d : ℕ} → LastArc (graphOf x) w d → d ≡ pathsIn vertices w → has (sink (graphOf x)) (successors x w)
+      ≡ false
   end-none {d} a q = go (has (sink (graphOf x)) (successors x w)) refl
     where
       go : (t : Bool) → has (sink (graphOf x)) (successors x w) ≡ t → has (sink (graphOf x)) (successors x w) ≡ false
       go false p = p
       go true p = absurd (omega (arith, a .there p, own, arc-count graph-ok under (has-mem (successors x w) p), pathCount-sink graph-ok))
 
-  pub end-there : {d : ℕ} → LastArc (graphOf x) w d → ¬ (d ≡ pathsIn vertices w) → has (sink (graphOf x)) (successors x w) ≡ true
+  pub end-there : {d : ℕ} → LastArc (graphOf x) w d → ¬ (d ≡ pathsIn vertices w)
+      → has (sink (graphOf x)) (successors x w) ≡ true
   end-there {d} a q = go (has (sink (graphOf x)) (successors x w)) refl
     where
       go : (t : Bool) → has (sink (graphOf x)) (successors x w) ≡ t → has (sink (graphOf x)) (successors x w) ≡ true
@@ -251,7 +256,8 @@ module _ {v x : List ℕ} {n : ℕ} {vertices : List (List ℕ)} {w : ℕ} {b li
         (omega (arith, length-slots n (firstIn vertices w + n * lastAt v x w) b))
         (take-slots n (firstIn vertices w + n * lastAt v x w) b ∙ last-slots) (e .holds) (e .storable))
 
-    pub end-offered : {list′ : List ℕ} → slots n 0 list′ ≡ offered lift (lift + d) (slots n (firstIn vertices w + n * lastAt v x w) b) (slots n 0 list)
+    pub end-offered : {list′ : List ℕ} → slots n 0 list′ ≡ offered lift (lift + d)
+        (slots n (firstIn vertices w + n * lastAt v x w) b) (slots n 0 list)
         → Ended e list′
     end-offered o =
         let f : offered (upOf (pos 0)) (downOf d) (held n (bestTokens n last-tokens)) (held n (bestTokens n (e .s)))

@@ -54,11 +54,13 @@ pub record Filling (v : List ℕ) (loop step : ℕ → ℕ → ℕ) (l s : ℕ) 
   pub loop-at : (r : ℕ) → r < s → getD row r 0 ≡ loop l r
   pub step-at : (r : ℕ) → suc r < s → getD row (4 + suc r) 0 ≡ step l r
 
-pub fill-start : {v : List ℕ} {loop step : ℕ → ℕ → ℕ} {l : ℕ} {row : List ℕ} → 8 ≤ length row → Filling v loop step l 0 row
+pub fill-start : {v : List ℕ} {loop step : ℕ → ℕ → ℕ} {l : ℕ} {row : List ℕ} → 8 ≤ length row
+    → Filling v loop step l 0 row
 fill-start e = record { long = e; loop-at = λ r h. absurd (omega arith); step-at = λ r h. absurd (omega arith) }
 
 -- the next state's loop, and the step into it where it isn't the first
-pub fill-next : {v : List ℕ} {loop step : ℕ → ℕ → ℕ} {l s a b : ℕ} {row row′ : List ℕ} → s < 4 → Filling v loop step l s row
+pub fill-next : {v : List ℕ} {loop step : ℕ → ℕ → ℕ} {l s a b : ℕ} {row row′ : List ℕ} → s < 4
+    → Filling v loop step l s row
     → StatePut row s a b row′ → a ≡ loop l s → ((p : ℕ) → s ≡ suc p → b ≡ step l p) → Filling v loop step l (s + 1) row′
 fill-next {v} {loop} {step} {l} {s} {a} {b} {row} {row′} h f e loop-is step-is = record {
   long = omega (arith, e .long, f .long);
@@ -72,10 +74,12 @@ fill-next {v} {loop} {step} {l} {s} {a} {b} {row} {row′} h f e loop-is step-is
 
     step-at : (r : ℕ) → suc r < s + 1 → Dec (suc r ≡ s) → getD row′ (4 + suc r) 0 ≡ step l r
     step-at r k (yes d) = rw d (e .step (omega arith) ∙ step-is r (sym d))
-    step-at r k (no d) = e .others (4 + suc r) (λ q. omega arith) (λ q. d (omega arith)) ∙ f .step-at r (omega (arith, d))
+    step-at r k (no d) = e .others (4 + suc r) (λ q. omega arith) (λ q. d (omega arith))
+        ∙ f .step-at r (omega (arith, d))
 
 -- after its states the letter is done
-pub fill-done : {v : List ℕ} {loop step : ℕ → ℕ → ℕ} {l s : ℕ} {row : List ℕ} → states v l ≤ s → Filling v loop step l s row
+pub fill-done : {v : List ℕ} {loop step : ℕ → ℕ → ℕ} {l s : ℕ} {row : List ℕ} → states v l ≤ s
+    → Filling v loop step l s row
     → LetterEntries v loop step l row
 fill-done h f = record { loop-at = λ r k. f .loop-at r (omega arith); step-at = λ r k. f .step-at r (omega arith) }
 
@@ -98,7 +102,8 @@ module _ {row : List ℕ} {s : ℕ} (h : s < 4) (e : 8 ≤ length row) where
   }
 
 -- the scores of the next state
-pub scores-next : {v : List ℕ} {l first s : ℕ} {pairs : List (List ℤ)} {row row′ : List ℕ} → AtLetter v l first → s < states v l
+pub scores-next : {v : List ℕ} {l first s : ℕ} {pairs : List (List ℤ)} {row row′ : List ℕ} → AtLetter v l first
+    → s < states v l
     → pairs ≡ letterPairs v first (states v l) → Filling v (loopNumber v) (stepNumber v) l s row
     → StatePut row s (pairScore pairs s 0) (pairScore pairs (s - 1) 1) row′
     → Filling v (loopNumber v) (stepNumber v) l (s + 1) row′
@@ -116,7 +121,8 @@ pub record Tabling (v : List ℕ) (marks : List Bool) (used first letter : ℕ) 
   pub row : (i : ℕ) → i < used → LetterRow v (getD letters i [])
   pub all : (l : ℕ) → l < letter → getD marks l false ≡ true → HasRow letters used l
 
-pub tabling-start : {v : List ℕ} {marks : List Bool} {letters : List (List ℕ)} → length letters ≡ 64 → Tabling v marks 0 0 0 letters
+pub tabling-start : {v : List ℕ} {marks : List Bool} {letters : List (List ℕ)} → length letters
+    ≡ 64 → Tabling v marks 0 0 0 letters
 tabling-start {v} e = record {
   long = e;
   passed = letters-start v;
@@ -125,7 +131,8 @@ tabling-start {v} e = record {
   all = λ l h. absurd (omega arith);
 }
 
-module _ {v : List ℕ} {marks : List Bool} {used first letter : ℕ} {letters : List (List ℕ)} (a : AtLetter v letter first)
+module _ {v : List ℕ} {marks : List Bool} {used first letter : ℕ} {letters : List (List ℕ)}
+    (a : AtLetter v letter first)
     (f : Tabling v marks used first letter letters) where
   pub tabling-take : {row : List ℕ} → LetterRow v row → letterIn row ≡ letter
       → Tabling v marks (used + 1) (first + states v letter) (letter + 1) (set letters used row)
@@ -144,7 +151,8 @@ module _ {v : List ℕ} {marks : List Bool} {used first letter : ℕ} {letters :
       rows i k (yes q) = rw (q, here) r
       rows i k (no q) = rw (getD-set-other letters used i row [] q) (f .row i (omega (arith, q)))
 
-      all : (l : ℕ) → l < letter + 1 → getD marks l false ≡ true → Dec (l ≡ letter) → HasRow (set letters used row) (used + 1) l
+      all : (l : ℕ) → l < letter + 1 → getD marks l false ≡ true → Dec (l ≡ letter) → HasRow (set letters used row)
+          (used + 1) l
       all l k m (yes q) = record { at = used; inside = omega arith; same = ap letterIn here ∙ e ∙ sym q }
       all l k m (no q) =
           let h = f .all l (omega (arith, q)) m in
@@ -155,7 +163,8 @@ module _ {v : List ℕ} {marks : List Bool} {used first letter : ℕ} {letters :
             same = ap letterIn (getD-set-other letters used (h .at) row [] (λ z. omega arith)) ∙ h .same;
           }
 
-  pub tabling-skip : getD marks letter false ≡ false → Tabling v marks used (first + states v letter) (letter + 1) letters
+  pub tabling-skip : getD marks letter false ≡ false → Tabling v marks used (first + states v letter)
+      (letter + 1) letters
   tabling-skip e = record {
     long = f .long;
     passed = letters-next a (f .passed);
@@ -168,9 +177,11 @@ module _ {v : List ℕ} {marks : List Bool} {used first letter : ℕ} {letters :
       all l k m (yes q) = absurd (false≢true (sym e ∙ ap (λ j. getD marks j false) (sym q) ∙ m))
       all l k m (no q) = f .all l (omega (arith, q)) m
 
-pub tabling-done : {v x : List ℕ} {marks : List Bool} {used first letter : ℕ} {letters : List (List ℕ)} → letterCount v ≤ 64
+pub tabling-done : {v x : List ℕ} {marks : List Bool} {used first letter : ℕ} {letters : List (List ℕ)}
+    → letterCount v ≤ 64
     → ((u : ℕ) → 1 ≤ u → u ≤ nodeCount x → nodeLetter x u < letterCount v)
-    → letterCount v ≤ letter → LettersMarked x (nodeCount x) marks → Tabling v marks used first letter letters → NodeLetters v x used letters
+    → letterCount v ≤ letter → LettersMarked x (nodeCount x) marks → Tabling v marks used first letter letters
+        → NodeLetters v x used letters
 tabling-done few known h m f = record {
   table = record { few = omega (arith, f .few, f .passed .inside); row = f .row };
   all = λ u l k. f .all _ (omega (arith, known u l k)) (m .marked u l k);
@@ -179,7 +190,8 @@ tabling-done few known h m f = record {
 pub gained-start : {v : List ℕ} {k : ℕ} {scores gains : List (List ℕ)} → GainsRoom gains → Gained v k scores 0 gains
 gained-start e = record { room = e; row = λ i h. absurd (omega arith) }
 
-pub gained-next : {v : List ℕ} {k i : ℕ} {scores gains : List (List ℕ)} {row : List ℕ} → letterAt scores i < 64 → Gained v k scores i gains
+pub gained-next : {v : List ℕ} {k i : ℕ} {scores gains : List (List ℕ)} {row : List ℕ} → letterAt scores i < 64
+    → Gained v k scores i gains
     → GainRow v k (letterAt scores i) row → Gained v k scores (i + 1) (set gains (letterAt scores i) row)
 gained-next {v} {k} {i} {scores} {gains} {row} h d p = record {
   room = record {
@@ -192,7 +204,8 @@ gained-next {v} {k} {i} {scores} {gains} {row} h d p = record {
     at : (j : ℕ) → j < i + 1 → Dec (letterAt scores j ≡ letterAt scores i)
         → GainRow v k (letterAt scores j) (getD (set gains (letterAt scores i) row) (letterAt scores j) [])
     at j m (yes e) = rw (e, getD-set-same gains (letterAt scores i) row [] (omega (arith, d .room .long))) p
-    at j m (no e) = rw (getD-set-other gains (letterAt scores i) (letterAt scores j) row [] e) (d .row j (before (ℕ-discrete j i)))
+    at j m (no e) = rw (getD-set-other gains (letterAt scores i) (letterAt scores j) row [] e)
+        (d .row j (before (ℕ-discrete j i)))
       where
         before : Dec (j ≡ i) → j < i
         before (yes q) = absurd (e (ap (λ m. letterAt scores m) q))
@@ -201,7 +214,8 @@ gained-next {v} {k} {i} {scores} {gains} {row} h d p = record {
 pub gains-room : {v : List ℕ} {k n : ℕ} {scores gains : List (List ℕ)} → Gained v k scores n gains → GainsRoom gains
 gains-room d = d .room
 
-pub gained-done : {v : List ℕ} {k n i : ℕ} {scores gains : List (List ℕ)} → n ≤ i → Gained v k scores i gains → Gained v k scores n gains
+pub gained-done : {v : List ℕ} {k n i : ℕ} {scores gains : List (List ℕ)} → n ≤ i → Gained v k scores i gains
+    → Gained v k scores n gains
 gained-done h d = record { room = d .room; row = λ j k. d .row j (omega arith) }
 
 pub letter-scored : {v row : List ℕ} {l first : ℕ} → AtLetter v l first → getD row 8 0 ≡ l → getD row 9 0 ≡ first
@@ -212,7 +226,8 @@ letter-scored {v} {row} {l} a e f d = record {
   scores = rw e d;
 }
 
-pub row-letter : {v row : List ℕ} → voiceVerdict v ≡ wellFormed → LetterRow v row → AtLetter v (getD row 8 0) (getD row 9 0)
+pub row-letter : {v row : List ℕ} → voiceVerdict v ≡ wellFormed → LetterRow v row
+    → AtLetter v (getD row 8 0) (getD row 9 0)
 row-letter w r = record { well-formed = w; letter = r .letter; begins = r .first }
 
 -- ---- one letter at a frame
@@ -224,22 +239,28 @@ module _ {v : List ℕ} {l : ℕ} {scores : List ℕ} (e : LetterEntries v (loop
 
   pub step-near : {s p : ℕ} → s ≡ suc p → s < states v l → NearBias (getD scores (4 + s) 0)
   unfolding stepNumber stepScore
-  step-near {s} {p} q h = rw (q, e .step-at p (omega arith)) (number-near (stepScore v (firstState v l + p)) (i16-range v _))
+  step-near {s} {p} q h = rw (q, e .step-at p (omega arith))
+      (number-near (stepScore v (firstState v l + p)) (i16-range v _))
 
-  pub loop-gain : (k : ℕ) {s emitted : ℕ} → s < states v l → emitted ≡ numberOf (possible (emission v (firstState v l + s) k))
+  pub loop-gain : (k : ℕ) {s emitted : ℕ} → s < states v l
+      → emitted ≡ numberOf (possible (emission v (firstState v l + s) k))
       → numberSum (getD scores s 0) emitted ≡ loopGain v k l s
   unfolding loopNumber loopScore loopGain
   loop-gain k {s} h q = rw (e .loop-at s h, q)
-      (sum-both (loopScore v (firstState v l + s)) (emission v (firstState v l + s) k) (i16-range v _) (emission-range v _ k))
+      (sum-both (loopScore v (firstState v l + s)) (emission v (firstState v l + s) k) (i16-range v _)
+          (emission-range v _ k))
 
-  pub step-gain : (k : ℕ) {s emitted : ℕ} → suc s < states v l → emitted ≡ numberOf (possible (emission v (firstState v l + suc s) k))
+  pub step-gain : (k : ℕ) {s emitted : ℕ} → suc s < states v l
+      → emitted ≡ numberOf (possible (emission v (firstState v l + suc s) k))
       → numberSum (getD scores (4 + suc s) 0) emitted ≡ stepGain v k l s
   unfolding stepNumber stepScore stepGain
   step-gain k {s} h q = rw (e .step-at s h, q)
-      (sum-both (stepScore v (firstState v l + s)) (emission v (firstState v l + suc s) k) (i16-range v _) (emission-range v _ k))
+      (sum-both (stepScore v (firstState v l + s)) (emission v (firstState v l + suc s) k) (i16-range v _)
+          (emission-range v _ k))
 
   -- the gain of the first state's loop
-  pub first-gained : (k : ℕ) {first emitted b : ℕ} {row : List ℕ} → AtLetter v l first → emitted ≡ numberOf (possible (emission v (first + 0) k))
+  pub first-gained : (k : ℕ) {first emitted b : ℕ} {row : List ℕ} → AtLetter v l first
+      → emitted ≡ numberOf (possible (emission v (first + 0) k))
       → FirstPut (numberSum (getD scores 0 0) emitted) b row → Filling v (loopGain v k) (stepGain v k) l 1 row
   first-gained k {first} {emitted} {b} {row} a q d = record {
     long = omega (arith, d .long);
@@ -255,7 +276,8 @@ module _ {v : List ℕ} {l : ℕ} {scores : List ℕ} (e : LetterEntries v (loop
       at r h (no z) = absurd (z (omega arith))
 
   -- the gains of the next state
-  pub next-gained : (k : ℕ) {first s p emitted : ℕ} {row row′ : List ℕ} → AtLetter v l first → s ≡ suc p → s < states v l
+  pub next-gained : (k : ℕ) {first s p emitted : ℕ} {row row′ : List ℕ} → AtLetter v l first → s ≡ suc p
+      → s < states v l
       → emitted ≡ numberOf (possible (emission v (first + s) k)) → Filling v (loopGain v k) (stepGain v k) l s row
       → StatePut row s (numberSum (getD scores s 0) emitted) (numberSum (getD scores (4 + s) 0) emitted) row′
       → Filling v (loopGain v k) (stepGain v k) l (s + 1) row′
@@ -267,12 +289,14 @@ module _ {v : List ℕ} {l : ℕ} {scores : List ℕ} (e : LetterEntries v (loop
 -- ---- where an emission stands
 
 module _ {v : List ℕ} {k : ℕ} (h : KnownSymbol v k) where
-  pub emitted-is : (n : ℕ) {place emitted : ℕ} → place ≡ symbolsAt v + 1 + 2 * (n * symbolCount v + k) → emitted ≡ numberOf (possible (i16 v place))
+  pub emitted-is : (n : ℕ) {place emitted : ℕ} → place ≡ symbolsAt v + 1 + 2 * (n * symbolCount v + k)
+      → emitted ≡ numberOf (possible (i16 v place))
       → emitted ≡ numberOf (possible (emission v n k))
   unfolding emission
   emitted-is n e q = q ∙ rw (e, lt-ltb k (symbolCount v) (h .known))
 
-  pub emission-inside : {l first n place : ℕ} → AtLetter v l first → n < states v l → place ≡ symbolsAt v + 1 + 2 * ((first + n) * symbolCount v + k)
+  pub emission-inside : {l first n place : ℕ} → AtLetter v l first → n < states v l
+      → place ≡ symbolsAt v + 1 + 2 * ((first + n) * symbolCount v + k)
       → place + 2 ≤ length v
   emission-inside a m e = rw e (emission-there v (h .well-formed) (state-there a m) (h .known))
 
@@ -283,12 +307,14 @@ emission-next v k first p e =
     let a : (first + suc p) * symbolCount v ≡ (first + p) * symbolCount v + symbolCount v = rw add-suc (suc-mul (first + p) (symbolCount v)) in
     omega (arith, e, a)
 
-pub emission-near : (v : List ℕ) (place : ℕ) {emitted : ℕ} → emitted ≡ numberOf (possible (i16 v place)) → NearBias emitted
+pub emission-near : (v : List ℕ) (place : ℕ) {emitted : ℕ} → emitted ≡ numberOf (possible (i16 v place))
+    → NearBias emitted
 emission-near v place e = rw e (number-near (i16 v place) (i16-range v place))
 
 -- ---- the letters of nodes
 
-module _ {v x : List ℕ} {n : ℕ} {scores : List (List ℕ)} (t : NodeLetters v x n scores) {k : ℕ} {gains : List (List ℕ)} (g : Gained v k scores n gains) where
+module _ {v x : List ℕ} {n : ℕ} {scores : List (List ℕ)} (t : NodeLetters v x n scores) {k : ℕ} {gains : List (List ℕ)}
+    (g : Gained v k scores n gains) where
   node-row : (u : ℕ) → 1 ≤ u → u ≤ nodeCount x → GainRow v k (nodeLetter x u) (getD gains (nodeLetter x u) [])
   node-row u l h = let a = t .all u l h in rw (a .same) at (g .row (a .at) (a .inside))
 

@@ -46,7 +46,8 @@ module _ (y : ℤ) (h : mag y < 32768) where
     where
       go : (b : Bool) → NearBias (numberOf (cond b none (some y)))
       go true = record { low = λ z. omega arith; high = omega arith }
-      go false = record { low = λ z. omega (arith, stored-is, size y, mag-size y h); high = omega (arith, stored-is, size y, mag-size y h) }
+      go false = record { low = λ z. omega (arith, stored-is, size y, mag-size y h); high =
+          omega (arith, stored-is, size y, mag-size y h) }
 
   -- a possible one has a number above 0
   number-some : 0 < raised bias y
@@ -82,7 +83,8 @@ unfolding possible plus numberOf
 sum-both y z h k = go (eqZ y impossible) (eqZ z impossible)
   where
     go : (b c : Bool)
-        → numberSum (numberOf (cond b none (some y))) (numberOf (cond c none (some z))) ≡ numberOf (plus (cond b none (some y)) (cond c none (some z)))
+        → numberSum (numberOf (cond b none (some y))) (numberOf (cond c none (some z)))
+            ≡ numberOf (plus (cond b none (some y)) (cond c none (some z)))
     go true c = sum-first (numberOf (cond c none (some z)))
     go false true = sum-second (raised bias y)
     go false false =

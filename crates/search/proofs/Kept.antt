@@ -34,7 +34,8 @@ module _ (n : ℕ) (a : ℤ) (d : ℕ) (l : List Hit) (m : Moves a d (best byCod
       ∙ ap (λ k. held n (best byCode n (s ++ k))) (sym (best-shift n a d l))
       ∙ ap (held n) (best-right hits-strict n s (map (shift a d) l))
 
-  pub offer-ready : {k : ℕ} {from b : List ℕ} {s : List Hit} → PlaceRoom n k b → n ≤ length from → take n from ≡ held n (best byCode n l)
+  pub offer-ready : {k : ℕ} {from b : List ℕ} {s : List Hit} → PlaceRoom n k b → n ≤ length from → take n from
+      ≡ held n (best byCode n l)
       → slots n k b ≡ held n (best byCode n s) → AllStorable s → Offer n k (upOf a) (downOf d) from b
   offer-ready {s} room long e f t = record {
     room = room;

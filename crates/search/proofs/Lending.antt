@@ -58,8 +58,10 @@ part-slots b k n size e = slots-ext n 0 k (take size (drop (8 * k) b)) b (λ i l
         let p : 8 * k + (8 * (0 + i) + m) ≡ 8 * (k + i) + m = omega arith in
         getD-take size (drop (8 * k) b) (8 * (0 + i) + m) 0 (omega arith) ∙ getD-drop (8 * k) b (8 * (0 + i) + m) 0 ∙ rw p
 
-pub part-room : {n k : ℕ} {b : List ℕ} → PlaceRoom n k b → (size : ℕ) → size ≡ 8 * n → PlaceRoom n 0 (take size (drop (8 * k) b))
-part-room r size e = record { one = r .one; few = r .few; room = simp (length-take, length-drop) (omega (arith, r .room)) }
+pub part-room : {n k : ℕ} {b : List ℕ} → PlaceRoom n k b → (size : ℕ) → size ≡ 8 * n
+    → PlaceRoom n 0 (take size (drop (8 * k) b))
+part-room r size e = record { one = r .one; few = r .few; room = simp (length-take, length-drop)
+    (omega (arith, r .room)) }
 
 -- the bytes with those of ys instead of as many from `at` on
 module _ (b ys : List ℕ) (at size : ℕ) (fits : at + size ≤ length b) (long : length ys ≡ size) where

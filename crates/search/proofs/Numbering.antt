@@ -117,7 +117,8 @@ module _ (t : List (List ℕ)) (w slot letter : ℕ) (h : w < length t) where
   pub paths-kept : (u : ℕ) → pathsIn (set t w (rowWith t w slot letter)) u ≡ pathsIn t u
   paths-kept u = elim (ℕ-discrete u w) [ yes e ↦ rw (set-row e, e) | no d ↦ ap (λ r. getD r 1 0) (kept-row d) ]
 
-pub slots-next : {v x : List ℕ} {n node slot : ℕ} {t t′ : List (List ℕ)} → Images v x → n ≤ 8 → SlotsFound v x n node slot t t′ → node ≤ nodeCount x
+pub slots-next : {v x : List ℕ} {n node slot : ℕ} {t t′ : List (List ℕ)} → Images v x → n ≤ 8
+    → SlotsFound v x n node slot t t′ → node ≤ nodeCount x
     → (n * getD v (2 + 2 * getD x (1 + node) 0) 0 ≤ 32)
     × SlotsFound v x n (node + 1) (slot + n * getD v (2 + 2 * getD x (1 + node) 0) 0) t
     (set t′ node (arcsIn t′ node ∷ pathsIn t′ node ∷ slot ∷ getD x (1 + node) 0 ∷ []))
@@ -161,7 +162,8 @@ slots-next {v} {x} {n} {node} {slot} {t} {t′} i e p h = (
     next (suc m) l q = rw (q, place-next v (graphOf x) m) (sym (mul-add n _ _))
 
 -- the sink's row comes last
-pub slots-done : {v x : List ℕ} {n node slot : ℕ} {t t′ : List (List ℕ)} → SlotsFound v x n node slot t t′ → nodeCount x < node → node < 402
+pub slots-done : {v x : List ℕ} {n node slot : ℕ} {t t′ : List (List ℕ)} → SlotsFound v x n node slot t t′
+    → nodeCount x < node → node < 402
     → SlotsPut v x n t (set t′ node (arcsIn t′ node ∷ pathsIn t′ node ∷ slot ∷ noLetter ∷ [])) slot
 unfolding sinkOf sink
 slots-done {v} {x} {n} {node} {slot} {t′ = t′} p h k =

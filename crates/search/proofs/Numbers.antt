@@ -36,7 +36,8 @@ token-some h s = omega (arith, biased-is h s, size (h .score), s .score)
 -- ---- the order
 
 module _ (a b : Hit) (p : Storable a) (q : Storable b) where
-  scores : (raised bias (a .score) + down (a .score) ≡ bias + up (a .score)) × (raised bias (b .score) + down (b .score) ≡ bias + up (b .score))
+  scores : (raised bias (a .score) + down (a .score) ≡ bias + up (a .score))
+      × (raised bias (b .score) + down (b .score) ≡ bias + up (b .score))
   scores = (biased-is a p, biased-is b q)
 
   to-number : a ≻ b → tokenOf b < tokenOf a

@@ -107,7 +107,8 @@ module _ {x : List ℕ} {n : ℕ} {vertices gains : List (List ℕ)} {link : ℕ
   abbrev entered : ℕ
   entered = getD (getD gains (vertexLetter vertices u) []) 4 0
 
-  entered-is : u ≤ nodeCount x → entered ≡ numberOf (possible (emission (h .v) (firstState (h .v) (nodeLetter x u) + 0) (h .k)))
+  entered-is : u ≤ nodeCount x → entered
+      ≡ numberOf (possible (emission (h .v) (firstState (h .v) (nodeLetter x u) + 0) (h .k)))
   unfolding nodeLetter entryNumber
   entered-is k =
       let one : 1 ≤ u = omega (arith, rises .0) in
@@ -120,7 +121,8 @@ module _ {x : List ℕ} {n : ℕ} {vertices gains : List (List ℕ)} {link : ℕ
 
   at-sink : ¬ (u < suc (nodeCount x)) → vertexLetter vertices u ≡ 64
   unfolding sinkOf
-  at-sink d = let q : u ≡ suc (nodeCount x) = omega (arith, arc-bounded, d) in ap (vertexLetter vertices) q ∙ h .ready .sink
+  at-sink d = let q : u ≡ suc (nodeCount x) = omega (arith, arc-bounded, d) in ap (vertexLetter vertices) q
+      ∙ h .ready .sink
 
   no-entry : ¬ (u < suc (nodeCount x)) → entered ≡ 0
   no-entry d = ap (λ l. getD (getD gains l []) 4 0) (at-sink d) ∙ h .entry-gains .room .nothing
@@ -166,7 +168,8 @@ module _ {x : List ℕ} {n : ℕ} {vertices gains : List (List ℕ)} {link : ℕ
     slot-is = rw add-zero (h .ready .first one k)
 
     -- the gain of a possible link and emission
-    pub arc-gain : ¬ (link ≡ 0) → ¬ (entered ≡ 0) → (link + entered - bias ≡ numberSum link entered) × ¬ (link + entered - bias ≡ 0)
+    pub arc-gain : ¬ (link ≡ 0) → ¬ (entered ≡ 0) → (link + entered - bias ≡ numberSum link entered)
+        × ¬ (link + entered - bias ≡ 0)
     arc-gain y z =
         let a = pos-of-ne-zero y in
         let b = pos-of-ne-zero z in
@@ -175,9 +178,11 @@ module _ {x : List ℕ} {n : ℕ} {vertices gains : List (List ℕ)} {link : ℕ
         (sym (sum-some link entered a b), λ q. omega arith)
 
     pub arc-slot : firstIn vertices u ≤ 8000
-    arc-slot = rw slot-is (slot-small (h .v) x (h .ready .accepted) (h .roomy) (omega (arith, place-there (h .v) x place)))
+    arc-slot = rw slot-is (slot-small (h .v) x (h .ready .accepted) (h .roomy)
+        (omega (arith, place-there (h .v) x place)))
 
-    pub arc-offering : {gain : ℕ} → gain ≡ numberSum link entered → Offering n (firstIn vertices u) gain down (source root n from b) b
+    pub arc-offering : {gain : ℕ} → gain ≡ numberSum link entered → Offering n (firstIn vertices u) gain down
+        (source root n from b) b
     arc-offering q = record {
       score = plus (h .score) (symbolScore (h .v) g (h .k) u 0);
       d = increment g (w) u;
@@ -197,10 +202,12 @@ module _ {x : List ℕ} {n : ℕ} {vertices gains : List (List ℕ)} {link : ℕ
     pub arc-apart : root ≡ false → from + n ≤ firstIn vertices u
     arc-apart z = rw (h .ready .first one k) (h .apart z (rises .0) k)
 
-    pub arc-source : {l b′ : List ℕ} → Changed (firstIn vertices u) n l b b′ → source root n from b′ ≡ source root n from b
+    pub arc-source : {l b′ : List ℕ} → Changed (firstIn vertices u) n l b b′ → source root n from b′
+        ≡ source root n from b
     arc-source c = source-apart root n from arc-apart c
 
-    pub arc-done : {gain : ℕ} (q : gain ≡ numberSum link entered) {b′ : List ℕ} → Changed (firstIn vertices u) n (held n (joined (arc-offering q))) b b′ → Stored (h .v) g n (overOne t) b′
+    pub arc-done : {gain : ℕ} (q : gain ≡ numberSum link entered) {b′ : List ℕ}
+        → Changed (firstIn vertices u) n (held n (joined (arc-offering q))) b b′ → Stored (h .v) g n (overOne t) b′
     unfolding joined overOne arc-offering
     arc-done q c = stored-put place (h .stored) (rw slot-is at c) (best-best hits-strict n _)
 
@@ -226,7 +233,8 @@ module _ {x : List ℕ} {n : ℕ} {vertices gains : List (List ℕ)} {link : ℕ
     | no d ↦ arc-sink d
   ]
 
-  pub arc-above : {z s : ℕ} {y : Hit} → Place (h .v) g z s → w < z → List·Memᴰ y (overOne t z s) → Bound g (h .M + frameLimit) z y
+  pub arc-above : {z s : ℕ} {y : Hit} → Place (h .v) g z s → w < z → List·Memᴰ y (overOne t z s)
+      → Bound g (h .M + frameLimit) z y
   unfolding overOne sink
   arc-above {z} {s} {y} p l i = go (put-at (h .Q) u 0 _ z s)
     where
@@ -244,7 +252,8 @@ module _ {x : List ℕ} {n : ℕ} {vertices gains : List (List ℕ)} {link : ℕ
 
 -- ---- an arc of the root
 
-module _ {x : List ℕ} {n : ℕ} {vertices gains : List (List ℕ)} {u down : ℕ} {b : List ℕ} (t : Arc x n vertices gains bias true 0 u down b) where
+module _ {x : List ℕ} {n : ℕ} {vertices gains : List (List ℕ)} {u down : ℕ} {b : List ℕ}
+    (t : Arc x n vertices gains bias true 0 u down b) where
   abbrev p : PassingOn x n vertices gains bias (t .w) true 0 b
   p = t .passing-on
 
@@ -289,7 +298,8 @@ module _ {x : List ℕ} {n : ℕ} {vertices gains : List (List ℕ)} {link w : �
     pub sums : CountsPassed x w at stop total
     pub down-is : down ≡ downOf total
     pub stored : Stored (t .v) (graphOf x) n Q b
-    pub above : {u s : ℕ} {y : Hit} → Place (t .v) (graphOf x) u s → w < u → List·Memᴰ y (Q u s) → Bound (graphOf x) (t .M + frameLimit) u y
+    pub above : {u s : ℕ} {y : Hit} → Place (t .v) (graphOf x) u s → w < u → List·Memᴰ y (Q u s)
+        → Bound (graphOf x) (t .M + frameLimit) u y
     pub long : length b ≡ length b₀
     pub source-kept : source root n from b ≡ source root n from b₀
     pub passed : passOn (t .v) (graphOf x) n (t .k) (λ u. t .score) w (t .l) (sums .later) Q ≡ passedOn t
@@ -318,7 +328,8 @@ module _ {x : List ℕ} {n : ℕ} {vertices gains : List (List ℕ)} {link w : �
   pub list-of : ListThere x (arcsIn vertices w)
   list-of = list-there formed (t .vertex) (t .ready .arcs (t .vertex))
 
-  pub passing-start : PassingLeft (arcsIn vertices w + 2) (arcsIn vertices w + 2 + 2 * u16 x (arcsIn vertices w)) lift b₀
+  pub passing-start : PassingLeft (arcsIn vertices w + 2) (arcsIn vertices w + 2 + 2 * u16 x (arcsIn vertices w)) lift
+      b₀
   unfolding downOf passedOn counts-start
   passing-start = record {
     Q = t .Q;
@@ -396,10 +407,12 @@ module _ {x : List ℕ} {n : ℕ} {vertices gains : List (List ℕ)} {link w : �
       unfolding downOf wordCount
       root-few d z q =
           let e : pathCount (graphOf x) w ≡ pathCount (graphOf x) 0 = ap (pathCount (graphOf x)) (t .root-is z) in
-          omega (arith, e, L .down-is, q, count-is, counts-below formed (t .vertex) (L .sums) next, words-few (t .v) x (t .ready .accepted))
+          omega (arith, e, L .down-is, q, count-is, counts-below formed (t .vertex) (L .sums) next, words-few (t .v) x
+              (t .ready .accepted))
 
       pub passing-next : {b′ : List ℕ}
-          → ((a : Arc x n vertices gains link root from u down b) → Stored (a .passing-on .v) (graphOf x) n (overOne a) b′)
+          → ((a : Arc x n vertices gains link root from u down b) → Stored (a .passing-on .v) (graphOf x) n
+              (overOne a) b′)
           → source root n from b′ ≡ source root n from b → length b′ ≡ length b
           → PassingLeft (at + 2) stop (down + pathsIn vertices u) b′
       unfolding passOn overOne downOf left-arc so-far counts-next
@@ -433,7 +446,8 @@ module _ {x : List ℕ} {n : ℕ} {vertices gains : List (List ℕ)} {link w : �
       e : t .score ≡ none
       e = t .score-is ∙ number-none (t .moved) (t .small) (sym (t .link-is) ∙ z)
 
-      nothing : {u s : ℕ} → Place (t .v) (graphOf x) u s → passOn (t .v) (graphOf x) n (t .k) (λ u. t .score) w (t .l) (successors x w) (t .Q) u s ≡ t .Q u s
+      nothing : {u s : ℕ} → Place (t .v) (graphOf x) u s → passOn (t .v) (graphOf x) n (t .k) (λ u. t .score) w (t .l)
+          (successors x w) (t .Q) u s ≡ t .Q u s
       nothing p = rw e (pass-closed n (t .k) w (t .l) (successors x w) (t .Q) (λ u s q. t .stored .kept q) p)
 
   no-tokens : (m : ℕ) (l : List Hit) → 1 ≤ m → source root n from b₀ ≡ held m l → ((y : Hit) → List·Memᴰ y l → Bound (graphOf x) (t .M) w y)

@@ -130,7 +130,8 @@ module _ {n s : ℕ} {row b : List ℕ} (t : Renewing n (suc s) row b) where
   }
 
   -- the place as it is lent
-  pub lent-staying : (b′ : List ℕ) → slots n 0 b′ ≡ slots n (n * s) b → 8 * n ≤ length b′ → Staying n 0 (getD row s 0) b′
+  pub lent-staying : (b′ : List ℕ) → slots n 0 b′ ≡ slots n (n * s) b → 8 * n ≤ length b′
+      → Staying n 0 (getD row s 0) b′
   unfolding staying
   lent-staying b′ e l = record {
     score = staying .score;
@@ -142,7 +143,8 @@ module _ {n s : ℕ} {row b : List ℕ} (t : Renewing n (suc s) row b) where
   }
 
   -- it comes back with what the state is renewed with by its loop
-  pub lent-stayed : (b′ : List ℕ) (e : slots n 0 b′ ≡ slots n (n * s) b) (l : 8 * n ≤ length b′) → stayed (lent-staying b′ e l) ≡ stayed staying
+  pub lent-stayed : (b′ : List ℕ) (e : slots n 0 b′ ≡ slots n (n * s) b) (l : 8 * n ≤ length b′)
+      → stayed (lent-staying b′ e l) ≡ stayed staying
   unfolding stayed lent-staying staying
   lent-stayed b′ e l = refl
 
@@ -224,7 +226,8 @@ module _ {n s : ℕ} {row b : List ℕ} (t : Renewing n (suc s) row b) where
         pub step-ready : Offer n (n * s) up lift (slots n (n * s - n) b′) b′
         step-ready = pass-to-ready step-offering z
 
-        pub step-done : {b″ : List ℕ} → Changed (n * s) n (offered up lift (slots n (n * s - n) b′) (slots n (n * s) b′)) b′ b″
+        pub step-done : {b″ : List ℕ} → Changed (n * s) n
+            (offered up lift (slots n (n * s - n) b′) (slots n (n * s) b′)) b′ b″
             → Own n (t .S) (renewedOne t (t .node)) b″
         unfolding joined step-offering stayed staying
         step-done {b″} d =

@@ -78,7 +78,8 @@ module _ {v x frames : List ℕ} {n : ℕ} {vertices : List (List ℕ)} {b : Lis
   sound-run = sound (letterCount v) x (accepted (r .ready .accepted) .lexicon)
 
   pub known-symbol : (i : ℕ) → i < length frames → KnownSymbol v (getD frames i 0)
-  known-symbol i l = record { well-formed = accepted (r .ready .accepted) .voice; known = symbol-known v frames (r .accepted) i l }
+  known-symbol i l = record { well-formed = accepted (r .ready .accepted) .voice; known = symbol-known v frames
+      (r .accepted) i l }
 
   -- ---- the first frame
 
@@ -137,7 +138,8 @@ pub record TurnsLeft (v x frames : List ℕ) (n t m : ℕ) (b₀ b : List ℕ) :
   pub low : m ≤ nodeCount x
   pub long : length b ≡ length b₀
 
-module _ {v x frames : List ℕ} {n : ℕ} {vertices : List (List ℕ)} {b₀ : List ℕ} (r : Run v x frames n vertices b₀) (t : ℕ) where
+module _ {v x frames : List ℕ} {n : ℕ} {vertices : List (List ℕ)} {b₀ : List ℕ} (r : Run v x frames n vertices b₀)
+    (t : ℕ) where
   pub turns-start : {m : ℕ} → m ≡ nodeCount x → StoredAt v x frames n t b₀ → TurnsLeft v x frames n t m b₀ b₀
   unfolding sink
   turns-start e s = rw e (record {
@@ -153,7 +155,9 @@ module _ {v x frames : List ℕ} {n : ℕ} {vertices : List (List ℕ)} {b₀ : 
   })
 
   module _ (h : suc t < length frames) {gains : List (List ℕ)} (moves : MoveGains v x (getD frames (suc t) 0) gains)
-      (links : EntryGains v x (getD frames (suc t) 0) gains) {link : ℕ} (is : link ≡ numberOf (possible (linkScore v 0))) {m : ℕ} {b : List ℕ} (k : 1 ≤ m) (d : TurnsLeft v x frames n t m b₀ b) where
+      (links : EntryGains v x (getD frames (suc t) 0) gains) {link : ℕ}
+          (is : link ≡ numberOf (possible (linkScore v 0))) {m : ℕ} {b : List ℕ} (k : 1 ≤ m)
+          (d : TurnsLeft v x frames n t m b₀ b) where
     unfoldable pub turn-next : Turn v x n vertices gains link m b
     turn-next = record {
       k = getD frames (suc t) 0;
@@ -200,7 +204,8 @@ module _ {v x frames : List ℕ} {n : ℕ} {vertices : List (List ℕ)} {b₀ : 
 
 -- ---- all frames
 
-pub run-same : {v x frames : List ℕ} {n : ℕ} {vertices : List (List ℕ)} {b b′ : List ℕ} → length b′ ≡ length b → Run v x frames n vertices b
+pub run-same : {v x frames : List ℕ} {n : ℕ} {vertices : List (List ℕ)} {b b′ : List ℕ} → length b′ ≡ length b
+    → Run v x frames n vertices b
     → Run v x frames n vertices b′
 run-same e r = record { ready = r .ready; roomy = roomy-same e (r .roomy); accepted = r .accepted }
 

@@ -42,7 +42,8 @@ u32-other l i j v h =
 
 -- two halves make a token
 pub put-halves : (b : List ℕ) (k token : ℕ) (m b′ : List ℕ) → token < 2 ^ 64 → 8 * k + 8 ≤ length b
-    → m ≡ sets b (8 * k) (u32Bytes (token % 4294967296)) → b′ ≡ sets m (8 * k + 4) (u32Bytes (token / 4294967296)) → SlotPut b k token b′
+    → m ≡ sets b (8 * k) (u32Bytes (token % 4294967296)) → b′ ≡ sets m (8 * k + 4) (u32Bytes (token / 4294967296))
+        → SlotPut b k token b′
 unfolding tokenAt
 put-halves b k token m b′ f h p q = record {
   here = rw (low, high) (omega arith);
@@ -116,6 +117,7 @@ slots-get (suc n) k zero b d h = rw add-zero
 slots-get (suc n) k (suc i) b d h = let e : k + suc i ≡ k + 1 + i = omega arith in rw e (slots-get n (k + 1) i b d (omega arith))
 
 -- slots that a token is not put into
-pub put-apart : {b : List ℕ} {k token : ℕ} {b′ : List ℕ} → SlotPut b k token b′ → (n j : ℕ) → (k < j) ⊎ (j + n ≤ k) → slots n j b′ ≡ slots n j b
+pub put-apart : {b : List ℕ} {k token : ℕ} {b′ : List ℕ} → SlotPut b k token b′ → (n j : ℕ) → (k < j) ⊎ (j + n ≤ k)
+    → slots n j b′ ≡ slots n j b
 put-apart {b} {k} {b′} p n j h =
     slots-ext n j j b′ b (λ i l. p .others (j + i) (⊎-elim (λ q e. omega arith) (λ q e. omega arith) h))

@@ -102,7 +102,8 @@ module _ {v : List ℕ} {g : Graph} where
   pass-nothing n k score w [] P K p = refl
   pass-nothing n k score w (x ∷ us) P K p =
       pass-nothing n k score w us _
-      (λ u s q. rw (put-nothing n P x 0 K (carried-nothing (plus (score x) (symbolScore v g k x 0)) (increment g w x)) q) (K u s q)) p
+      (λ u s q. rw (put-nothing n P x 0 K (carried-nothing (plus (score x) (symbolScore v g k x 0)) (increment g w x))
+          q) (K u s q)) p
       ∙ put-nothing n P x 0 K (carried-nothing (plus (score x) (symbolScore v g k x 0)) (increment g w x)) p
 
   -- nothing is offered over arcs that are impossible
@@ -111,7 +112,8 @@ module _ {v : List ℕ} {g : Graph} where
   unfolding passOn
   pass-closed n k w l [] P K p = refl
   pass-closed n k w l (x ∷ us) P K p =
-      pass-closed n k w l us _ (λ u s q. rw (put-nothing n P x 0 K (closed (symbolScore v g k x 0) (increment g w x) l) q) (K u s q)) p
+      pass-closed n k w l us _ (λ u s q.
+          rw (put-nothing n P x 0 K (closed (symbolScore v g k x 0) (increment g w x) l) q) (K u s q)) p
       ∙ put-nothing n P x 0 K (closed (symbolScore v g k x 0) (increment g w x) l) p
 
 -- ---- where places lie
@@ -127,16 +129,19 @@ module _ (v x : List ℕ) where
   unfolding sink
   place-there p = place-below v (graphOf x) (p .low) (omega (arith, p .high)) (p .state)
 
-  pub place-room : {n : ℕ} {b : List ℕ} {u s : ℕ} → StoreRoom v x n b → Place v (graphOf x) u s → PlaceRoom n (n * (firstPlace v (graphOf x) u + s)) b
+  pub place-room : {n : ℕ} {b : List ℕ} {u s : ℕ} → StoreRoom v x n b → Place v (graphOf x) u s
+      → PlaceRoom n (n * (firstPlace v (graphOf x) u + s)) b
   place-room {n} r p = record { one = r .one; few = r .few; room = omega (arith, r .room, block n (place-there p)) }
 
-  pub slot-small : {n : ℕ} {b : List ℕ} {a : ℕ} → Accepted v x → StoreRoom v x n b → a ≤ placeCount v (graphOf x) → n * a ≤ 8000
+  pub slot-small : {n : ℕ} {b : List ℕ} {a : ℕ} → Accepted v x → StoreRoom v x n b → a ≤ placeCount v (graphOf x)
+      → n * a ≤ 8000
   slot-small {n} {b} {a} i r h = mul-le-mul {n₂ = 8} {m₂ = 1000} (r .few) (omega (arith, places-few i))
 
 -- ---- bounds
 
 module _ {g : Graph} where
-  pub shift-bound : {M w u : ℕ} (d : ℕ) (a : ℤ) {h : Hit} → Bound g M w h → natAbs a ≤ frameLimit → d + pathCount g u ≤ pathCount g w
+  pub shift-bound : {M w u : ℕ} (d : ℕ) (a : ℤ) {h : Hit} → Bound g M w h → natAbs a ≤ frameLimit
+      → d + pathCount g u ≤ pathCount g w
       → Bound g (M + frameLimit) u (shift a d h)
   unfolding shift
   shift-bound d a {h} b s c = record {
@@ -156,8 +161,10 @@ module _ {g : Graph} where
   pub bound-storable : {M u : ℕ} {h : Hit} → wordCount g < 2 ^ 32 → M ≤ reach → Bound g M u h → Storable h
   bound-storable f m b = record { score = omega (arith, b .score); code = omega (arith, b .code) }
 
-  pub movers : (n M w u d : ℕ) (o : Option ℤ) (l : List Hit) → wordCount g < 2 ^ 32 → M + frameLimit ≤ reach → bestTokens n l ≡ l
-      → ((a : ℤ) → o ≡ some a → natAbs a ≤ frameLimit) → ((h : Hit) → List·Memᴰ h l → Bound g M w h) → d + pathCount g u ≤ pathCount g w → Movers n o d l
+  pub movers : (n M w u d : ℕ) (o : Option ℤ) (l : List Hit) → wordCount g < 2 ^ 32 → M + frameLimit ≤ reach
+      → bestTokens n l ≡ l
+      → ((a : ℤ) → o ≡ some a → natAbs a ≤ frameLimit) → ((h : Hit) → List·Memᴰ h l → Bound g M w h)
+          → d + pathCount g u ≤ pathCount g w → Movers n o d l
   movers n M w u d o l W m k s f c = record {
     best = k;
     before = λ h i. bound-storable W (omega arith) (f h i);

@@ -38,11 +38,13 @@ use Rattle.search.proofs.PassingOn.{lexicon-formed, known, letter-few, 
 -- ---- bounds of a renewed state
 
 module _ (v : List ℕ) (g : Graph) (P : Store) (k u M : ℕ) where
-  loop-small : (s : ℕ) (a : ℤ) → plus (possible (loopScore v (stateOf v g u s))) (symbolScore v g k u s) ≡ some a → natAbs a ≤ frameLimit
+  loop-small : (s : ℕ) (a : ℤ) → plus (possible (loopScore v (stateOf v g u s))) (symbolScore v g k u s) ≡ some a
+      → natAbs a ≤ frameLimit
   unfolding symbolScore loopScore
   loop-small s a e = move-small _ _ (i16-range v _) (emission-range v _ k) e
 
-  step-small : (s : ℕ) (a : ℤ) → plus (possible (stepScore v (stateOf v g u s))) (symbolScore v g k u (suc s)) ≡ some a → natAbs a ≤ frameLimit
+  step-small : (s : ℕ) (a : ℤ) → plus (possible (stepScore v (stateOf v g u s))) (symbolScore v g k u (suc s)) ≡ some a
+      → natAbs a ≤ frameLimit
   unfolding symbolScore stepScore
   step-small s a e = move-small _ _ (i16-range v _) (emission-range v _ k) e
 
@@ -200,7 +202,8 @@ module _ {v x : List ℕ} {n : ℕ} {vertices gains : List (List ℕ)} {link w :
     unfolding turned
     turned-own {s} l = node-own v (sound-of (lexicon-formed (t .ready))) n (t .k) w below (t .P) s l
 
-    own-bound : {s : ℕ} {h : Hit} → s < states v (g .letter w) → List·Memᴰ h (turned t w s) → Bound g (t .M + frameLimit) w h
+    own-bound : {s : ℕ} {h : Hit} → s < states v (g .letter w) → List·Memᴰ h (turned t w s)
+        → Bound g (t .M + frameLimit) w h
     own-bound {s} {h} l i = renewed-bound v g (t .P) (t .k) w (t .M) s
         (λ r y m j. t .within .old (place (omega (arith, count-is))) (omega arith) j)
         (best-from hits-strict n _ h (rw (turned-own l) at i))
@@ -209,7 +212,8 @@ module _ {v x : List ℕ} {n : ℕ} {vertices gains : List (List ℕ)} {link w :
     unfolding turned passNode passedOn passing-on entryScore linkScore
     turned-above {u} s l = renew-apart v g n (t .k) w _ _ {w = u} {r = s} (λ q. omega arith)
 
-    pub turn-done : {b″ : List ℕ} → ((r : Renewal n (firstIn vertices w) count (getD gains letter []) b′) → Stored (r .v) (graphOf (r .x)) n (renewal r) b″)
+    pub turn-done : {b″ : List ℕ} → ((r : Renewal n (firstIn vertices w) count (getD gains letter []) b′)
+        → Stored (r .v) (graphOf (r .x)) n (renewal r) b″)
         → length b″ ≡ length b′
         → TurnDone t b″
     unfolding passing-on renewing

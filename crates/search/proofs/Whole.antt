@@ -104,7 +104,8 @@ module _ {v x frames : List ℕ} {n : ℕ} {vertices : List (List ℕ)} {b : Lis
   decoded-so [] l = absurd (omega arith)
   decoded-so (k ∷ frames) l = let e : suc (length frames) - 1 ≡ length frames = omega arith in rw e
 
-  pub list-ready : {m : ℕ} {list : List ℕ} → EndsLeft v x frames n m list → PlaceRoom n 0 list × Falling (slots n 0 list)
+  pub list-ready : {m : ℕ} {list : List ℕ} → EndsLeft v x frames n m list → PlaceRoom n 0 list
+      × Falling (slots n 0 list)
   list-ready d = (
     record { one = r .roomy .one; few = r .roomy .few; room = omega (arith, d .long, r .roomy .few) },
     rw (d .holds) (best-falling n (d .s) (d .storable)),
@@ -118,7 +119,8 @@ module _ {v x frames : List ℕ} {n : ℕ} {vertices : List (List ℕ)} {b : Lis
         let none : m ≡ 0 = omega arith in
         let all : d .s ≡ arrived v (graphOf x) P =
         sym (append-nil (d .s)) ∙ ap (λ j. d .s ++ flatMap (ending v (graphOf x) P) (downFrom j)) (sym none) ∙ d .left in
-        ap (bestTokens n) all ∙ decoded-so frames (frame-count v frames (r .accepted) .0) ∙ decoded-hits v (sound-run r) frames n
+        ap (bestTokens n) all ∙ decoded-so frames (frame-count v frames (r .accepted) .0)
+            ∙ decoded-hits v (sound-run r) frames n
 
     pub ends-done : {best : List ℕ} → best ≡ slots n 0 list ++ replicate (8 - n) 0 → best ≡ held 8 (hits v (graphOf x) frames n)
     ends-done c =

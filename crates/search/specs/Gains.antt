@@ -1,5 +1,6 @@
--- Gains: what a move and the emission that follows it add to a token, as the number of a score; and the tables of a call
--- and of a frame that hold them for the letters in use, those that some node has. No public contract cites this. Assumes nothing.
+-- Gains: what a move and the emission that follows it add to a token, as the number of a score; and the tables of a
+-- call and of a frame that hold them for the letters in use, those that some node has. No public contract cites this.
+-- Assumes nothing.
 use Prim.Native.Nat.{ℕ, zero, suc, _+_, _-_, _≤_, _<_}
 use mathlib.Core.Path.{_≡_}
 use mathlib.Core.Bool.{Bool, true, false, cond}
@@ -55,10 +56,12 @@ stepNumber v l s = numberOf (possible (stepScore v (firstState v l + s)))
 
 -- the gain of the loop of a letter's state s, and of the step from state s into the next
 unfoldable pub loopGain : List ℕ → ℕ → ℕ → ℕ → ℕ
-loopGain v k l s = numberOf (plus (possible (loopScore v (firstState v l + s))) (possible (emission v (firstState v l + s) k)))
+loopGain v k l s = numberOf (plus (possible (loopScore v (firstState v l + s)))
+    (possible (emission v (firstState v l + s) k)))
 
 unfoldable pub stepGain : List ℕ → ℕ → ℕ → ℕ → ℕ
-stepGain v k l s = numberOf (plus (possible (stepScore v (firstState v l + s))) (possible (emission v (firstState v l + suc s) k)))
+stepGain v k l s = numberOf (plus (possible (stepScore v (firstState v l + s)))
+    (possible (emission v (firstState v l + suc s) k)))
 
 -- the number of the emission of a letter's first state, to which the score of the arc is added that enters it
 unfoldable pub entryNumber : List ℕ → ℕ → ℕ → ℕ
@@ -71,8 +74,8 @@ pub record LettersMarked (x : List ℕ) (m : ℕ) (marks : List Bool) : Type 0 w
   pub long : length marks ≡ 64
   pub marked : (u : ℕ) → 1 ≤ u → u ≤ m → getD marks (nodeLetter x u) false ≡ true
 
--- ---- tables: a row a letter; column s for the loop of state s, column 4 + s for the step into it, and in a frame's row
--- column 4 for the emission of the first
+-- ---- tables: a row a letter; column s for the loop of state s, column 4 + s for the step into it, and in a frame's
+-- row column 4 for the emission of the first
 
 -- the entries of one letter: of each state's loop, and of the step into each state after the first
 pub record LetterEntries (v : List ℕ) (loop step : ℕ → ℕ → ℕ) (l : ℕ) (row : List ℕ) : Type 0 where
@@ -130,15 +133,18 @@ MoveRow v k l row = LetterEntries v (loopGain v k) (stepGain v k) l row
 
 -- for the letters of nodes
 abbrev pub MoveGains : List ℕ → List ℕ → ℕ → List (List ℕ) → Type 0
-MoveGains v x k gains = (u : ℕ) → 1 ≤ u → u ≤ nodeCount x → MoveRow v k (nodeLetter x u) (getD gains (nodeLetter x u) [])
+MoveGains v x k gains = (u : ℕ) → 1 ≤ u → u ≤ nodeCount x
+    → MoveRow v k (nodeLetter x u) (getD gains (nodeLetter x u) [])
 
 pub record EntryGains (v x : List ℕ) (k : ℕ) (gains : List (List ℕ)) : Type 0 where
   pub room : GainsRoom gains
-  pub entry : (u : ℕ) → 1 ≤ u → u ≤ nodeCount x → getD (getD gains (nodeLetter x u) []) 4 0 ≡ entryNumber v k (nodeLetter x u)
+  pub entry : (u : ℕ) → 1 ≤ u → u ≤ nodeCount x → getD (getD gains (nodeLetter x u) []) 4 0
+      ≡ entryNumber v k (nodeLetter x u)
 
 -- ---- what calls ask
 
--- the loop of state s and the move into it are put into a row; the move is left out for the first state, or put there too
+-- the loop of state s and the move into it are put into a row; the move is left out for the first state, or put there
+-- too
 pub record StatePut (row : List ℕ) (s a b : ℕ) (row′ : List ℕ) : Type 0 where
   pub long : length row′ ≡ length row
   pub loop : getD row′ s 0 ≡ a

@@ -1,6 +1,6 @@
--- The numbers of the places: those of a node's states follow each other, after those of the nodes below it (document 01,
--- State paths and hits: each node's tokens fill one stretch of the work space). That no two places have the same number is
--- proved in proofs/Numbering.antt. And the columns of the table of vertices. Assumes nothing.
+-- The numbers of the places: those of a node's states follow each other, after those of the nodes below it (document
+-- 01, State paths and hits: each node's tokens fill one stretch of the work space). That no two places have the same
+-- number is proved in proofs/Numbering.antt. And the columns of the table of vertices. Assumes nothing.
 use Prim.Native.Nat.{ℕ, zero, suc, _*_, _≤_}
 use mathlib.Core.Path.{_≡_}
 use mathlib.Core.List.{List, [], map}

@@ -43,7 +43,8 @@ pub record CallNumbers (v x : List ℕ) (c : Numbers) (letters : List (List ℕ)
   pub letters-of : NodeLetters v x (c .used) letters
 
 -- after frame t: what the places hold, and the table of gains
-pub record FrameHeld (v x frames : List ℕ) (t : ℕ) (c : Numbers) (letters gains : List (List ℕ)) (b : List ℕ) : Type 0 where
+pub record FrameHeld (v x frames : List ℕ) (t : ℕ) (c : Numbers) (letters gains : List (List ℕ)) (b : List ℕ) : Type
+    0 where
   pub stored : StoredAt v x frames (c .n) t b
   pub gained : Gained v (getD frames t 0) letters (c .used) gains
 
@@ -83,6 +84,7 @@ pub record Ending (v x : List ℕ) (n : ℕ) (vertices : List (List ℕ)) (w : �
   pub long : length list ≡ 64
 
 -- the list after it
-pub record Ended {v x : List ℕ} {n : ℕ} {vertices : List (List ℕ)} {w : ℕ} {b list : List ℕ} (e : Ending v x n vertices w b list)
+pub record Ended {v x : List ℕ} {n : ℕ} {vertices : List (List ℕ)} {w : ℕ} {b list : List ℕ}
+    (e : Ending v x n vertices w b list)
     (list′ : List ℕ) : Type 0 where
   pub holds : slots n 0 list′ ≡ held n (bestTokens n (e .s ++ ending v (graphOf x) (e .P) w))

@@ -66,7 +66,8 @@ source true n k b = held n (hit (pos 0) 0 ∷ [])
 source false n k b = slots n k b
 
 -- vertex w, root or node, passes on the tokens l over arcs of one score, at a frame of symbol k
-pub record PassingOn (x : List ℕ) (n : ℕ) (vertices gains : List (List ℕ)) (link w : ℕ) (root : Bool) (from : ℕ) (b : List ℕ) : Type 0 where
+pub record PassingOn (x : List ℕ) (n : ℕ) (vertices gains : List (List ℕ)) (link w : ℕ) (root : Bool) (from : ℕ)
+    (b : List ℕ) : Type 0 where
   pub v : List ℕ
   pub k : ℕ
   pub M : ℕ
@@ -91,17 +92,21 @@ pub record PassingOn (x : List ℕ) (n : ℕ) (vertices gains : List (List ℕ))
   pub bound : {h : Hit} → List·Memᴰ h l → Bound (graphOf x) M w h
   pub fits : M + frameLimit ≤ reach
   pub stored : Stored v (graphOf x) n Q b
-  pub above : {u s : ℕ} {h : Hit} → Place v (graphOf x) u s → w < u → List·Memᴰ h (Q u s) → Bound (graphOf x) (M + frameLimit) u h
+  pub above : {u s : ℕ} {h : Hit} → Place v (graphOf x) u s → w < u → List·Memᴰ h (Q u s)
+      → Bound (graphOf x) (M + frameLimit) u h
 
 -- the store after it
-unfoldable pub passedOn : {x : List ℕ} {n : ℕ} {vertices gains : List (List ℕ)} {link w : ℕ} {root : Bool} {from : ℕ} {b : List ℕ}
+unfoldable pub passedOn : {x : List ℕ} {n : ℕ} {vertices gains : List (List ℕ)} {link w : ℕ} {root : Bool} {from : ℕ}
+    {b : List ℕ}
     → PassingOn x n vertices gains link w root from b → Store
 passedOn {x} {n} {w = w} t = passOn (t .v) (graphOf x) n (t .k) (λ u. t .score) w (t .l) (successors x w) (t .Q)
 
-pub record PassedOn {x : List ℕ} {n : ℕ} {vertices gains : List (List ℕ)} {link w : ℕ} {root : Bool} {from : ℕ} {b : List ℕ}
+pub record PassedOn {x : List ℕ} {n : ℕ} {vertices gains : List (List ℕ)} {link w : ℕ} {root : Bool} {from : ℕ}
+    {b : List ℕ}
     (t : PassingOn x n vertices gains link w root from b) (b′ : List ℕ) : Type 0 where
   pub stored : Stored (t .v) (graphOf x) n (passedOn t) b′
-  pub above : {u s : ℕ} {h : Hit} → Place (t .v) (graphOf x) u s → w < u → List·Memᴰ h (passedOn t u s) → Bound (graphOf x) (t .M + frameLimit) u h
+  pub above : {u s : ℕ} {h : Hit} → Place (t .v) (graphOf x) u s → w < u → List·Memᴰ h (passedOn t u s)
+      → Bound (graphOf x) (t .M + frameLimit) u h
   pub long : length b′ ≡ length b
 
 -- ---- a node's turn

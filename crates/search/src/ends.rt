@@ -1,5 +1,5 @@
-// After the last frame: the tokens of the last states from which an arc leads to the sink are candidates for the list of
-// hits.
+// After the last frame: the tokens of the last states from which an arc leads to the sink are candidates for the list
+// of hits.
 ghost use mathlib.Core.Path.{_≡_};
 ghost use Prim.Native.Nat.{_≤_};
 ghost use Rattle.lexicon.specs.Lexicon.{nodeCount};
@@ -16,8 +16,8 @@ use checking::PATHS;
 use decoder::token::LIFT;
 use endian::u16_at;
 
-// The increment of the arc to the sink: the path counts of the successors stored before it. Without such an arc it is the
-// sum of all, the node's own path count, which no increment reaches.
+// The increment of the arc to the sink: the path counts of the successors stored before it. Without such an arc it is
+// the sum of all, the node's own path count, which no increment reaches.
 fn last_increment(lexicon: &[u8], vertices: &[[u32; 4]; 402], node: usize) -> u32
     requires { ⌜ Arcs (now lexicon) (now vertices) × (node ≤ nodeCount (now lexicon)) ⌝ }
     ensures { λ r. ⌜ LastArc (graphOf (now (lexicon .entry))) node r ⌝ }
@@ -49,7 +49,8 @@ fn offer_end(
     list: &mut [u8],
 )
     requires { ⌜ Ending (now voice) (now lexicon) n (now vertices) node (now store) (now list) ⌝ }
-    ensures { λ _. ⌜ ((e : Ending (now (voice .entry)) (now (lexicon .entry)) n (now (vertices .entry)) node (now (store .entry)) (now (list .entry))) → Ended e (now (list .exit))) ⌝ }
+    ensures { λ _. ⌜ ((e : Ending (now (voice .entry)) (now (lexicon .entry)) n (now (vertices .entry)) node
+        (now (store .entry)) (now (list .entry))) → Ended e (now (list .exit))) ⌝ }
 {
     let increment = last_increment(lexicon, vertices, node);
     if increment == vertices[node][PATHS] {

@@ -1,5 +1,5 @@
-// Frame by frame: the root's token enters at the first, and at each later one every node takes its turn, from the last to
-// the first.
+// Frame by frame: the root's token enters at the first, and at each later one every node takes its turn, from the last
+// to the first.
 ghost use mathlib.Core.Path.{_≡_};
 ghost use Prim.Native.Nat.{_-_, _<_};
 ghost use lib.ListN.{length, getD};

@@ -1,7 +1,7 @@
-// The gains of one frame's moves. A gain is what a move and the emission after it add to a token: the score of both, as a
-// `Score`'s number, impossible where one of them is. The table of a frame has a row for each letter that some node has:
-// the gain of each state's loop, and of the step into each state after the first. For the first state, which is entered
-// over an arc, it has the emission alone.
+// The gains of one frame's moves. A gain is what a move and the emission after it add to a token: the score of both, as
+// a `Score`'s number, impossible where one of them is. The table of a frame has a row for each letter that some node
+// has: the gain of each state's loop, and of the step into each state after the first. For the first state, which is
+// entered over an arc, it has the emission alone.
 ghost use mathlib.Core.Path.{_≡_};
 ghost use Prim.Native.Nat.{_+_, _≤_, _<_};
 ghost use lib.ListN.{length, getD};
@@ -55,7 +55,8 @@ fn first_gains(emission: Score, letter: &[u32; 10]) -> [u32; 8]
 fn state_gains(emission: Score, s: usize, letter: &[u32; 10], row: &mut [u32; 8])
     requires { ⌜ (s < 4) × NearBias (emission .0) × (8 ≤ length (now row)) ⌝ }
     requires { ⌜ NearBias (getD (now letter) s 0) × NearBias (getD (now letter) (4 + s) 0) ⌝ }
-    ensures { λ _. ⌜ StatePut (now (row .entry)) s (numberSum (getD (now (letter .entry)) s 0) (emission .0)) (numberSum (getD (now (letter .entry)) (4 + s) 0) (emission .0)) (now (row .exit)) ⌝ }
+    ensures { λ _. ⌜ StatePut (now (row .entry)) s (numberSum (getD (now (letter .entry)) s 0) (emission .0))
+        (numberSum (getD (now (letter .entry)) (4 + s) 0) (emission .0)) (now (row .exit)) ⌝ }
 {
     let stay = gain(Score(letter[LOOP + s]), emission);
     let step = gain(Score(letter[STEP + s]), emission);
@@ -63,7 +64,8 @@ fn state_gains(emission: Score, s: usize, letter: &[u32; 10], row: &mut [u32; 8]
     row[STEP + s] = step.0;
 }
 
-// The row of one letter at a frame of symbol k, whose emission in the next state stands one state's emissions further on.
+// The row of one letter at a frame of symbol k, whose emission in the next state stands one state's emissions further
+// on.
 fn letter_gains(voice: &[u8], at: usize, k: usize, letter: &[u32; 10]) -> [u32; 8]
     requires { ⌜ KnownSymbol (now voice) k × (at ≡ symbolsAt (now voice)) ⌝ }
     requires { ⌜ LetterRow (now voice) (now letter) ⌝ }

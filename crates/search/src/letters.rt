@@ -1,5 +1,5 @@
-// What is read once a call: a table of the letters that some node has, a row each, with the scores of the letter's moves
-// as `Score`s' numbers, its index, and the number of its first state.
+// What is read once a call: a table of the letters that some node has, a row each, with the scores of the letter's
+// moves as `Score`s' numbers, its index, and the number of its first state.
 ghost use mathlib.Core.Path.{_≡_};
 ghost use mathlib.Core.Bool.{true, cond};
 ghost use mathlib.Core.List.{[], _∷_};
@@ -45,7 +45,8 @@ pub(crate) fn score_at(voice: &[u8], at: usize) -> i16
 // The loop and step of a state, which begin at an offset; both impossible where there is no such state.
 fn pair_at(voice: &[u8], at: usize, there: bool) -> [i16; 2]
     requires { ⌜ (there ≡ true → at + 4 ≤ length (now voice)) ⌝ }
-    ensures { λ r. ⌜ r ≡ cond there (i16 (now (voice .entry)) at ∷ i16 (now (voice .entry)) (at + 2) ∷ []) (impossible ∷ impossible ∷ []) ⌝ }
+    ensures { λ r. ⌜ r ≡ cond there (i16 (now (voice .entry)) at ∷ i16 (now (voice .entry)) (at + 2) ∷ [])
+        (impossible ∷ impossible ∷ []) ⌝ }
 {
     if there {
         return [score_at(voice, at), score_at(voice, at + 2)];
@@ -86,7 +87,8 @@ pub(crate) fn link_score(voice: &[u8]) -> i16
 
 // Marks each letter that some node has.
 fn mark_letters(lexicon: &[u8], marks: &mut [bool; 64])
-    requires { ⌜ WellFormed (now lexicon) × ((u : ℕ) → 1 ≤ u → u ≤ nodeCount (now lexicon) → nodeLetter (now lexicon) u < 64) ⌝ }
+    requires { ⌜ WellFormed (now lexicon)
+        × ((u : ℕ) → 1 ≤ u → u ≤ nodeCount (now lexicon) → nodeLetter (now lexicon) u < 64) ⌝ }
     requires { ⌜ LettersMarked (now lexicon) 0 (now marks) ⌝ }
     ensures { λ _. ⌜ LettersMarked (now (lexicon .entry)) (nodeCount (now (lexicon .entry))) (now (marks .exit)) ⌝ }
 {
@@ -103,7 +105,8 @@ fn mark_letters(lexicon: &[u8], marks: &mut [bool; 64])
 fn state_scores(pairs: [[i16; 2]; 4], s: usize, row: &mut [u32; 10])
     requires { ⌜ (s < 4) × (8 ≤ length (now row)) ⌝ }
     requires { ⌜ StoredPairs pairs ⌝ }
-    ensures { λ _. ⌜ StatePut (now (row .entry)) s (pairScore pairs s 0) (pairScore pairs (s - 1) 1) (now (row .exit)) ⌝ }
+    ensures { λ _. ⌜ StatePut (now (row .entry)) s (pairScore pairs s 0) (pairScore pairs (s - 1) 1)
+        (now (row .exit)) ⌝ }
 {
     let stay = move_score(pairs, s, 0);
     row[LOOP + s] = stay.0;
@@ -131,7 +134,8 @@ fn letter_row(voice: &[u8], letter: usize, first: u16) -> [u32; 10]
 
 // Fills the table with the letters in use, in rising order; answers how many.
 pub(crate) fn letter_table(voice: &[u8], lexicon: &[u8], letters: &mut [[u32; 10]; 64]) -> usize
-    requires { ⌜ (voiceVerdict (now voice) ≡ wellFormed) × (lexiconVerdict (letterCount (now voice)) (now lexicon) ≡ wellFormed) ⌝ }
+    requires { ⌜ (voiceVerdict (now voice) ≡ wellFormed) × (lexiconVerdict (letterCount (now voice)) (now lexicon)
+        ≡ wellFormed) ⌝ }
     requires { ⌜ length (now letters) ≡ 64 ⌝ }
     ensures { λ r. ⌜ NodeLetters (now (voice .entry)) (now (lexicon .entry)) r (now (letters .exit)) ⌝ }
 {

@@ -13,8 +13,8 @@ use endian::u16_at;
 // The letter of the sink, which has none: after the rows of 64 letters a frame's table of gains has one of no gain.
 pub(crate) const NO_LETTER: u32 = 64;
 
-// Puts the letter and the first slot of each node into the table of vertices, where each place has n: n times the number
-// of states of all nodes below it. Answers the number of all slots.
+// Puts the letter and the first slot of each node into the table of vertices, where each place has n: n times the
+// number of states of all nodes below it. Answers the number of all slots.
 pub(crate) fn find_slots(
     voice: &[u8],
     lexicon: &[u8],
@@ -23,7 +23,8 @@ pub(crate) fn find_slots(
 ) -> usize
     requires { ⌜ (voiceVerdict (now voice) ≡ wellFormed) × (lexiconVerdict (letterCount (now voice)) (now lexicon) ≡ wellFormed) ⌝ }
     requires { ⌜ (n ≤ 8) × (length (now vertices) ≡ 402) ⌝ }
-    ensures { λ r. ⌜ SlotsPut (now (voice .entry)) (now (lexicon .entry)) n (now (vertices .entry)) (now (vertices .exit)) r ⌝ }
+    ensures { λ r. ⌜ SlotsPut (now (voice .entry)) (now (lexicon .entry)) n (now (vertices .entry))
+        (now (vertices .exit)) r ⌝ }
 {
     let nodes = u16_at(lexicon, 0) as usize;
     let mut slot = 0;

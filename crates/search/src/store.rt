@@ -33,11 +33,12 @@ fn position(part: &[u8], n: usize, token: Token) -> usize
     at
 }
 
-// Puts a token into a slot and carries those from there on down by one, up to one of its code or an empty slot; the last
-// one goes.
+// Puts a token into a slot and carries those from there on down by one, up to one of its code or an empty slot; the
+// last one goes.
 fn push_down(part: &mut [u8], n: usize, from: usize, token: Token)
     requires { ⌜ (from ≤ n) × (8 * n ≤ length (now part)) ⌝ }
-    ensures { λ _. ⌜ slots n 0 (now (part .exit)) ≡ slots from 0 (now (part .entry)) ++ push (token .0) (codePart (token .0)) (slots (n - from) from (now (part .entry))) ⌝ }
+    ensures { λ _. ⌜ slots n 0 (now (part .exit)) ≡ slots from 0 (now (part .entry)) ++ push (token .0)
+        (codePart (token .0)) (slots (n - from) from (now (part .entry))) ⌝ }
 {
     let mut at = from;
     let mut carry = token;
@@ -64,11 +65,12 @@ pub(crate) fn insert(part: &mut [u8], n: usize, token: Token)
     push_down(part, n, at, token);
 }
 
-// The tokens of a place of the store, moved, are candidates for a list, the best first. Once the last of n outranks one,
-// those behind it can't enter.
+// The tokens of a place of the store, moved, are candidates for a list, the best first. Once the last of n outranks
+// one, those behind it can't enter.
 pub(crate) fn offer(list: &mut [u8], n: usize, store: &[u8], from: usize, up: u64, down: u64)
     requires { ⌜ PlaceRoom n from (now store) × Offer n 0 up down (slots n from (now store)) (now list) ⌝ }
-    ensures { λ _. ⌜ slots n 0 (now (list .exit)) ≡ offered up down (slots n from (now (store .entry))) (slots n 0 (now (list .entry))) ⌝ }
+    ensures { λ _. ⌜ slots n 0 (now (list .exit)) ≡ offered up down (slots n from (now (store .entry)))
+        (slots n 0 (now (list .entry))) ⌝ }
 {
     let mut i = 0;
     while i < n {

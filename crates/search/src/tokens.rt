@@ -10,8 +10,8 @@ use decoder::token::UNIT;
 use endian::u32_bytes;
 use endian::u32_of;
 
-// A token after a move: `up` is the number of the move's score in units, `down` the bias and the increment. It stands here,
-// and not with the type, since it asks that the sum fits.
+// A token after a move: `up` is the number of the move's score in units, `down` the bias and the increment. It stands
+// here, and not with the type, since it asks that the sum fits.
 pub(crate) fn moved(token: Token, up: u64, down: u64) -> Token
     requires { ⌜ MoveFits up down (token .0) ⌝ }
     ensures { λ r. ⌜ r .0 ≡ (token .0) + up - down ⌝ }

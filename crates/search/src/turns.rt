@@ -38,7 +38,8 @@ fn number_at(lexicon: &[u8], at: usize) -> usize
     u16_of(lexicon[at], lexicon[at + 1]) as usize
 }
 
-// Passes tokens on over one arc, to vertex t: with the link of the letter that is left and the emission of the one entered.
+// Passes tokens on over one arc, to vertex t: with the link of the letter that is left and the emission of the one
+// entered.
 fn pass_over(
     lexicon: &[u8],
     n: usize,
@@ -52,7 +53,9 @@ fn pass_over(
 )
     requires { ⌜ Arc (now lexicon) n (now vertices) (now gains) (link .0) false from t down (now store) ⌝ }
     requires { ⌜ 0 < (link .0) ⌝ }
-    ensures { λ _. ⌜ ((a : Arc (now (lexicon .entry)) n (now (vertices .entry)) (now (gains .entry)) (link .0) false from t down (now (store .entry))) → Stored (a .passing-on .v) (graphOf (now (lexicon .entry))) n (overOne a) (now (store .exit))) ⌝ }
+    ensures { λ _. ⌜ ((a : Arc (now (lexicon .entry)) n (now (vertices .entry)) (now (gains .entry))
+        (link .0) false from t down (now (store .entry))) → Stored (a .passing-on .v) (graphOf (now (lexicon .entry))) n
+        (overOne a) (now (store .exit))) ⌝ }
     ensures { λ _. ⌜ slots n from (now (store .exit)) ≡ slots n from (now (store .entry)) ⌝ }
 {
     let letter = vertices[t][LETTER] as usize;
@@ -78,7 +81,8 @@ fn pass_on(
     store: &mut [u8],
 )
     requires { ⌜ PassingOn (now lexicon) n (now vertices) (now gains) (link .0) node false from (now store) ⌝ }
-    ensures { λ _. ⌜ ((t : PassingOn (now (lexicon .entry)) n (now (vertices .entry)) (now (gains .entry)) (link .0) node false from (now (store .entry))) → PassedOn t (now (store .exit))) ⌝ }
+    ensures { λ _. ⌜ ((t : PassingOn (now (lexicon .entry)) n (now (vertices .entry)) (now (gains .entry))
+        (link .0) node false from (now (store .entry))) → PassedOn t (now (store .exit))) ⌝ }
 {
     let first = token_at(store, from);
     if first.is_none() {
@@ -110,7 +114,9 @@ fn enter_node(
     store: &mut [u8],
 )
     requires { ⌜ Arc (now lexicon) n (now vertices) (now gains) bias true 0 t (lift + increment) (now store) ⌝ }
-    ensures { λ _. ⌜ ((a : Arc (now (lexicon .entry)) n (now (vertices .entry)) (now (gains .entry)) bias true 0 t (lift + increment) (now (store .entry))) → Stored (a .passing-on .v) (graphOf (now (lexicon .entry))) n (overOne a) (now (store .exit))) ⌝ }
+    ensures { λ _. ⌜ ((a : Arc (now (lexicon .entry)) n (now (vertices .entry)) (now (gains .entry)) bias true 0 t
+        (lift + increment) (now (store .entry))) → Stored (a .passing-on .v) (graphOf (now (lexicon .entry))) n
+        (overOne a) (now (store .exit))) ⌝ }
 {
     let letter = vertices[t][LETTER] as usize;
     let score = Score(gains[letter][ENTRY]);
@@ -131,7 +137,8 @@ pub(crate) fn enter_nodes(
     store: &mut [u8],
 )
     requires { ⌜ PassingOn (now lexicon) n (now vertices) (now gains) bias 0 true 0 (now store) ⌝ }
-    ensures { λ _. ⌜ ((t : PassingOn (now (lexicon .entry)) n (now (vertices .entry)) (now (gains .entry)) bias 0 true 0 (now (store .entry))) → PassedOn t (now (store .exit))) ⌝ }
+    ensures { λ _. ⌜ ((t : PassingOn (now (lexicon .entry)) n (now (vertices .entry)) (now (gains .entry)) bias 0 true 0
+        (now (store .entry))) → PassedOn t (now (store .exit))) ⌝ }
 {
     let start = vertices[0][ARCS_AT] as usize;
     let stop = start + 2 + 2 * number_at(lexicon, start);
@@ -148,7 +155,8 @@ pub(crate) fn enter_nodes(
 // The tokens of a place move by its loop.
 fn stay(place: &mut [u8], n: usize, score: Score)
     requires { ⌜ Staying n 0 (score .0) (now place) ⌝ }
-    ensures { λ _. ⌜ ((t : Staying n 0 (score .0) (now (place .entry))) → slots n 0 (now (place .exit)) ≡ held n (stayed t)) ⌝ }
+    ensures { λ _. ⌜ ((t : Staying n 0 (score .0) (now (place .entry))) → slots n 0 (now (place .exit))
+        ≡ held n (stayed t)) ⌝ }
 {
     if score.is_impossible() {
         clear_place(place, n);
@@ -161,7 +169,8 @@ fn stay(place: &mut [u8], n: usize, score: Score)
 // still old.
 fn renew_state(part: &mut [u8], n: usize, s: usize, row: &[u32; 8])
     requires { ⌜ Renewing n (suc s) (now row) (now part) ⌝ }
-    ensures { λ _. ⌜ ((t : Renewing n (suc s) (now (row .entry)) (now (part .entry))) → Own n (t .S) (renewedOne t (t .node)) (now (part .exit))) ⌝ }
+    ensures { λ _. ⌜ ((t : Renewing n (suc s) (now (row .entry)) (now (part .entry)))
+        → Own n (t .S) (renewedOne t (t .node)) (now (part .exit))) ⌝ }
 {
     let slot = n * s;
     let start = 8 * slot;
@@ -180,7 +189,8 @@ fn renew_state(part: &mut [u8], n: usize, s: usize, row: &[u32; 8])
 // Renews the states in a node's part of the store, from the last to the first.
 fn renew(part: &mut [u8], n: usize, states: usize, row: &[u32; 8])
     requires { ⌜ Renewing n states (now row) (now part) ⌝ }
-    ensures { λ _. ⌜ ((t : Renewing n states (now (row .entry)) (now (part .entry))) → Own n (t .S) (renewedAll t (t .node)) (now (part .exit))) ⌝ }
+    ensures { λ _. ⌜ ((t : Renewing n states (now (row .entry)) (now (part .entry)))
+        → Own n (t .S) (renewedAll t (t .node)) (now (part .exit))) ⌝ }
 {
     let mut s = states;
     while s > 0 {
@@ -192,7 +202,8 @@ fn renew(part: &mut [u8], n: usize, states: usize, row: &[u32; 8])
 // The node's part of the store, which begins with slot `first`, is lent on to the token update.
 fn renew_node(store: &mut [u8], n: usize, first: usize, states: usize, row: &[u32; 8])
     requires { ⌜ Renewal n first states (now row) (now store) ⌝ }
-    ensures { λ _. ⌜ ((t : Renewal n first states (now (row .entry)) (now (store .entry))) → Stored (t .v) (graphOf (t .x)) n (renewal t) (now (store .exit))) ⌝ }
+    ensures { λ _. ⌜ ((t : Renewal n first states (now (row .entry)) (now (store .entry)))
+        → Stored (t .v) (graphOf (t .x)) n (renewal t) (now (store .exit))) ⌝ }
 {
     let start = 8 * first;
     let end = start + 8 * (n * states);
@@ -211,7 +222,8 @@ pub(crate) fn take_turn(
     store: &mut [u8],
 )
     requires { ⌜ Turn (now voice) (now lexicon) n (now vertices) (now gains) (link .0) node (now store) ⌝ }
-    ensures { λ _. ⌜ ((t : Turn (now (voice .entry)) (now (lexicon .entry)) n (now (vertices .entry)) (now (gains .entry)) (link .0) node (now (store .entry))) → TurnDone t (now (store .exit))) ⌝ }
+    ensures { λ _. ⌜ ((t : Turn (now (voice .entry)) (now (lexicon .entry)) n (now (vertices .entry))
+        (now (gains .entry)) (link .0) node (now (store .entry))) → TurnDone t (now (store .exit))) ⌝ }
 {
     let letter = lexicon[1 + node] as usize;
     let states = voice[2 + 2 * letter] as usize;

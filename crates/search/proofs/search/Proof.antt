@@ -60,10 +60,12 @@ room c =
     omega (arith, ap length (o .«open» .ensures .1 .0), cleared-length w, passes c .room)
 
 -- the table that checking leaves
-table : (c : tie.After-enum-told) → Vertices (begin c .args .lexicon .now) (c .before .before .before .before .«open» .last .1 .1 .1 .0)
+table : (c : tie.After-enum-told) → Vertices (begin c .args .lexicon .now)
+    (c .before .before .before .before .«open» .last .1 .1 .1 .0)
 table c =
     let i = accepted (passes c .images) in
-    opened-vertices (record { letters = _; judged = i .lexicon }) _ (ap answerOf (c .enum-told .given .1)) (c .before .before .before .before .«open» .ensures .1 .1)
+    opened-vertices (record { letters = _; judged = i .lexicon }) _ (ap answerOf (c .enum-told .given .1))
+        (c .before .before .before .before .«open» .ensures .1 .1)
 
 find-slots-requires : tie.Need-find-slots-requires
 find-slots-requires c κs =
@@ -125,14 +127,18 @@ wiped : (c : tie.After-zero) →
     let b = listed c in
     let f = found (b .before .before) in
     let o = checked f .before .before .before .before in
-    c .zero .last .0 ++ drop (size f) (b .best-words .last .1 .1 .1 .1 .1 .0 ++ drop (size f) (o .«open» .last .1 .1 .0)) ≡ cleared (start f .args .work .now)
+    c .zero .last .0 ++ drop (size f)
+        (b .best-words .last .1 .1 .1 .1 .1 .0 ++ drop (size f) (o .«open» .last .1 .1 .0))
+        ≡ cleared (start f .args .work .now)
 wiped c =
     let b = listed c in
     let f = found (b .before .before) in
     let o = checked f .before .before .before .before in
-    part-zeroed (size f) (o .«open» .last .1 .1 .0) (start f .args .work .now) (b .best-words .last .1 .1 .1 .1 .1 .0) (c .zero .last .0)
+    part-zeroed (size f) (o .«open» .last .1 .1 .0) (start f .args .work .now) (b .best-words .last .1 .1 .1 .1 .1 .0)
+        (c .zero .last .0)
     (o .«open» .ensures .1 .0) (small f)
-    (passes (checked f) .room) (b .best-words .kept .1 .1 .1 .1 .1 .0 ∙ length-take-le (size f) (o .«open» .last .1 .1 .0) (fits f))
+    (passes (checked f) .room) (b .best-words .kept .1 .1 .1 .1 .1 .0
+        ∙ length-take-le (size f) (o .«open» .last .1 .1 .0) (fits f))
     (c .zero .ensures)
 
 returns-3 : tie.Need-returns-3

@@ -38,7 +38,8 @@ returns c =
 
 -- there is a token
 there : (c : tie.Else1 Inv-loop μ-loop) →
-    let l = c .before .before .before in ¬ (getD (l .before .before .before .args .tokens .now) (l .before .loop .i) 0 ≡ 0)
+    let l = c .before .before .before in ¬ (getD (l .before .before .before .args .tokens .now) (l .before .loop .i) 0
+        ≡ 0)
 there c = other-told (c .before .is-none .ensures) (c .if1 .left)
 
 put-hit-requires : tie.Need-put-hit-requires Inv-loop μ-loop
@@ -51,7 +52,8 @@ loop-again : tie.Need-loop-again Inv-loop μ-loop
 loop-again c =
     let e = c .before .before .before .before in
     let l = e .before .before .before in
-    write-next (l .before .before .before .pre) (l .before .loop .inv) (slot l) (there e) (c .before .before .put-hit .ensures)
+    write-next (l .before .before .before .pre) (l .before .loop .inv) (slot l) (there e)
+        (c .before .before .put-hit .ensures)
 
 same-length-2 : tie.Need-same-length-2 Inv-loop μ-loop
 same-length-2 c = c .before .loop .inv .long

@@ -26,7 +26,8 @@ images : (c : tie.Start Inv-loop μ-loop) → AcceptedImages (c .args .voice .no
 images c = accepted (c .pre .0 .ready .accepted)
 
 letter-table-requires : tie.Need-letter-table-requires Inv-loop μ-loop
-letter-table-requires c κs = let i = images (c .before .before .before .before .before) in ((i .voice, i .lexicon), refl)
+letter-table-requires c κs = let i =
+    images (c .before .before .before .before .before) in ((i .voice, i .lexicon), refl)
 
 abbrev begin : tie.After-letter-table Inv-loop μ-loop → tie.Start Inv-loop μ-loop
 begin t = t .before .before .before .before .before .before
@@ -41,7 +42,8 @@ numbers : (c : tie.After-symbols-at Inv-loop μ-loop) →
     let t = f .before .before in
     let a = start c .args in
     CallNumbers (a .voice .now) (a .lexicon .now)
-    (record { n = a .n; nodes = u .u16-at .result; symbols = c .symbols-at .result; used = t .letter-table .result; link = f .from-stored .result })
+    (record { n = a .n; nodes = u .u16-at .result; symbols = c .symbols-at .result; used =
+        t .letter-table .result; link = f .from-stored .result })
     (t .letter-table .last .1 .1 .0)
 unfolding nodeCount
 numbers c =

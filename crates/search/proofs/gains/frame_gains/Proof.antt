@@ -24,7 +24,8 @@ abbrev start : tie.In-loop Inv-loop μ-loop → tie.Start Inv-loop μ-loop
 start c = c .before .before .before
 
 -- the row whose turn it is
-row : (c : tie.In-loop Inv-loop μ-loop) → LetterRow (start c .args .voice .now) (getD (start c .args .letters .now) (c .before .loop .i) [])
+row : (c : tie.In-loop Inv-loop μ-loop) → LetterRow (start c .args .voice .now)
+    (getD (start c .args .letters .now) (c .before .loop .i) [])
 row c = start c .pre .1 .0 .row (c .before .loop .i) (c .loop-test .taken)
 
 letter : (c : tie.In-loop Inv-loop μ-loop) → letterAt (start c .args .letters .now) (c .before .loop .i) < 64

@@ -1,5 +1,5 @@
--- `gains::gain` meets its contract: by the tests, both are above 0 where they are added, so that the sum is not below the
--- bias. Assumes nothing.
+-- `gains::gain` meets its contract: by the tests, both are above 0 where they are added, so that the sum is not below
+-- the bias. Assumes nothing.
 use Prim.Native.Nat.{_<_}
 use mathlib.Core.Path.{_≡_, sym}
 use native.Mathlib.Omega.{arith}
@@ -20,7 +20,8 @@ returns c =
 returns-2 : tie.Need-returns-2
 unfolding numberOf
 returns-2 c =
-    let z : c .before .before .before .before .args .emission .0 ≡ 0 = same-told (c .before .is-impossible2 .ensures) (c .if2 .taken) in
+    let z : c .before .before .before .before .args .emission .0 ≡ 0 = same-told (c .before .is-impossible2 .ensures)
+        (c .if2 .taken) in
     rw z (sym (sum-second _))
 
 -- both are above 0

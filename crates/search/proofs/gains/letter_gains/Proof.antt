@@ -25,7 +25,8 @@ record StatesDone (v : List ℕ) (k l first offset s : ℕ) (row : List ℕ) : T
   entry : getD row 4 0 ≡ entryNumber v k l
 
 abbrev Inv-loop : tie.InvT-loop
-Inv-loop voice at k letter index first symbols states offset₀ row₀ s₀ offset row s = StatesDone voice k index first offset s row
+Inv-loop voice at k letter index first symbols states offset₀ row₀ s₀ offset row s =
+    StatesDone voice k index first offset s row
 
 abbrev μ-loop : tie.MeasureT-loop
 μ-loop voice at k letter index first symbols states offset₀ row₀ s₀ offset row s = states - s
@@ -43,7 +44,8 @@ letter c = row-letter (c .pre .0 .0 .well-formed) (c .pre .1)
 -- where the first emission stands
 begins : (c : tie.Start Inv-loop μ-loop) →
     let a = c .args in
-    a .at + 1 + 2 * (first-of c * getD (a .voice .now) (a .at) 0 + a .k) ≡ symbolsAt (a .voice .now) + 1 + 2 * ((first-of c + 0) * symbolCount (a .voice .now) + a .k)
+    a .at + 1 + 2 * (first-of c * getD (a .voice .now) (a .at) 0 + a .k)
+        ≡ symbolsAt (a .voice .now) + 1 + 2 * ((first-of c + 0) * symbolCount (a .voice .now) + a .k)
 unfolding symbolCount
 begins c = rw (c .pre .0 .1, add-zero (first-of c))
 
@@ -76,7 +78,8 @@ first-gains-requires : tie.Need-first-gains-requires Inv-loop μ-loop
 first-gains-requires c κs =
     let s = begin c in
     let a = letter s in
-    (emission-near _ _ (c .emission-at .ensures), loop-near (s .pre .1 .scores) {s = 0} (states-range _ (a .well-formed) (a .letter) .0))
+    (emission-near _ _ (c .emission-at .ensures), loop-near (s .pre .1 .scores)
+        {s = 0} (states-range _ (a .well-formed) (a .letter) .0))
 
 loop-holds : tie.Need-loop-holds Inv-loop μ-loop
 unfolding entryNumber
@@ -85,7 +88,8 @@ loop-holds c =
     let s = begin r in
     let a = s .args in
     let b = letter s in
-    let e : r .emission-at .result .0 ≡ numberOf (possible (emission (a .voice .now) (firstState (a .voice .now) (l-of s) + 0) (a .k))) =
+    let e : r .emission-at .result .0
+        ≡ numberOf (possible (emission (a .voice .now) (firstState (a .voice .now) (l-of s) + 0) (a .k))) =
     rw (b .begins) at (emitted r) in
     record {
       last = 0;
@@ -109,7 +113,9 @@ small c = omega (arith, state c, letter-few (letter (start c)))
 -- where its emission stands
 next : (c : tie.In-loop Inv-loop μ-loop) →
     let a = start c .args in
-    c .before .loop .offset + 2 * getD (a .voice .now) (a .at) 0 ≡ symbolsAt (a .voice .now) + 1 + 2 * ((first-of (start c) + c .before .loop .s) * symbolCount (a .voice .now) + a .k)
+    c .before .loop .offset + 2 * getD (a .voice .now) (a .at) 0
+        ≡ symbolsAt (a .voice .now) + 1 + 2 * ((first-of (start c) + c .before .loop .s) * symbolCount
+        (a .voice .now) + a .k)
 unfolding symbolCount
 next c =
     let i = c .before .loop .inv in
@@ -145,13 +151,15 @@ loop-again c =
       is = omega arith;
       here = next l;
       filled = next-gained (s .pre .1 .scores) (s .args .k) (letter s) (i .is) (state l)
-          (emitted-is (s .pre .0 .0) (first-of s + l .before .loop .s) (next l) (r .emission-at2 .ensures)) (i .filled) e;
+          (emitted-is (s .pre .0 .0) (first-of s + l .before .loop .s) (next l) (r .emission-at2 .ensures))
+              (i .filled) e;
       entry = e .others 4 (λ q. omega (arith, small l)) (λ q. omega (arith, i .is)) ∙ i .entry;
     }
 
 returns : tie.Need-returns Inv-loop μ-loop
 unfolding states
-returns c = let i = c .before .loop .inv in record { moves = fill-done (c .loop-test .left) (i .filled); entry = i .entry }
+returns c = let i = c .before .loop .inv in record { moves = fill-done (c .loop-test .left) (i .filled); entry =
+    i .entry }
 
 pub letter-gains-spec : {M : Type 1} → statement M
 letter-gains-spec =

@@ -1,5 +1,5 @@
--- `letters::letter_row` meets its contract: before each state the entries of those before it are filled. The measure is the states left.
--- Assumes nothing.
+-- `letters::letter_row` meets its contract: before each state the entries of those before it are filled. The measure is
+-- the states left. Assumes nothing.
 use Prim.Native.Nat.{ℕ, _-_, _<_}
 use mathlib.Core.Path.{_≡_, refl, _∙_}
 use mathlib.Core.List.{List}
@@ -33,7 +33,8 @@ loop-holds c = record { filled = fill-start (omega arith); letter = refl; begin 
 
 -- the state whose turn it is
 state : (c : tie.In-loop Inv-loop μ-loop) →
-    let s = c .before .before .before .before .before in c .before .loop .s < states (s .args .voice .now) (s .args .letter)
+    let s = c .before .before .before .before .before in c .before .loop .s < states (s .args .voice .now)
+        (s .args .letter)
 unfolding states
 state c = c .loop-test .taken
 
@@ -53,7 +54,8 @@ loop-again c =
     let e = c .state-scores .ensures in
     let h = few l in
     record {
-      filled = scores-next (l .before .before .before .before .before .pre) (state l) (l .before .before .letter-pairs .ensures) (i .filled) e;
+      filled = scores-next (l .before .before .before .before .before .pre) (state l)
+          (l .before .before .letter-pairs .ensures) (i .filled) e;
       letter = e .others 8 (λ q. omega arith) (λ q. omega arith) ∙ i .letter;
       begin = e .others 9 (λ q. omega arith) (λ q. omega arith) ∙ i .begin;
     }

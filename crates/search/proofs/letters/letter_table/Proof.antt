@@ -1,5 +1,5 @@
--- `letters::letter_table` meets its contract: before each turn the marked letters below this one have their rows. The measure
--- is the letters left. Assumes nothing.
+-- `letters::letter_table` meets its contract: before each turn the marked letters below this one have their rows. The
+-- measure is the letters left. Assumes nothing.
 use Prim.Native.Nat.{_+_, _-_, _<_, _≤_}
 use mathlib.Core.Path.{refl}
 use mathlib.Core.Logic.{⊎-elim}
@@ -15,7 +15,8 @@ use Rattle.search.proofs.letters.letter_table.Statement.{statement}
 use Rattle.search.proofs.letters.letter_table.Tie as tie
 
 abbrev Inv-loop : tie.InvT-loop
-Inv-loop voice lexicon letters₀ marks count used₀ first₀ letter₀ letters used first letter = Tabling voice marks used first letter letters
+Inv-loop voice lexicon letters₀ marks count used₀ first₀ letter₀ letters used first letter =
+    Tabling voice marks used first letter letters
 
 abbrev μ-loop : tie.MeasureT-loop
 μ-loop voice lexicon letters₀ marks count used₀ first₀ letter₀ letters used first letter = count - letter
@@ -23,7 +24,8 @@ abbrev μ-loop : tie.MeasureT-loop
 mark-letters-requires : tie.Need-mark-letters-requires Inv-loop μ-loop
 mark-letters-requires c κs =
     let p = c .before .before .before .pre .0 in
-    ((record { letters = _; judged = p .1 }, λ u l h. omega (arith, letter-known _ _ (p .1) u l h, letters-few _ (p .0))), marks-start refl)
+    ((record { letters = _; judged = p .1 }, λ u l h. omega
+        (arith, letter-known _ _ (p .1) u l h, letters-few _ (p .0))), marks-start refl)
 
 loop-holds : tie.Need-loop-holds Inv-loop μ-loop
 loop-holds c = tabling-start (c .before .before .before .before .before .pre .1)
@@ -32,7 +34,8 @@ abbrev start : tie.In-loop Inv-loop μ-loop → tie.Start Inv-loop μ-loop
 start c = c .before .before .before .before .before .before .before
 
 -- the letter whose turn it is
-letter : (c : tie.In-loop Inv-loop μ-loop) → AtLetter (start c .args .voice .now) (c .before .loop .letter) (c .before .loop .first)
+letter : (c : tie.In-loop Inv-loop μ-loop) → AtLetter (start c .args .voice .now) (c .before .loop .letter)
+    (c .before .loop .first)
 letter c = at-letter (start c .pre .0 .0) (c .before .loop .inv .passed) (c .loop-test .taken)
 
 few : (c : tie.In-loop Inv-loop μ-loop) → c .before .loop .letter < 64
@@ -55,7 +58,8 @@ returns : tie.Need-returns Inv-loop μ-loop
 returns c =
     let m = c .before .before .before in
     let p = m .before .before .before .before .pre .0 in
-    tabling-done (letters-few _ (p .0)) (λ u l h. letter-known _ _ (p .1) u l h) (c .loop-test .left) (m .mark-letters .ensures) (c .before .loop .inv)
+    tabling-done (letters-few _ (p .0)) (λ u l h. letter-known _ _ (p .1) u l h) (c .loop-test .left)
+        (m .mark-letters .ensures) (c .before .loop .inv)
 
 pub letter-table-spec : {M : Type 1} → statement M
 letter-table-spec =

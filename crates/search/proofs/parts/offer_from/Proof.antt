@@ -28,7 +28,8 @@ returns c =
     let t = c .before .before in
     let e = t .before .before in
     let p = start e .pre in
-    from-none (p .0) (p .1) (e .before .loop .inv) (e .loop-test .taken) (t .token-at .ensures) (same-told (c .before .is-none .ensures) (c .if1 .taken))
+    from-none (p .0) (p .1) (e .before .loop .inv) (e .loop-test .taken) (t .token-at .ensures)
+        (same-told (c .before .is-none .ensures) (c .if1 .taken))
 
 -- there is a token
 token : (c : tie.Else1 Inv-loop μ-loop) → ¬ (c .before .before .token-at .result .0 ≡ 0)
@@ -56,7 +57,8 @@ returns-2 c =
     let p = start e .pre in
     let a = start e .args in
     let late : t .token-at .result .0 + a .up - a .down < tokenAt (e .before .loop .store) (a .slot + a .n - 1) =
-    rw (m .moved .ensures, q .token-at2 .ensures) at (below-told {a = m .moved .result .0} {b = q .token-at2 .result .0} (c .before .outranks .ensures) (c .if2 .taken)) in
+    rw (m .moved .ensures, q .token-at2 .ensures) at (below-told {a = m .moved .result .0} {b = q .token-at2 .result .0}
+        (c .before .outranks .ensures) (c .if2 .taken)) in
     from-late (p .0) (p .1) (e .before .loop .inv) (e .loop-test .taken) (t .token-at .ensures) late
 
 insert-requires : tie.Need-insert-requires Inv-loop μ-loop
@@ -83,7 +85,8 @@ loop-again c =
     (same-len-mid (8 * a .slot) (8 * a .slot + 8 * a .n - 8 * a .slot) (l .store) (w .insert .last .0) long)
     (part-back (l .store) _ (a .slot) (a .n) _ _ size room
     (long ∙ mid-len (8 * a .slot) (8 * a .slot + 8 * a .n) (l .store) room)
-    (rw (m .moved .ensures) at (w .insert .ensures) ∙ ap (enter (t .token-at .result .0 + a .up - a .down)) (part-slots (l .store) (a .slot) (a .n) _ size)))
+    (rw (m .moved .ensures) at (w .insert .ensures) ∙ ap (enter (t .token-at .result .0 + a .up - a .down))
+        (part-slots (l .store) (a .slot) (a .n) _ size)))
 
 returns-3 : tie.Need-returns-3 Inv-loop μ-loop
 returns-3 c =

@@ -1,6 +1,6 @@
--- `offer` lets the moved tokens enter one after another: before token i, to offer those from it on to what the slots hold
--- makes the whole offer. Both places are in the order of rank, so that nothing enters after the early exit. The measure is
--- what is left of the tokens. Assumes nothing.
+-- `offer` lets the moved tokens enter one after another: before token i, to offer those from it on to what the slots
+-- hold makes the whole offer. Both places are in the order of rank, so that nothing enters after the early exit. The
+-- measure is what is left of the tokens. Assumes nothing.
 use Prim.Native.Nat.{ℕ, _+_, _-_, _<_, _≤_}
 use mathlib.Core.Path.{_≡_, refl, ap, sym, _∙_}
 use mathlib.Core.List.{List}
@@ -38,18 +38,23 @@ loop-holds c =
       few = omega arith;
       long = refl;
       falling = s .pre .1 .target;
-      left = ap (λ l. offered (s .args .up) (s .args .down) l (slots (s .args .n) 0 (s .args .list .now))) (take-slots (s .args .n) (s .args .from) (s .args .store .now));
+      left = ap (λ l. offered (s .args .up) (s .args .down) l (slots (s .args .n) 0 (s .args .list .now)))
+          (take-slots (s .args .n) (s .args .from) (s .args .store .now));
     }
 
 abbrev start : tie.After-token-at Inv-loop μ-loop → tie.Start Inv-loop μ-loop
 start t = t .before .before .before .before .before
 
 -- the token that is read
-read : (t : tie.After-token-at Inv-loop μ-loop) → t .token-at .result .0 ≡ getD (tokens (start t)) (t .before .before .loop .i) 0
-read t = t .token-at .ensures ∙ sym (slots-get (start t .args .n) (start t .args .from) (t .before .before .loop .i) (start t .args .store .now) 0 (t .before .loop-test .taken))
+read : (t : tie.After-token-at Inv-loop μ-loop) → t .token-at .result .0 ≡ getD (tokens (start t))
+    (t .before .before .loop .i) 0
+read t = t .token-at .ensures ∙ sym
+    (slots-get (start t .args .n) (start t .args .from) (t .before .before .loop .i) (start t .args .store .now) 0
+    (t .before .loop-test .taken))
 
 -- where it is there
-there : (c : tie.Else1 Inv-loop μ-loop) → ¬ (getD (tokens (start (c .before .before))) (c .before .before .before .before .loop .i) 0 ≡ 0)
+there : (c : tie.Else1 Inv-loop μ-loop)
+    → ¬ (getD (tokens (start (c .before .before))) (c .before .before .before .before .loop .i) 0 ≡ 0)
 there c z = other-told (c .before .is-none .ensures) (c .if1 .left) (read (c .before .before) ∙ z)
 
 returns : tie.Need-returns Inv-loop μ-loop
@@ -58,7 +63,8 @@ returns c =
     let l = t .before .before .loop in
     let s = start t in
     let a = s .args in
-    sym (offered-ends (a .up) (a .down) (a .n) (l .i) (tokens s) (slots (a .n) 0 (l .list)) (t .before .loop-test .taken) (s .pre .1 .long)
+    sym (offered-ends (a .up) (a .down) (a .n) (l .i) (tokens s) (slots (a .n) 0 (l .list))
+        (t .before .loop-test .taken) (s .pre .1 .long)
     (sym (read t) ∙ same-told (c .before .is-none .ensures) (c .if1 .taken)))
     ∙ l .inv .left
 
@@ -66,7 +72,8 @@ moved-requires : tie.Need-moved-requires Inv-loop μ-loop
 moved-requires c κs =
     let t = c .before .before in
     let s = start t in
-    rw (read t) (s .pre .1 .fits _ (from-holds (s .args .n) (t .before .before .loop .i) (tokens s) (t .before .loop-test .taken) (s .pre .1 .long)) (there c))
+    rw (read t) (s .pre .1 .fits _ (from-holds (s .args .n) (t .before .before .loop .i) (tokens s)
+        (t .before .loop-test .taken) (s .pre .1 .long)) (there c))
 
 returns-2 : tie.Need-returns-2 Inv-loop μ-loop
 returns-2 c =
@@ -77,8 +84,10 @@ returns-2 c =
     let s = start t in
     let a = s .args in
     let late : getD (tokens s) (l .i) 0 + a .up - a .down < tokenAt (l .list) (a .n - 1) =
-    rw (m .moved .ensures, read t, q .token-at2 .ensures) at (below-told {a = m .moved .result .0} {b = q .token-at2 .result .0} (c .before .outranks .ensures) (c .if2 .taken)) in
-    sym (offered-late (a .up) (a .down) (a .n) (l .i) 0 (a .n - 1) (tokens s) (l .list) (omega arith) (t .before .loop-test .taken) (s .pre .1 .long)
+    rw (m .moved .ensures, read t, q .token-at2 .ensures) at (below-told {a = m .moved .result .0}
+        {b = q .token-at2 .result .0} (c .before .outranks .ensures) (c .if2 .taken)) in
+    sym (offered-late (a .up) (a .down) (a .n) (l .i) 0 (a .n - 1) (tokens s) (l .list) (omega arith)
+        (t .before .loop-test .taken) (s .pre .1 .long)
     (s .pre .1 .source) (l .inv .falling) late)
     ∙ l .inv .left
 
@@ -97,7 +106,8 @@ loop-again c =
       long = w .insert .kept .0 ∙ l .inv .long;
       falling = rw entered (falling-enter (l .inv .falling) (getD (tokens s) (l .i) 0 + a .up - a .down));
       left = ap (offered (a .up) (a .down) (drop (l .i + 1) (take (a .n) (tokens s)))) entered
-          ∙ sym (offered-goes (a .up) (a .down) (a .n) (l .i) (tokens s) (slots (a .n) 0 (l .list)) (t .before .loop-test .taken) (s .pre .1 .long) (there e))
+          ∙ sym (offered-goes (a .up) (a .down) (a .n) (l .i) (tokens s) (slots (a .n) 0 (l .list))
+              (t .before .loop-test .taken) (s .pre .1 .long) (there e))
           ∙ l .inv .left;
     }
 
@@ -106,7 +116,8 @@ returns-3 c =
     let l = c .before .loop in
     let s = c .before .before .before .before in
     let a = s .args in
-    sym (offered-done (a .up) (a .down) (a .n) (l .i) (tokens s) (slots (a .n) 0 (l .list)) (c .loop-test .left)) ∙ l .inv .left
+    sym (offered-done (a .up) (a .down) (a .n) (l .i) (tokens s) (slots (a .n) 0 (l .list)) (c .loop-test .left))
+        ∙ l .inv .left
 
 pub offer-spec : {M : Type 1} → statement M
 offer-spec =
@@ -115,7 +126,8 @@ offer-spec =
     Inv-loop
     μ-loop
     loop-holds
-    (λ c. let r = c .before .before .before .before .pre .0 in let h = c .loop-test .taken in let k = r .room in search needs)
+    (λ c. let r = c .before .before .before .before .pre .0 in let h = c .loop-test .taken in let k =
+        r .room in search needs)
     (λ c κs. let r = c .before .before .before .before .pre .0 in omega (arith, c .loop-test .taken, r .room))
     (λ c κs. search needs)
     (λ c. c .before .before .before .before .loop .inv .long)

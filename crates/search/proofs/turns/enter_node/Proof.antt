@@ -68,10 +68,13 @@ returns-2 c =
     let slot = firstIn (a .vertices .now) (a .t) in
     let size = part-size slot (a .n) in
     let r = room s .room in
-    λ t. arc-done t (node s) (gain s) (root-done (a .increment) (arc-offering t (node s) (gain s)) (possible e) (root-increment (s .pre) (a .increment) refl)
+    λ t. arc-done t (node s) (gain s)
+        (root-done (a .increment) (arc-offering t (node s) (gain s)) (possible e)
+        (root-increment (s .pre) (a .increment) refl)
     (part-back (a .store .now) _ slot (a .n) _ _ size r
     (w .insert .kept .0 ∙ mid-len (8 * slot) (8 * slot + 8 * a .n) (a .store .now) r)
-    (rw (o .of .ensures) at (w .insert .ensures) ∙ ap (enter (score s * 4294967296 + (4294967295 - a .increment))) (part-slots (a .store .now) slot (a .n) _ size))))
+    (rw (o .of .ensures) at (w .insert .ensures) ∙ ap (enter (score s * 4294967296 + (4294967295 - a .increment)))
+        (part-slots (a .store .now) slot (a .n) _ size))))
 
 pub enter-node-spec : {M : Type 1} → statement M
 enter-node-spec =

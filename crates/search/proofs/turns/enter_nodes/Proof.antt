@@ -28,14 +28,16 @@ loop-holds : tie.Need-loop-holds Inv-loop μ-loop
 loop-holds c = λ t. rw (c .number-at .ensures) (passing-start t)
 
 -- where the list ends
-small : (c : tie.After-number-at Inv-loop μ-loop) → arcsIn (begin c .args .vertices .now) 0 + 2 + 2 * c .number-at .result ≤ 9204
+small : (c : tie.After-number-at Inv-loop μ-loop)
+    → arcsIn (begin c .args .vertices .now) 0 + 2 + 2 * c .number-at .result ≤ 9204
 small c = omega (arith, list-of (begin c .pre) .small, c .number-at .ensures)
 
 abbrev start : tie.At-loop Inv-loop μ-loop → tie.Start Inv-loop μ-loop
 start l = begin (l .before)
 
 number-at-requires-2 : tie.Need-number-at-requires-2 Inv-loop μ-loop
-number-at-requires-2 c κs = let t = start (c .before) .pre in next-there t (c .before .loop .inv t) (c .loop-test .taken)
+number-at-requires-2 c κs = let t = start (c .before) .pre in next-there t (c .before .loop .inv t)
+    (c .loop-test .taken)
 
 enter-node-requires : tie.Need-enter-node-requires Inv-loop μ-loop
 enter-node-requires c κs =
@@ -52,7 +54,8 @@ entry c =
     successor-few t (l .loop .inv t) (c .before .loop-test .taken) (c .number-at2 .ensures)
 
 sum : (c : tie.After-number-at2 Inv-loop μ-loop) →
-    c .before .before .loop .increment + pathsIn (start (c .before .before) .args .vertices .now) (c .number-at2 .result) < 4294967296
+    c .before .before .loop .increment + pathsIn (start (c .before .before) .args .vertices .now)
+        (c .number-at2 .result) < 4294967296
 sum c =
     let l = c .before .before in
     let t = start l .pre in
@@ -71,7 +74,8 @@ loop-again c =
     let m = o .before .before in
     let l = m .before .before in
     λ t.
-    let p = passing-next t (l .loop .inv t) (m .before .loop-test .taken) (m .number-at2 .ensures) (o .enter-node .ensures) refl
+    let p = passing-next t (l .loop .inv t) (m .before .loop-test .taken) (m .number-at2 .ensures)
+        (o .enter-node .ensures) refl
     (o .enter-node .kept .1 .1 .1 .1 .1 .1 .0) in
     let e : lift + l .loop .increment + pathsIn (start l .args .vertices .now) (m .number-at2 .result)
     ≡ lift + (l .loop .increment + pathsIn (start l .args .vertices .now) (m .number-at2 .result)) = omega arith in

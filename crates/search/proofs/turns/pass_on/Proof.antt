@@ -1,5 +1,5 @@
--- `turns::pass_on` meets its contract: what is left to pass on from the store so far is what was to be passed on. The measure
--- is what is left of the list. Assumes nothing.
+-- `turns::pass_on` meets its contract: what is left to pass on from the store so far is what was to be passed on. The
+-- measure is what is left of the list. Assumes nothing.
 use Prim.Native.Nat.{_+_, _-_, _*_, _≤_, _<_}
 use mathlib.Core.Path.{_≡_, refl, sym, _∙_}
 use mathlib.Core.Bool.{false}
@@ -61,7 +61,8 @@ abbrev start : tie.At-loop Inv-loop μ-loop → tie.Start Inv-loop μ-loop
 start l = at-list (l .before)
 
 number-at-requires-2 : tie.Need-number-at-requires-2 Inv-loop μ-loop
-number-at-requires-2 c κs = let t = start (c .before) .pre in next-there t (c .before .loop .inv t) (c .loop-test .taken)
+number-at-requires-2 c κs = let t = start (c .before) .pre in next-there t (c .before .loop .inv t)
+    (c .loop-test .taken)
 
 pass-over-requires : tie.Need-pass-over-requires Inv-loop μ-loop
 unfolding numberOf
@@ -81,7 +82,8 @@ entry c =
     successor-few t (l .loop .inv t) (c .before .loop-test .taken) (c .number-at2 .ensures)
 
 sum : (c : tie.After-number-at2 Inv-loop μ-loop) →
-    c .before .before .loop .down + pathsIn (start (c .before .before) .args .vertices .now) (c .number-at2 .result) < lift + 4294967296
+    c .before .before .loop .down + pathsIn (start (c .before .before) .args .vertices .now)
+        (c .number-at2 .result) < lift + 4294967296
 sum c =
     let l = c .before .before in
     let t = start l .pre in
@@ -101,7 +103,8 @@ loop-again c =
     let o = c .before .before .before in
     let m = o .before .before in
     let l = m .before .before in
-    λ t. passing-next t (l .loop .inv t) (m .before .loop-test .taken) (m .number-at2 .ensures) (o .pass-over .ensures .0) (o .pass-over .ensures .1)
+    λ t. passing-next t (l .loop .inv t) (m .before .loop-test .taken) (m .number-at2 .ensures)
+        (o .pass-over .ensures .0) (o .pass-over .ensures .1)
     (o .pass-over .kept .1 .1 .1 .1 .1 .1 .1 .1 .0)
 
 same-length-3 : tie.Need-same-length-3 Inv-loop μ-loop

@@ -29,7 +29,8 @@ stay-requires c κs =
     let a = s .args in
     let size = part-size (a .n * a .s) (a .n) in
     let z : 0 + a .s ≡ a .s = omega arith in
-    rw z (lent-staying (s .pre) _ (part-slots (a .part .now) (a .n * a .s) (a .n) _ size) (omega (arith, part-room (room s) _ size)))
+    rw z (lent-staying (s .pre) _ (part-slots (a .part .now) (a .n * a .s) (a .n) _ size)
+        (omega (arith, part-room (room s) _ size)))
 
 -- the place comes back with its tokens moved by the loop, and nothing else changes
 module _ (c : tie.After-stay) where
@@ -41,17 +42,20 @@ module _ (c : tie.After-stay) where
 
   -- the part as it comes back
   abbrev back : List ℕ
-  back = putMid (8 * (s .args .n * s .args .s)) (8 * (s .args .n * s .args .s) + 8 * s .args .n - 8 * (s .args .n * s .args .s)) (s .args .part .now)
+  back = putMid (8 * (s .args .n * s .args .s))
+      (8 * (s .args .n * s .args .s) + 8 * s .args .n - 8 * (s .args .n * s .args .s)) (s .args .part .now)
       (c .stay .last .0)
 
   looped : (t : Renewing (s .args .n) (suc (s .args .s)) (s .args .row .now) (s .args .part .now))
-      → Changed (s .args .n * s .args .s) (s .args .n) (held (s .args .n) (stayed (staying t))) (s .args .part .now) back
+      → Changed (s .args .n * s .args .s) (s .args .n) (held (s .args .n) (stayed (staying t))) (s .args .part .now)
+          back
   looped t =
       let a = s .args in
       let slot = a .n * a .s in
       let z : 0 + a .s ≡ a .s = omega arith in
       let there = part-slots (a .part .now) slot (a .n) _ size in
-      let long : 8 * a .n ≤ length (take (8 * slot + 8 * a .n - 8 * slot) (drop (8 * slot) (a .part .now))) = omega (arith, part-room (room s) _ size) in
+      let long : 8 * a .n ≤ length (take (8 * slot + 8 * a .n - 8 * slot) (drop (8 * slot) (a .part .now))) =
+          omega (arith, part-room (room s) _ size) in
       part-back (a .part .now) _ slot (a .n) _ _ size (room s .room)
       (c .stay .kept .0 ∙ mid-len (8 * slot) (8 * slot + 8 * a .n) (a .part .now) (room s .room))
       ((rw z at (c .stay .ensures)) (lent-staying t _ there long) ∙ ap (held (a .n)) (lent-stayed t _ there long))
@@ -59,7 +63,8 @@ module _ (c : tie.After-stay) where
   kept : length back ≡ length (s .args .part .now)
   kept =
       let slot = s .args .n * s .args .s in
-      same-len-mid (8 * slot) (8 * slot + 8 * s .args .n - 8 * slot) (s .args .part .now) (c .stay .last .0) (c .stay .kept .0)
+      same-len-mid (8 * slot) (8 * slot + 8 * s .args .n - 8 * slot) (s .args .part .now) (c .stay .last .0)
+          (c .stay .kept .0)
 
 returns : tie.Need-returns
 returns c = let o = c .before .before .before in λ t. first-done t (c .if1 .taken) (looped o t)
@@ -78,7 +83,8 @@ returns-2 c =
     let o = e .before .before .before in
     λ t. loop-done t _ (later e) (same-told (c .before .is-impossible .ensures) (c .if2 .taken)) (looped o t)
 
-possible : (c : tie.Else2) → ¬ (getD (start (c .before .before .before) .args .row .now) (4 + start (c .before .before .before) .args .s) 0 ≡ 0)
+possible : (c : tie.Else2) → ¬ (getD (start (c .before .before .before) .args .row .now)
+    (4 + start (c .before .before .before) .args .s) 0 ≡ 0)
 unfolding numberOf
 possible c = other-told (c .before .is-impossible .ensures) (c .if2 .left)
 

@@ -1,4 +1,5 @@
--- `turns::take_turn` meets its contract: the node's last tokens are passed on, and then its states are renewed. Assumes nothing.
+-- `turns::take_turn` meets its contract: the node's last tokens are passed on, and then its states are renewed. Assumes
+-- nothing.
 use mathlib.Core.Path.{_∙_}
 use borrow.Author.Needs.{needs}
 use Rattle.search.proofs.Turning.{node-there, node-few, letter-small, letter-there, count-range, slot-few, renewing, passing-on, turn-done}
@@ -51,5 +52,6 @@ take-turn-spec =
     (λ c. let h = letter-small (start (c .before .before .before) .pre) in search needs)
     (λ c. let h = letter-small (start (c .before .before .before) .pre) in search needs)
     renew-node-requires
-    (λ c. let r = c .before .before in r .renew-node .kept .0 ∙ r .before .before .before .before .before .pass-on .kept .1 .1 .1 .1 .1 .1 .1 .0)
+    (λ c. let r = c .before .before in r .renew-node .kept .0
+        ∙ r .before .before .before .before .before .pass-on .kept .1 .1 .1 .1 .1 .1 .1 .0)
     returns)

@@ -1,4 +1,5 @@
--- `Score::value` meets its contract: the tests tell the numbers that pass a limit, and the others are small. Assumes nothing.
+-- `Score::value` meets its contract: the tests tell the numbers that pass a limit, and the others are small. Assumes
+-- nothing.
 use Prim.Native.Nat.{_≤_}
 use mathlib.Core.Path.{sym, _∙_}
 use native.Mathlib.Omega.{arith}
