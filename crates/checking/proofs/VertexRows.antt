@@ -16,7 +16,8 @@ use Rattle.call.specs.declared.Refusal.{Refusal}
 use Rattle.call.specs.Table.{Answer, value, refused}
 use Rattle.lexicon.specs.Lexicon.{nodeCount, sinkOf, arcsAt}
 use Rattle.graph.specs.Graph.{graphOf, pathCount}
-use Rattle.checking.specs.Tables.{vertexRow, verticesOf, openedVertices, column, arcsColumn, pathsColumn, slotsColumn, TableOf, Tables, Vertices, WellFormed, WithOffsets}
+use Rattle.checking.specs.Tables.{vertexRow, verticesOf, openedVertices, column, arcsColumn, pathsColumn}
+use Rattle.checking.specs.Tables.{slotsColumn, TableOf, Tables, Vertices, WellFormed, WithOffsets}
 use Rattle.checking.proofs.Tables.{entry}
 use Rattle.checking.proofs.Arcs.{has-entry, ListThere, list-there}
 use Rattle.checking.proofs.Filling.{sink-small}

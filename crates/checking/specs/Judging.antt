@@ -25,7 +25,7 @@ graphRows v x =
     ∷ on SameLetters (sameLetters (graphOf x))
     ∷ []
 
--- images judged by some of the rows: after a refusal the tables are left as they are found
+-- images judged by some of the rows: the tables are told with a value alone
 pub record ImagesJudged (rows : List Row) (answer : Answer ℕ) (x offsets counts : List ℕ) : Type 0 where
   pub answered : answer ≡ unless rows (wordCount (graphOf x))
   pub opened : (W : ℕ) → answer ≡ value W → Tables x offsets counts

@@ -37,8 +37,8 @@ pub const LETTERS: u16 = 32;
 
 const WORDS: u32 = 1048576;
 
-// The columns of a vertex's row: where its list of successors begins in the image, with its count; its path count; and
-// its first slot in the token store and its letter, which are the search's to fill.
+// The columns of a vertex's row: the offset of its successors' count, which their list follows; its path count; and its
+// first slot in the token store and its letter, which are the search's to fill.
 pub const ARCS_AT: usize = 0;
 
 pub const PATHS: usize = 1;

@@ -50,7 +50,7 @@ accepted-decodes v x frames work out n images known low high space fits =
     unless-value (decodeRows v x frames n work out) (length (hits v (graphOf x) frames n))
     (none-join (firstRows v x work ++ frameRows v frames) (on Count (badCount n) ∷ on Output (ltb (length out) (8 * n)) ∷ [])
     (none-join (firstRows v x work) (frameRows v frames) (none-join (spaceRows work) (imageRows v x) (r .0) images)
-        known)
+    known)
     (r .1))
 
 -- its rows, in order: 1 to 12, and 16

@@ -13,7 +13,7 @@ use Rattle.decoder.specs.StatePaths.{scoreLimit}
 abbrev pub bias : ℕ
 bias = 134217728
 
--- the most that one frame can change a score by: four stored scores
+-- no less than one frame can change a score by, which is two stored scores; there is room for four
 abbrev pub frameLimit : ℕ
 frameLimit = 131072
 
@@ -26,16 +26,16 @@ unfoldable pub raised : ℕ → ℤ → ℕ
 raised k (pos n) = k + n
 raised k (negsuc n) = k - suc n
 
--- the number of a score: 0 is 'no token', any other a score plus the bias
+-- the number of a score: 0 is 'no token', any other a score plus the bias, for scores above -2^27
 unfoldable pub numberOf : Option ℤ → ℕ
 numberOf none = 0
 numberOf (some z) = raised bias z
 
--- the score of a number; one that passes a limit gives the limit
+-- the score of a number; one that passes a limit gives the limit, and so 0, which is no score's number, the lowest
 unfoldable pub valueOf : ℕ → ℤ
 valueOf n =
     cond (ltb n (bias - scoreLimit)) (negℤ (pos scoreLimit))
-        (cond (ltb (bias + scoreLimit) n) (pos scoreLimit) (subℕ n bias))
+    (cond (ltb (bias + scoreLimit) n) (pos scoreLimit) (subℕ n bias))
 
 -- a stored score, where it is not impossible
 unfoldable pub possible : ℤ → Option ℤ

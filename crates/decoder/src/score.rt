@@ -40,7 +40,8 @@ impl Score {
         Score(BIAS - 32768 + raised(stored))
     }
 
-    // The score as a hit has it. No word's score passes the limits; a number that does gives the limit that it passes.
+    // The score as a hit has it. No word's score passes the limits; a number that does gives the limit that it passes,
+    // and so 0, which is no score's, the lowest.
     pub fn value(self) -> i32
         ensures { λ r. ⌜ r ≡ valueOf (self .0) ⌝ }
     {

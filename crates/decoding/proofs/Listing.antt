@@ -2,7 +2,8 @@
 -- Assumes nothing.
 use Prim.Native.Nat.{ℕ, zero, suc, _+_, _-_, _*_, _/_, _%_, _<_, _≤_}
 use mathlib.Core.Path.{_≡_, refl, sym, ap, ap₂, _∙_}
-use mathlib.Core.List.{List, [], _∷_, _++_, flatMap, append-assoc, append-nil, List·Memᴰ, List·Memᴰ·head as here, List·Memᴰ·tail as there}
+use mathlib.Core.List.{List, [], _∷_, _++_, flatMap, append-assoc, append-nil, List·Memᴰ, List·Memᴰ·head as here}
+use mathlib.Core.List.{List·Memᴰ·tail as there}
 use native.Mathlib.Omega.{arith}
 use native.Mathlib.Nat.{add-zero}
 use native.Mathlib.Numerals.{add-one, towards-suc}
@@ -152,9 +153,9 @@ module _ (h : Hit) (s : Within h) where
   token-says =
       let c = s .1 in
       let high : (raised bias (h .score) * 4294967296 + (4294967295 - h .code)) / 4294967296 ≡ raised bias (h .score) =
-          omega arith in
+      omega arith in
       let low : 4294967295 - (raised bias (h .score) * 4294967296 + (4294967295 - h .code)) % 4294967296 ≡ h .code =
-          omega arith in
+      omega arith in
       ap₂ hit (ap valueOf high ∙ value-back (h .score) (s .0)) low
 
 -- so the tokens of a list of candidates say the list

@@ -196,7 +196,7 @@ module _ {n slot gain : ℕ} (d : ℕ) {b : List ℕ} (t : Offering n slot gain 
 
   root-enters : (m : ℕ) (l : List ℕ) → 0 < m → d < 4294967296
       → offered (gain * 4294967296) (lift + d) (held m (hit (pos 0) 0 ∷ [])) l
-          ≡ enter (gain * 4294967296 + (4294967295 - d)) l
+      ≡ enter (gain * 4294967296 + (4294967295 - d)) l
   unfolding offered pad
   root-enters zero l h k = absurd (omega arith)
   root-enters (suc m) l h k = rw (first-some, root-moved k) (offered-none (gain * 4294967296) (lift + d) m _)

@@ -22,8 +22,12 @@ use Rattle.voice.proofs.Letters.{states-range}
 use Rattle.voice.proofs.Scores.{letters-few, emission-there}
 use Rattle.lexicon.specs.Lexicon.{nodeCount, nodeLetter}
 use Rattle.decoder.specs.Score.{numberOf, possible}
-use Rattle.search.specs.Gains.{NearBias, numberSum, letterPairs, pairScore, loopNumber, stepNumber, loopGain, stepGain, LettersMarked, LetterEntries, letterIn, LetterRow, letterAt, HasRow, NodeLetters, GainRow, GainsRoom, Gained, MoveGains, EntryGains, KnownSymbol, AtLetter, StatePut, FirstPut}
-use Rattle.search.proofs.Gaining.{number-near, sum-both, letter-small, letter-few, state-there, loop-score, step-score, LettersPassed, letters-start, letters-next}
+use Rattle.search.specs.Gains.{NearBias, numberSum, letterPairs, pairScore, loopNumber, stepNumber, loopGain}
+use Rattle.search.specs.Gains.{stepGain, LettersMarked, LetterEntries, letterIn, LetterRow, letterAt, HasRow}
+use Rattle.search.specs.Gains.{NodeLetters, GainRow, GainsRoom, Gained, MoveGains, EntryGains, KnownSymbol}
+use Rattle.search.specs.Gains.{AtLetter, StatePut, FirstPut}
+use Rattle.search.proofs.Gaining.{number-near, sum-both, letter-small, letter-few, state-there, loop-score}
+use Rattle.search.proofs.Gaining.{step-score, LettersPassed, letters-start, letters-next}
 use Rattle.search.proofs.Carrying.{emission-range}
 
 -- ---- the letters in use
@@ -181,7 +185,7 @@ pub tabling-done : {v x : List ℕ} {marks : List Bool} {used first letter : ℕ
     → letterCount v ≤ 64
     → ((u : ℕ) → 1 ≤ u → u ≤ nodeCount x → nodeLetter x u < letterCount v)
     → letterCount v ≤ letter → LettersMarked x (nodeCount x) marks → Tabling v marks used first letter letters
-        → NodeLetters v x used letters
+    → NodeLetters v x used letters
 tabling-done few known h m f = record {
   table = record { few = omega (arith, f .few, f .passed .inside); row = f .row };
   all = λ u l k. f .all _ (omega (arith, known u l k)) (m .marked u l k);
@@ -248,7 +252,7 @@ module _ {v : List ℕ} {l : ℕ} {scores : List ℕ} (e : LetterEntries v (loop
   unfolding loopNumber loopScore loopGain
   loop-gain k {s} h q = rw (e .loop-at s h, q)
       (sum-both (loopScore v (firstState v l + s)) (emission v (firstState v l + s) k) (i16-range v _)
-          (emission-range v _ k))
+      (emission-range v _ k))
 
   pub step-gain : (k : ℕ) {s emitted : ℕ} → suc s < states v l
       → emitted ≡ numberOf (possible (emission v (firstState v l + suc s) k))
@@ -256,7 +260,7 @@ module _ {v : List ℕ} {l : ℕ} {scores : List ℕ} (e : LetterEntries v (loop
   unfolding stepNumber stepScore stepGain
   step-gain k {s} h q = rw (e .step-at s h, q)
       (sum-both (stepScore v (firstState v l + s)) (emission v (firstState v l + suc s) k) (i16-range v _)
-          (emission-range v _ k))
+      (emission-range v _ k))
 
   -- the gain of the first state's loop
   pub first-gained : (k : ℕ) {first emitted b : ℕ} {row : List ℕ} → AtLetter v l first

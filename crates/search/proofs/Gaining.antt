@@ -27,7 +27,8 @@ use Rattle.voice.proofs.Letters.{states-range, states-there}
 use Rattle.voice.proofs.Scores.{letters-few, state-known, pair-there}
 use Rattle.decoder.specs.Score.{bias, raised, numberOf, possible, plus}
 use Rattle.decoder.proofs.Biased.{raised-is}
-use Rattle.search.specs.Gains.{NearBias, numberSum, letterPairs, pairOf, pairScore, StoredPairs, loopNumber, stepNumber, AtLetter}
+use Rattle.search.specs.Gains.{NearBias, numberSum, letterPairs, pairOf, pairScore, StoredPairs, loopNumber}
+use Rattle.search.specs.Gains.{stepNumber, AtLetter}
 
 -- ---- numbers of scores
 
@@ -46,8 +47,11 @@ module _ (y : ℤ) (h : mag y < 32768) where
     where
       go : (b : Bool) → NearBias (numberOf (cond b none (some y)))
       go true = record { low = λ z. omega arith; high = omega arith }
-      go false = record { low = λ z. omega (arith, stored-is, size y, mag-size y h); high =
-          omega (arith, stored-is, size y, mag-size y h) }
+      go false = record {
+        low = λ z. omega (arith, stored-is, size y, mag-size y h);
+        high =
+            omega (arith, stored-is, size y, mag-size y h);
+      }
 
   -- a possible one has a number above 0
   number-some : 0 < raised bias y
@@ -84,7 +88,7 @@ sum-both y z h k = go (eqZ y impossible) (eqZ z impossible)
   where
     go : (b c : Bool)
         → numberSum (numberOf (cond b none (some y))) (numberOf (cond c none (some z)))
-            ≡ numberOf (plus (cond b none (some y)) (cond c none (some z)))
+        ≡ numberOf (plus (cond b none (some y)) (cond c none (some z)))
     go true c = sum-first (numberOf (cond c none (some z)))
     go false true = sum-second (raised bias y)
     go false false =

@@ -60,8 +60,12 @@ part-slots b k n size e = slots-ext n 0 k (take size (drop (8 * k) b)) b (λ i l
 
 pub part-room : {n k : ℕ} {b : List ℕ} → PlaceRoom n k b → (size : ℕ) → size ≡ 8 * n
     → PlaceRoom n 0 (take size (drop (8 * k) b))
-part-room r size e = record { one = r .one; few = r .few; room = simp (length-take, length-drop)
-    (omega (arith, r .room)) }
+part-room r size e = record {
+  one = r .one;
+  few = r .few;
+  room = simp (length-take, length-drop)
+      (omega (arith, r .room));
+}
 
 -- the bytes with those of ys instead of as many from `at` on
 module _ (b ys : List ℕ) (at size : ℕ) (fits : at + size ≤ length b) (long : length ys ≡ size) where

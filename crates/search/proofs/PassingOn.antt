@@ -20,7 +20,8 @@ use Rattle.graph.specs.Graph.{Graph, graphOf, sink, pathCount, wordCount, incre
 use Rattle.graph.proofs.Codes.{arc-count}
 use Rattle.graph.proofs.Accepted.{AcceptedImages, accepted}
 use Rattle.checking.specs.Tables.{WellFormed}
-use Rattle.checking.proofs.Arcs.{shape-of, sound-of, nodes-there, has-entry, ListThere, list-there, ArcNext, arc-next, arcs-done}
+use Rattle.checking.proofs.Arcs.{shape-of, sound-of, nodes-there, has-entry, ListThere, list-there, ArcNext, arc-next}
+use Rattle.checking.proofs.Arcs.{arcs-done}
 use Rattle.checking.proofs.Increments.{CountsPassed, counts-start, split-here, increment-here, counts-below, counts-next}
 use Rattle.ranking.specs.Hits.{Hit}
 use Rattle.decoder.specs.Score.{bias, frameLimit, numberOf, possible, plus}
@@ -37,7 +38,9 @@ use Rattle.search.specs.Stored.{VertexTable, Bound, Place, Stored, sourc
 use Rattle.search.specs.Carrying.{Worth, Offering, joined, Arc, overOne}
 use Rattle.search.proofs.Numbers.{token-some}
 use Rattle.search.proofs.Lending.{changed-apart}
-use Rattle.search.proofs.Storing.{PutAt, same, other, put-at, stored-put, stored-ext, pass-nothing, pass-closed, words-few, place-there, place-room, slot-small, carried-bound, bound-storable, movers}
+use Rattle.search.proofs.Storing.{PutAt, same, other, put-at, stored-put, stored-ext, pass-nothing, pass-closed}
+use Rattle.search.proofs.Storing.{words-few, place-there, place-room, slot-small, carried-bound, bound-storable}
+use Rattle.search.proofs.Storing.{movers}
 use Rattle.search.proofs.Gaining.{number-near, number-none, sum-second, sum-some, sum-both}
 use Rattle.search.proofs.Carrying.{emission-range, worth-by, passed-long, passed-take, pass-to-nothing}
 
@@ -407,12 +410,20 @@ module _ {x : List ℕ} {n : ℕ} {vertices gains : List (List ℕ)} {link w : �
       unfolding downOf wordCount
       root-few d z q =
           let e : pathCount (graphOf x) w ≡ pathCount (graphOf x) 0 = ap (pathCount (graphOf x)) (t .root-is z) in
-          omega (arith, e, L .down-is, q, count-is, counts-below formed (t .vertex) (L .sums) next, words-few (t .v) x
-              (t .ready .accepted))
+          omega (
+            arith,
+            e,
+            L .down-is,
+            q,
+            count-is,
+            counts-below formed (t .vertex) (L .sums) next,
+            words-few (t .v) x
+                (t .ready .accepted),
+          )
 
       pub passing-next : {b′ : List ℕ}
           → ((a : Arc x n vertices gains link root from u down b) → Stored (a .passing-on .v) (graphOf x) n
-              (overOne a) b′)
+          (overOne a) b′)
           → source root n from b′ ≡ source root n from b → length b′ ≡ length b
           → PassingLeft (at + 2) stop (down + pathsIn vertices u) b′
       unfolding passOn overOne downOf left-arc so-far counts-next

@@ -33,7 +33,8 @@ use Rattle.passing.proofs.Bounds.{token-bounded}
 use Rattle.search.specs.Slots.{slots}
 use Rattle.search.specs.declared.frames.Numbers.{Numbers}
 use Rattle.search.specs.Gains.{GainsRoom, MoveGains, EntryGains, KnownSymbol}
-use Rattle.search.specs.Stored.{StoreRoom, Bound, Stored, Within, source, PassingOn, passedOn, PassedOn, Turn, turned, TurnDone}
+use Rattle.search.specs.Stored.{StoreRoom, Bound, Stored, Within, source, PassingOn, passedOn, PassedOn, Turn}
+use Rattle.search.specs.Stored.{turned, TurnDone}
 use Rattle.search.specs.Running.{Empty, Run, StoredAt, FrameHeld, FramesDone}
 use Rattle.search.proofs.Held.{held-none}
 use Rattle.search.proofs.Filling.{gains-room}
@@ -78,8 +79,11 @@ module _ {v x frames : List ℕ} {n : ℕ} {vertices : List (List ℕ)} {b : Lis
   sound-run = sound (letterCount v) x (accepted (r .ready .accepted) .lexicon)
 
   pub known-symbol : (i : ℕ) → i < length frames → KnownSymbol v (getD frames i 0)
-  known-symbol i l = record { well-formed = accepted (r .ready .accepted) .voice; known = symbol-known v frames
-      (r .accepted) i l }
+  known-symbol i l = record {
+    well-formed = accepted (r .ready .accepted) .voice;
+    known = symbol-known v frames
+        (r .accepted) i l;
+  }
 
   -- ---- the first frame
 
@@ -156,8 +160,8 @@ module _ {v x frames : List ℕ} {n : ℕ} {vertices : List (List ℕ)} {b₀ : 
 
   module _ (h : suc t < length frames) {gains : List (List ℕ)} (moves : MoveGains v x (getD frames (suc t) 0) gains)
       (links : EntryGains v x (getD frames (suc t) 0) gains) {link : ℕ}
-          (is : link ≡ numberOf (possible (linkScore v 0))) {m : ℕ} {b : List ℕ} (k : 1 ≤ m)
-          (d : TurnsLeft v x frames n t m b₀ b) where
+      (is : link ≡ numberOf (possible (linkScore v 0))) {m : ℕ} {b : List ℕ} (k : 1 ≤ m)
+      (d : TurnsLeft v x frames n t m b₀ b) where
     unfoldable pub turn-next : Turn v x n vertices gains link m b
     turn-next = record {
       k = getD frames (suc t) 0;
@@ -168,7 +172,7 @@ module _ {v x frames : List ℕ} {n : ℕ} {vertices : List (List ℕ)} {b₀ : 
       low = k;
       high = d .low;
       moves = moves;
-      links = links;
+      entries = links;
       link-is = is;
       stored = d .stored;
       within = d .within;

@@ -43,7 +43,7 @@ u32-other l i j v h =
 -- two halves make a token
 pub put-halves : (b : List ℕ) (k token : ℕ) (m b′ : List ℕ) → token < 2 ^ 64 → 8 * k + 8 ≤ length b
     → m ≡ sets b (8 * k) (u32Bytes (token % 4294967296)) → b′ ≡ sets m (8 * k + 4) (u32Bytes (token / 4294967296))
-        → SlotPut b k token b′
+    → SlotPut b k token b′
 unfolding tokenAt
 put-halves b k token m b′ f h p q = record {
   here = rw (low, high) (omega arith);

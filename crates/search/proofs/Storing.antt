@@ -103,7 +103,7 @@ module _ {v : List ℕ} {g : Graph} where
   pass-nothing n k score w (x ∷ us) P K p =
       pass-nothing n k score w us _
       (λ u s q. rw (put-nothing n P x 0 K (carried-nothing (plus (score x) (symbolScore v g k x 0)) (increment g w x))
-          q) (K u s q)) p
+      q) (K u s q)) p
       ∙ put-nothing n P x 0 K (carried-nothing (plus (score x) (symbolScore v g k x 0)) (increment g w x)) p
 
   -- nothing is offered over arcs that are impossible
@@ -113,7 +113,7 @@ module _ {v : List ℕ} {g : Graph} where
   pass-closed n k w l [] P K p = refl
   pass-closed n k w l (x ∷ us) P K p =
       pass-closed n k w l us _ (λ u s q.
-          rw (put-nothing n P x 0 K (closed (symbolScore v g k x 0) (increment g w x) l) q) (K u s q)) p
+      rw (put-nothing n P x 0 K (closed (symbolScore v g k x 0) (increment g w x) l) q) (K u s q)) p
       ∙ put-nothing n P x 0 K (closed (symbolScore v g k x 0) (increment g w x) l) p
 
 -- ---- where places lie
@@ -164,7 +164,7 @@ module _ {g : Graph} where
   pub movers : (n M w u d : ℕ) (o : Option ℤ) (l : List Hit) → wordCount g < 2 ^ 32 → M + frameLimit ≤ reach
       → bestTokens n l ≡ l
       → ((a : ℤ) → o ≡ some a → natAbs a ≤ frameLimit) → ((h : Hit) → List·Memᴰ h l → Bound g M w h)
-          → d + pathCount g u ≤ pathCount g w → Movers n o d l
+      → d + pathCount g u ≤ pathCount g w → Movers n o d l
   movers n M w u d o l W m k s f c = record {
     best = k;
     before = λ h i. bound-storable W (omega arith) (f h i);

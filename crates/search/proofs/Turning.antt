@@ -142,7 +142,7 @@ module _ {v x : List ℕ} {n : ℕ} {vertices gains : List (List ℕ)} {link w :
     roomy = t .roomy;
     vertex = t .high;
     root-is = λ e. absurd (false≢true e);
-    entry-gains = t .links;
+    entry-gains = t .entries;
     moved = linkScore v 0;
     score-is = refl;
     small = i16-range v _;

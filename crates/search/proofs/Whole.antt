@@ -120,7 +120,7 @@ module _ {v x frames : List ℕ} {n : ℕ} {vertices : List (List ℕ)} {b : Lis
         let all : d .s ≡ arrived v (graphOf x) P =
         sym (append-nil (d .s)) ∙ ap (λ j. d .s ++ flatMap (ending v (graphOf x) P) (downFrom j)) (sym none) ∙ d .left in
         ap (bestTokens n) all ∙ decoded-so frames (frame-count v frames (r .accepted) .0)
-            ∙ decoded-hits v (sound-run r) frames n
+        ∙ decoded-hits v (sound-run r) frames n
 
     pub ends-done : {best : List ℕ} → best ≡ slots n 0 list ++ replicate (8 - n) 0 → best ≡ held 8 (hits v (graphOf x) frames n)
     ends-done c =

@@ -112,7 +112,7 @@ pub record Renewing (n s : ℕ) (row part : List ℕ) : Type 0 where
   pub bound : {r : ℕ} {h : Hit} → r < s → List·Memᴰ h (P node r) → Bound (graphOf x) M node h
   pub fits : M + frameLimit ≤ reach
 
--- the store after state s - 1, and after all below s
+-- the store once state s is renewed, and once all states below s are
 unfoldable pub renewedOne : {n s : ℕ} {row part : List ℕ} → Renewing n (suc s) row part → Store
 renewedOne {n} {s = s} t = put (t .P) (t .node) s (bestTokens n (renewed (t .v) (graphOf (t .x)) (t .P) (t .k) (t .node) s))
 

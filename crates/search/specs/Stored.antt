@@ -120,7 +120,7 @@ pub record Turn (v x : List ℕ) (n : ℕ) (vertices gains : List (List ℕ)) (l
   pub low : 1 ≤ w
   pub high : w ≤ nodeCount x
   pub moves : MoveGains v x k gains
-  pub links : EntryGains v x k gains
+  pub entries : EntryGains v x k gains
   pub link-is : link ≡ numberOf (possible (linkScore v 0))
   pub stored : Stored v (graphOf x) n P b
   pub within : Within v (graphOf x) w M P

@@ -76,7 +76,7 @@ pub(crate) fn best_words(
     requires { ⌜ Empty (now store) ⌝ }
     ensures { λ r. ⌜ r ≡ held 8 (hits (now (voice .entry)) (graphOf (now (lexicon .entry))) (now (frames .entry)) n) ⌝ }
 {
-    // n is at least 1: said here, it takes the test of n out of every loop over a place
+    // never so: it tells the compiler that n is at least 1, which takes a test out of each loop over a place
     if n == 0 {
         return [0; 8];
     }

@@ -15,7 +15,7 @@ use crate::turns::take_turn;
 use decoder::score::Score;
 use endian::u16_at;
 
-// The numbers of a call: hits wanted, nodes, where the section Symbols begins, letters in use, and the link.
+// The numbers of a call: hits wanted, nodes, the offset of the section Symbols, letters in use, and the link.
 pub(crate) struct Numbers {
     pub n: usize,
     pub nodes: usize,
@@ -24,8 +24,8 @@ pub(crate) struct Numbers {
     pub link: Score,
 }
 
-// The gains of frame t: they stay where the symbol is that of the frame before, since a sound lasts longer than a
-// frame.
+// The gains of frame t. They depend on its symbol alone, so they stay where it is that of the frame before: a sound
+// lasts longer than a frame.
 fn new_gains(
     voice: &[u8],
     frames: &[u8],

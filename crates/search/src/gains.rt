@@ -8,9 +8,10 @@ ghost use lib.ListN.{length, getD};
 ghost use Rattle.endian.specs.Bytes.{i16};
 ghost use Rattle.voice.specs.Voice.{symbolsAt};
 ghost use Rattle.decoder.specs.Score.{numberOf, possible};
-ghost use Rattle.search.specs.Gains.{NearBias, numberSum, LetterRow, GainRow, LetterTable, GainsRoom, Gained, KnownSymbol, StatePut, FirstPut, letterIn};
+ghost use Rattle.search.specs.Gains.{NearBias, numberSum, LetterRow, GainRow, LetterTable, GainsRoom, Gained};
+ghost use Rattle.search.specs.Gains.{KnownSymbol, StatePut, FirstPut, letterIn};
 use crate::letters::FIRST_STATE;
-use crate::letters::LETTER;
+use crate::letters::INDEX;
 use crate::letters::LOOP;
 use crate::letters::STEP;
 use crate::letters::score_at;
@@ -34,7 +35,7 @@ fn gain(moved: Score, emission: Score) -> Score
     Score(moved.0 + emission.0 - BIAS)
 }
 
-// The score at an offset inside the voice model.
+// The emission at an offset inside the voice model, as a `Score`.
 fn emission_at(voice: &[u8], at: usize) -> Score
     requires { ⌜ at + 2 ≤ length (now voice) ⌝ }
     ensures { λ r. ⌜ r .0 ≡ numberOf (possible (i16 (now (voice .entry)) at)) ⌝ }
@@ -64,14 +65,14 @@ fn state_gains(emission: Score, s: usize, letter: &[u32; 10], row: &mut [u32; 8]
     row[STEP + s] = step.0;
 }
 
-// The row of one letter at a frame of symbol k, whose emission in the next state stands one state's emissions further
-// on.
+// The row of one letter, by its row in the call's table, at a frame of symbol k; `at` is the offset of the section
+// Symbols.
 fn letter_gains(voice: &[u8], at: usize, k: usize, letter: &[u32; 10]) -> [u32; 8]
     requires { ⌜ KnownSymbol (now voice) k × (at ≡ symbolsAt (now voice)) ⌝ }
     requires { ⌜ LetterRow (now voice) (now letter) ⌝ }
     ensures { λ r. ⌜ GainRow (now (voice .entry)) k (letterIn (now (letter .entry))) r ⌝ }
 {
-    let index = letter[LETTER] as usize;
+    let index = letter[INDEX] as usize;
     let first = letter[FIRST_STATE] as usize;
     let symbols = voice[at] as usize;
     let states = voice[2 + 2 * index] as usize;
@@ -79,6 +80,7 @@ fn letter_gains(voice: &[u8], at: usize, k: usize, letter: &[u32; 10]) -> [u32; 
     let mut row = first_gains(emission_at(voice, offset), letter);
     let mut s = 1;
     while s < states {
+        // the next state's emission of k
         offset += 2 * symbols;
         let emission = emission_at(voice, offset);
         state_gains(emission, s, letter, &mut row);
@@ -87,7 +89,7 @@ fn letter_gains(voice: &[u8], at: usize, k: usize, letter: &[u32; 10]) -> [u32; 
     row
 }
 
-// The table of a frame of symbol k, for the first `used` letters of the call's table.
+// The table of a frame of symbol k, for the first `used` letters of the call's table; `at` as above.
 pub(crate) fn frame_gains(
     voice: &[u8],
     at: usize,
@@ -102,7 +104,7 @@ pub(crate) fn frame_gains(
 {
     let mut i = 0;
     while i < used {
-        let letter = letters[i][LETTER] as usize;
+        let letter = letters[i][INDEX] as usize;
         gains[letter] = letter_gains(voice, at, k, &letters[i]);
         i += 1;
     }

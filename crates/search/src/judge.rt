@@ -1,4 +1,4 @@
-// What the search tests once the images are accepted: rows 11, 12 and 16.
+// What the search tests once the images are accepted: rows 11, 12 and 16 of document 01's refusal table.
 ghost use mathlib.Core.Path.{_≡_};
 ghost use lib.Dec.{leb};
 ghost use Rattle.endian.specs.Lists.{any};
@@ -15,7 +15,7 @@ use ranking::FRAMES;
 // The most hits of a list (row 12).
 const HITS: usize = 8;
 
-// Whether some symbol is not below K.
+// Whether some frame's symbol is not below the number of symbols.
 fn has_bad_symbol(symbols: u8, frames: &[u8]) -> bool
     ensures { λ r. ⌜ r ≡ any (λ k. leb symbols k) (now (frames .entry)) ⌝ }
 {

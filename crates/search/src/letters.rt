@@ -10,7 +10,8 @@ ghost use Rattle.voice.specs.Fields.{wellFormed};
 ghost use Rattle.voice.specs.Voice.{letterCount, linkScore, stateCount, symbolsAt, impossible, voiceVerdict};
 ghost use Rattle.lexicon.specs.Lexicon.{nodeCount, nodeLetter, lexiconVerdict};
 ghost use Rattle.checking.specs.Tables.{WellFormed};
-ghost use Rattle.search.specs.Gains.{letterPairs, pairScore, StoredPairs, LettersMarked, AtLetter, LetterRow, NodeLetters, StatePut, letterIn};
+ghost use Rattle.search.specs.Gains.{letterPairs, pairScore, StoredPairs, LettersMarked, AtLetter, LetterRow};
+ghost use Rattle.search.specs.Gains.{NodeLetters, StatePut, letterIn};
 use decoder::score::STORED_IMPOSSIBLE;
 use decoder::score::Score;
 use endian::i16_of;
@@ -21,11 +22,11 @@ pub(crate) const LOOP: usize = 0;
 
 pub(crate) const STEP: usize = 4;
 
-pub(crate) const LETTER: usize = 8;
+pub(crate) const INDEX: usize = 8;
 
 pub(crate) const FIRST_STATE: usize = 9;
 
-// The move scorer: of one letter's pairs, the loop (0) or step (1) of a state.
+// The score of a state's loop (0) or of the step out of it (1), from its letter's pairs.
 fn move_score(pairs: [[i16; 2]; 4], state: usize, which: usize) -> Score
     requires { ⌜ (state < 4) × (which < 2) ⌝ }
     requires { ⌜ StoredPairs pairs ⌝ }
@@ -54,7 +55,7 @@ fn pair_at(voice: &[u8], at: usize, there: bool) -> [i16; 2]
     [STORED_IMPOSSIBLE, STORED_IMPOSSIBLE]
 }
 
-// One letter's scores: four pairs of loop and step.
+// The scores of a letter whose states begin with number `first`: four pairs of loop and step.
 fn letter_pairs(voice: &[u8], first: usize, states: usize) -> [[i16; 2]; 4]
     requires { ⌜ voiceVerdict (now voice) ≡ wellFormed ⌝ }
     requires { ⌜ first + states ≤ stateCount (now voice) ⌝ }
@@ -68,7 +69,8 @@ fn letter_pairs(voice: &[u8], first: usize, states: usize) -> [[i16; 2]; 4]
     [first_pair, second_pair, third_pair, fourth_pair]
 }
 
-// Where the section Symbols begins: after the letters, the pairs of all states, and one link score.
+// Where the section Symbols begins: after the letters, the number of all states (two bytes), their pairs, the number of
+// links (one) and the link (two).
 pub(crate) fn symbols_at(voice: &[u8]) -> usize
     requires { ⌜ voiceVerdict (now voice) ≡ wellFormed ⌝ }
     ensures { λ r. ⌜ r ≡ symbolsAt (now (voice .entry)) ⌝ }
@@ -95,6 +97,7 @@ fn mark_letters(lexicon: &[u8], marks: &mut [bool; 64])
     let nodes = u16_at(lexicon, 0) as usize;
     let mut node = 0;
     while node < nodes {
+        // of node + 1: nodes have the numbers from 1 on
         let letter = lexicon[2 + node] as usize;
         marks[letter] = true;
         node += 1;

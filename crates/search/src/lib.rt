@@ -21,7 +21,7 @@ mod store;
 mod tokens;
 mod turns;
 
-// The answer is the first refusal that applies to decoding, or 0 where none does. The tokens are the hits, best first, with no token after them.
+// The first refusal that applies to decoding, or 0; and the hits as tokens, best first, with no token after them.
 pub struct Searched {
     pub answer: Answer,
     pub tokens: [u64; 8],
@@ -57,16 +57,16 @@ pub fn search(
     };
     let slots = find_slots(voice, lexicon, n as usize, &mut vertices);
     // a store of n tokens a place; checking left the work space clear, so nothing else has to be cleared again
-    let store = 8 * slots;
+    let bytes = 8 * slots;
     let tokens = best_words(
         voice,
         lexicon,
         frames,
         n as usize,
         &vertices,
-        &mut work[0..store],
+        &mut work[0..bytes],
     );
-    zero(&mut work[0..store]);
+    zero(&mut work[0..bytes]);
     Searched {
         answer: judged,
         tokens: tokens,

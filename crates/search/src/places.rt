@@ -11,10 +11,10 @@ use checking::PATHS;
 use endian::u16_at;
 
 // The letter of the sink, which has none: after the rows of 64 letters a frame's table of gains has one of no gain.
-pub(crate) const NO_LETTER: u32 = 64;
+const NO_LETTER: u32 = 64;
 
-// Puts the letter and the first slot of each node into the table of vertices, where each place has n: n times the
-// number of states of all nodes below it. Answers the number of all slots.
+// Puts the letter and the first slot of each node and of the sink into the table of vertices. A place has n slots, so a
+// node's first is n times the number of states of the nodes below it. Answers the number of all slots.
 pub(crate) fn find_slots(
     voice: &[u8],
     lexicon: &[u8],

@@ -10,7 +10,8 @@ ghost use Rattle.decoder.specs.Score.{bias};
 ghost use Rattle.search.specs.Slots.{slots};
 ghost use Rattle.search.specs.Held.{lift, held};
 ghost use Rattle.search.specs.Stored.{Stored, PassingOn, PassedOn, Turn, TurnDone};
-ghost use Rattle.search.specs.Carrying.{Staying, Arc, Own, Renewing, Renewal, stayed, overOne, renewedOne, renewedAll, renewal};
+ghost use Rattle.search.specs.Carrying.{Staying, Arc, Own, Renewing, Renewal, stayed, overOne, renewedOne};
+ghost use Rattle.search.specs.Carrying.{renewedAll, renewal};
 use crate::gains::ENTRY;
 use crate::letters::LOOP;
 use crate::letters::STEP;
@@ -38,8 +39,8 @@ fn number_at(lexicon: &[u8], at: usize) -> usize
     u16_of(lexicon[at], lexicon[at + 1]) as usize
 }
 
-// Passes tokens on over one arc, to vertex t: with the link of the letter that is left and the emission of the one
-// entered.
+// Passes a node's tokens on over one arc, to the first state of vertex t: the move scores the link of the letter that
+// is left, and the emission of the one that is entered is added.
 fn pass_over(
     lexicon: &[u8],
     n: usize,
@@ -60,7 +61,7 @@ fn pass_over(
 {
     let letter = vertices[t][LETTER] as usize;
     let emission = Score(gains[letter][ENTRY]);
-    // the sink has none
+    // as at the sink, which has none
     if emission.is_impossible() {
         return;
     }
@@ -69,7 +70,7 @@ fn pass_over(
     offer_from(store, n, from, slot, up, down);
 }
 
-// Passes the tokens of a node, which it has from a slot on, on to the first state of each node that it leads to.
+// Passes the tokens of a node's last state, n from slot `from` on, to the first state of each node that it leads to.
 fn pass_on(
     lexicon: &[u8],
     n: usize,
@@ -199,7 +200,7 @@ fn renew(part: &mut [u8], n: usize, states: usize, row: &[u32; 8])
     }
 }
 
-// The node's part of the store, which begins with slot `first`, is lent on to the token update.
+// Renews a node's states: its part of the store, which begins with slot `first`, is lent to `renew`.
 fn renew_node(store: &mut [u8], n: usize, first: usize, states: usize, row: &[u32; 8])
     requires { ⌜ Renewal n first states (now row) (now store) ⌝ }
     ensures { λ _. ⌜ ((t : Renewal n first states (now (row .entry)) (now (store .entry)))
@@ -210,7 +211,8 @@ fn renew_node(store: &mut [u8], n: usize, first: usize, states: usize, row: &[u3
     renew(&mut store[start..end], n, states, row);
 }
 
-// The turn of a node. Its successors get its old tokens, so it passes them on first.
+// The turn of a node. Its successors have higher numbers, so their turns are over; they get its old tokens, so it
+// passes these on before it renews its own states.
 pub(crate) fn take_turn(
     voice: &[u8],
     lexicon: &[u8],

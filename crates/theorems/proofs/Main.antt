@@ -1,7 +1,8 @@
 -- The main theorems: each demand of the customer and each promise of the README, as a statement whose proof cites its
 -- law. They speak of the definitions that the contracts name: a call answers its `..Answer`, and leaves its `..Out` in
 -- the output and its `..Work` in the work space. v is a voice model, x a lexicon, g its graph; out and work are what
--- output and work space held before the call. Assumes nothing.
+-- output and work space held before the call. That a call reads and writes nothing else, and keeps the length of what
+-- it is lent, is no statement here: the checker proves it of every function. Assumes nothing.
 use Prim.Native.Nat.{ℕ, _*_, _-_, _^_, _≤_, _<_}
 use mathlib.Core.Path.{_≡_, refl}
 use mathlib.Core.Bool.{true}
@@ -11,7 +12,7 @@ use mathlib.Core.Option.{some}
 use lib.IntN.{ℤ, pos, natAbs, _+ℤ_, _*ℤ_}
 use lib.Signed.{_≤ℤ_, _<ℤ_}
 use lib.ListN.{length, take, getD}
-use Rattle.endian.specs.Lists.{from}
+use Rattle.endian.specs.Lists.{from, isNone}
 use Rattle.endian.specs.Bytes.{Bytes, u32Bytes}
 use Rattle.call.specs.declared.Refusal.the-variants.{Frames}
 use Rattle.call.specs.Table.{value, on, numbers, AnswersBy}
@@ -26,12 +27,15 @@ use Rattle.graph.proofs.Theorems.{path-theorems, check-numbers}
 use Rattle.packing.specs.Width.{width, givenRows, widthAnswer}
 use Rattle.packing.specs.Packing.{packedSize, packed, unpacked, paddedWithZeros}
 use Rattle.packing.specs.Packing.{packRows, packAnswer, packOut, unpackRows, unpackAnswer, unpackOut}
-use Rattle.packing.proofs.Theorems.{width-theorems, packing-theorems, pack-numbers, unpack-numbers}
+use Rattle.packing.specs.Theorems.{CodesComeBack, BytesComeBack}
+use Rattle.packing.proofs.Theorems.{width-theorems, packing-theorems, codes-come-back, bytes-come-back}
+use Rattle.packing.proofs.Theorems.{pack-numbers, unpack-numbers}
 use Rattle.codes.specs.Lookup.{wordToCodeRows, wordToCodeAnswer, wordToCodeWork}
 use Rattle.codes.specs.Lookup.{codeToWordRows, codeToWordAnswer, codeToWordOut, codeToWordWork}
 use Rattle.codes.specs.Lookup.{listing, listRows, listAnswer, listOut, listWork}
 use Rattle.codes.proofs.Rows.{word-to-code-numbers, code-to-word-numbers, list-numbers}
-use Rattle.codes.proofs.Theorems.{code-theorems}
+use Rattle.codes.specs.Theorems.{WordComesBack, CodeComesBack}
+use Rattle.codes.proofs.Theorems.{code-theorems, word-comes-back, code-comes-back}
 use Rattle.ranking.specs.Hits.{Hit, hitBytes, hitsRead}
 use Rattle.ranking.specs.Mean.{mean, meanAnswer}
 use Rattle.ranking.proofs.Hits.{length-read}
@@ -54,7 +58,8 @@ module _ (v x : List ℕ) where
   -- ---- Demand 1: any call, whatever it is given
 
   module _ (frames word work out codes bytes : List ℕ) (n c W T : ℕ) (score : ℤ) where
-    -- A call answers its value where no row of its table applies, else the first refusal that applies: with a lexicon,
+    -- A call (`check`, `word_to_code`, `code_to_word`, `list`, `decode`; `pack`, `unpack`, `width`, `mean`) answers its
+    -- value where no row of its table applies, else the first refusal that applies: with a lexicon,
     lexicon-calls-answer :
         AnswersBy (firstRows v x work) (wordCount g) (checkAnswer v x work)
         × AnswersBy (wordToCodeRows v x word work) (codeOf g (pathOfWord v g word)) (wordToCodeAnswer v x word work)
@@ -115,7 +120,8 @@ module _ (v x : List ℕ) where
   -- ---- Demand 2: any accepted voice model and lexicon
 
   module _ (accepted : Accepted v x) where
-    -- The full paths, in the order of a depth-first walk, are exactly the paths of arcs from root to sink.
+    -- The full paths, which are listed as a depth-first walk completes them, are exactly the paths of arcs from root to
+    -- sink.
     full-paths : (p : List ℕ) → List·Memᴰ p (fullPaths g) ↔ FullPath g p
     full-paths = path-theorems v x accepted .full
 
@@ -127,6 +133,10 @@ module _ (v x : List ℕ) where
     -- A code is the number of full paths completed before: in this order the codes are 0, 1, .., W - 1.
     codes-in-order : map (pathCode g) (fullPaths g) ≡ from 0 (wordCount g)
     codes-in-order = path-theorems v x accepted .codes
+
+    -- Refusal 13: the bytes given spell no word exactly where they are no lexicon word.
+    no-word : (word : List ℕ) → (isNone (pathOfWord v g word) ≡ true) ↔ (¬ LexiconWord v g word)
+    no-word = code-theorems v x accepted .no-word
 
     -- Word to code and code to word undo each other, over all words and all numbers below the word count.
     lookups-undo : ((word : List ℕ) → LexiconWord v g word → wordOfCode v g (codeOf g (pathOfWord v g word)) ≡ word)
@@ -174,6 +184,10 @@ module _ (v x : List ℕ) where
     short-list : k < n → (word : List ℕ) → LexiconWord v g word → Off v g frames listed word → HasNoPath v g frames word
     short-list few = list-left .0 .short (rw (length-read (decodeOut v x frames n work out) k) few)
 
+-- The same of the calls: what one has answered, the other takes back.
+calls-undo : WordComesBack × CodeComesBack
+calls-undo = (word-comes-back, code-comes-back)
+
 -- ---- Packed codes, the mean, the program
 
 -- A code takes the least number of bits that tells W codes apart.
@@ -188,6 +202,9 @@ packing-undoes b = packing-theorems b .unpack-pack
 unpacking-undoes : (b n : ℕ) (bytes : List ℕ) → Bytes bytes → length bytes ≡ packedSize b n
     → paddedWithZeros b n bytes ≡ true → packed b (unpacked b n bytes) ≡ bytes
 unpacking-undoes b = packing-theorems b .pack-unpack
+
+pack-calls-undo : CodesComeBack × BytesComeBack
+pack-calls-undo = (codes-come-back, bytes-come-back)
 
 -- T × mean ≤ score < T × (mean + 1).
 mean-down : (score : ℤ) (T : ℕ) → 1 ≤ T

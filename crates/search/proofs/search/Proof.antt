@@ -65,7 +65,7 @@ table : (c : tie.After-enum-told) → Vertices (begin c .args .lexicon .now)
 table c =
     let i = accepted (passes c .images) in
     opened-vertices (record { letters = _; judged = i .lexicon }) _ (ap answerOf (c .enum-told .given .1))
-        (c .before .before .before .before .«open» .ensures .1 .1)
+    (c .before .before .before .before .«open» .ensures .1 .1)
 
 find-slots-requires : tie.Need-find-slots-requires
 find-slots-requires c κs =
@@ -128,17 +128,17 @@ wiped : (c : tie.After-zero) →
     let f = found (b .before .before) in
     let o = checked f .before .before .before .before in
     c .zero .last .0 ++ drop (size f)
-        (b .best-words .last .1 .1 .1 .1 .1 .0 ++ drop (size f) (o .«open» .last .1 .1 .0))
-        ≡ cleared (start f .args .work .now)
+    (b .best-words .last .1 .1 .1 .1 .1 .0 ++ drop (size f) (o .«open» .last .1 .1 .0))
+    ≡ cleared (start f .args .work .now)
 wiped c =
     let b = listed c in
     let f = found (b .before .before) in
     let o = checked f .before .before .before .before in
     part-zeroed (size f) (o .«open» .last .1 .1 .0) (start f .args .work .now) (b .best-words .last .1 .1 .1 .1 .1 .0)
-        (c .zero .last .0)
+    (c .zero .last .0)
     (o .«open» .ensures .1 .0) (small f)
     (passes (checked f) .room) (b .best-words .kept .1 .1 .1 .1 .1 .0
-        ∙ length-take-le (size f) (o .«open» .last .1 .1 .0) (fits f))
+    ∙ length-take-le (size f) (o .«open» .last .1 .1 .0) (fits f))
     (c .zero .ensures)
 
 returns-3 : tie.Need-returns-3
@@ -150,8 +150,8 @@ returns-3 c =
     let q = call-judged _ _ _ _ _ _ (passes (checked f)) ∙ sym (t .before .before .judge-call .ensures) in
     (sym q, (wiped z, b .best-words .ensures ∙ found-some _ _ _ _ _ _ (q ∙ ap answerOf (t .enum-told3 .given .1))))
 
-mul-store : tie.Need-mul-store
-mul-store c = let h = inside c in search needs
+mul-bytes : tie.Need-mul-bytes
+mul-bytes c = let h = inside c in search needs
 
 part-best-words-end : tie.Need-part-best-words-end
 part-best-words-end c = let h = fits (found c) in search needs
@@ -216,7 +216,7 @@ search-spec =
     same-length-2
     returns-2
     find-slots-requires
-    mul-store
+    mul-bytes
     sub-best-words
     part-best-words-start
     part-best-words-end

@@ -7,7 +7,8 @@ use Rattle.lexicon.specs.Lexicon.{sinkOf}
 use Rattle.graph.specs.Graph.{graphOf}
 use Rattle.checking.specs.Tables.{cappedCount}
 use Rattle.checking.specs.Filling.{AtVertex}
-use Rattle.checking.proofs.Filling.{FilledDownTo, vertex-small, count-there, sink-is, sink-small, filling-sink, filling-next, vertex-next, filled-whole}
+use Rattle.checking.proofs.Filling.{FilledDownTo, vertex-small, count-there, sink-is, sink-small, filling-sink}
+use Rattle.checking.proofs.Filling.{filling-next, vertex-next, filled-whole}
 use Rattle.checking.proofs.Capped.{capped-sink}
 use Rattle.checking.proofs.counts.count_paths.Statement.{statement}
 use Rattle.checking.proofs.counts.count_paths.Tie as tie

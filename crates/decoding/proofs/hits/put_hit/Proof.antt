@@ -24,11 +24,11 @@ score c =
     let v = c .before in
     c .i32-bytes .ensures
     ∙ ap i32Bytes (toZ-ofZ {w = w32} (record { sfits = v .value .ok }) ∙ v .value .ensures
-        ∙ ap valueOf (v .before .before .score .ensures))
+    ∙ ap valueOf (v .before .before .score .ensures))
 
 code : (c : tie.After-u32-bytes) →
     c .u32-bytes .result ≡ u32Bytes
-        (hitOf (c .before .before .before .before .before .before .before .before .before .before .before .args .token .0) .code)
+    (hitOf (c .before .before .before .before .before .before .before .before .before .before .before .args .token .0) .code)
 unfolding hitOf codePart
 code c = c .u32-bytes .ensures ∙ ap u32Bytes (c .before .code .ensures)
 

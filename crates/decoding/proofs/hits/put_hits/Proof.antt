@@ -6,7 +6,8 @@ use native.Mathlib.Omega.{arith}
 use borrow.Author.Needs.{needs}
 use lib.ListN.{length, getD}
 use Rattle.search.proofs.Told.{same-told, other-told}
-use Rattle.decoding.proofs.Listing.{Written, write-start, write-stop, write-all, write-done, write-room, write-next}
+use Rattle.decoding.proofs.Listing.{Written, write-start, write-stop, write-all, write-done, write-room}
+use Rattle.decoding.proofs.Listing.{write-next}
 use Rattle.decoding.proofs.hits.put_hits.Statement.{statement}
 use Rattle.decoding.proofs.hits.put_hits.Tie as tie
 
@@ -39,7 +40,7 @@ returns c =
 -- there is a token
 there : (c : tie.Else1 Inv-loop μ-loop) →
     let l = c .before .before .before in ¬ (getD (l .before .before .before .args .tokens .now) (l .before .loop .i) 0
-        ≡ 0)
+    ≡ 0)
 there c = other-told (c .before .is-none .ensures) (c .if1 .left)
 
 put-hit-requires : tie.Need-put-hit-requires Inv-loop μ-loop
@@ -53,7 +54,7 @@ loop-again c =
     let e = c .before .before .before .before in
     let l = e .before .before .before in
     write-next (l .before .before .before .pre) (l .before .loop .inv) (slot l) (there e)
-        (c .before .before .put-hit .ensures)
+    (c .before .before .put-hit .ensures)
 
 same-length-2 : tie.Need-same-length-2 Inv-loop μ-loop
 same-length-2 c = c .before .loop .inv .long

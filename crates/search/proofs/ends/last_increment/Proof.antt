@@ -41,7 +41,7 @@ next : (c : tie.In-loop Inv-loop μ-loop) →
     let l = c .before in
     let a = l .before .before .before .before .before .args in
     ArcNext (a .lexicon .now) (a .node) (l .loop .at)
-        (arcsIn (a .vertices .now) (a .node) + 2 + 2 * l .before .u16-at2 .result)
+    (arcsIn (a .vertices .now) (a .node) + 2 + 2 * l .before .u16-at2 .result)
     (l .loop .inv .counts .later)
 next c = let p = c .before .before .before .before .before .before .pre in ahead-arc (p .0) (p .1) (c .before .loop .inv) (c .loop-test .taken)
 
@@ -69,7 +69,7 @@ count : (c : tie.After-increment Inv-loop μ-loop) →
     let l = n .before in
     let a = l .before .before .before .before .before .before .args in
     pathsIn (a .vertices .now) (n .u16-at3 .result) ≡ pathCount (graphOf (a .lexicon .now))
-        (u16 (a .lexicon .now) (l .before .loop .at))
+    (u16 (a .lexicon .now) (l .before .loop .at))
 count c =
     let n = c .before .before in
     let p = n .before .before .before .before .before .before .before .pre in

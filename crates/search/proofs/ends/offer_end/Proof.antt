@@ -2,14 +2,15 @@
 -- state holds. Assumes nothing.
 use native.Mathlib.Omega.{arith}
 use borrow.Author.Needs.{needs}
-use Rattle.search.proofs.Closing.{arcs-of, EndPlace, end-place, end-none, end-there, end-nothing, end-offer, end-offered}
+use Rattle.search.proofs.Closing.{arcs-of, EndPlace, end-place, end-none, end-there, end-nothing, end-offer}
+use Rattle.search.proofs.Closing.{end-offered}
 use Rattle.search.proofs.ends.offer_end.Statement.{statement}
 use Rattle.search.proofs.ends.offer_end.Tie as tie
 
 -- where the node's last state stands
 at : (c : tie.Start)
     → EndPlace (c .args .voice .now) (c .args .lexicon .now) (c .args .n) (c .args .vertices .now) (c .args .node)
-        (c .args .store .now)
+    (c .args .store .now)
 at c = end-place (c .pre .ready) (c .pre .roomy) (c .pre .low) (c .pre .high)
 
 returns : tie.Need-returns

@@ -42,8 +42,14 @@ numbers : (c : tie.After-symbols-at Inv-loop μ-loop) →
     let t = f .before .before in
     let a = start c .args in
     CallNumbers (a .voice .now) (a .lexicon .now)
-    (record { n = a .n; nodes = u .u16-at .result; symbols = c .symbols-at .result; used =
-        t .letter-table .result; link = f .from-stored .result })
+    (record {
+      n = a .n;
+      nodes = u .u16-at .result;
+      symbols = c .symbols-at .result;
+      used =
+          t .letter-table .result;
+      link = f .from-stored .result;
+    })
     (t .letter-table .last .1 .1 .0)
 unfolding nodeCount
 numbers c =

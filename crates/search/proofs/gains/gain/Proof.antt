@@ -21,7 +21,7 @@ returns-2 : tie.Need-returns-2
 unfolding numberOf
 returns-2 c =
     let z : c .before .before .before .before .args .emission .0 ≡ 0 = same-told (c .before .is-impossible2 .ensures)
-        (c .if2 .taken) in
+    (c .if2 .taken) in
     rw z (sym (sum-second _))
 
 -- both are above 0

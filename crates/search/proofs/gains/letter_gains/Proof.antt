@@ -13,7 +13,8 @@ use Rattle.voice.proofs.Scores.{symbols-there, symbols-few}
 use Rattle.decoder.specs.Score.{numberOf, possible}
 use Rattle.search.specs.Gains.{loopGain, stepGain, entryNumber, AtLetter}
 use Rattle.search.proofs.Gaining.{letter-small, letter-few, letter-byte, letter-there, first-small}
-use Rattle.search.proofs.Filling.{Filling, fill-done, loop-near, step-near, first-gained, next-gained, emitted-is, emission-inside, emission-near, emission-next, row-letter}
+use Rattle.search.proofs.Filling.{Filling, fill-done, loop-near, step-near, first-gained, next-gained}
+use Rattle.search.proofs.Filling.{emitted-is, emission-inside, emission-near, emission-next, row-letter}
 use Rattle.search.proofs.gains.letter_gains.Statement.{statement}
 use Rattle.search.proofs.gains.letter_gains.Tie as tie
 
@@ -45,7 +46,7 @@ letter c = row-letter (c .pre .0 .0 .well-formed) (c .pre .1)
 begins : (c : tie.Start Inv-loop μ-loop) →
     let a = c .args in
     a .at + 1 + 2 * (first-of c * getD (a .voice .now) (a .at) 0 + a .k)
-        ≡ symbolsAt (a .voice .now) + 1 + 2 * ((first-of c + 0) * symbolCount (a .voice .now) + a .k)
+    ≡ symbolsAt (a .voice .now) + 1 + 2 * ((first-of c + 0) * symbolCount (a .voice .now) + a .k)
 unfolding symbolCount
 begins c = rw (c .pre .0 .1, add-zero (first-of c))
 
@@ -77,9 +78,11 @@ emitted c =
 first-gains-requires : tie.Need-first-gains-requires Inv-loop μ-loop
 first-gains-requires c κs =
     let s = begin c in
-    let a = letter s in
-    (emission-near _ _ (c .emission-at .ensures), loop-near (s .pre .1 .scores)
-        {s = 0} (states-range _ (a .well-formed) (a .letter) .0))
+    let a = letter s in (
+      emission-near _ _ (c .emission-at .ensures),
+      loop-near (s .pre .1 .scores)
+          {s = 0} (states-range _ (a .well-formed) (a .letter) .0),
+    )
 
 loop-holds : tie.Need-loop-holds Inv-loop μ-loop
 unfolding entryNumber
@@ -89,7 +92,7 @@ loop-holds c =
     let a = s .args in
     let b = letter s in
     let e : r .emission-at .result .0
-        ≡ numberOf (possible (emission (a .voice .now) (firstState (a .voice .now) (l-of s) + 0) (a .k))) =
+    ≡ numberOf (possible (emission (a .voice .now) (firstState (a .voice .now) (l-of s) + 0) (a .k))) =
     rw (b .begins) at (emitted r) in
     record {
       last = 0;
@@ -114,8 +117,8 @@ small c = omega (arith, state c, letter-few (letter (start c)))
 next : (c : tie.In-loop Inv-loop μ-loop) →
     let a = start c .args in
     c .before .loop .offset + 2 * getD (a .voice .now) (a .at) 0
-        ≡ symbolsAt (a .voice .now) + 1 + 2 * ((first-of (start c) + c .before .loop .s) * symbolCount
-        (a .voice .now) + a .k)
+    ≡ symbolsAt (a .voice .now) + 1 + 2 * ((first-of (start c) + c .before .loop .s) * symbolCount
+    (a .voice .now) + a .k)
 unfolding symbolCount
 next c =
     let i = c .before .loop .inv in
@@ -152,14 +155,17 @@ loop-again c =
       here = next l;
       filled = next-gained (s .pre .1 .scores) (s .args .k) (letter s) (i .is) (state l)
           (emitted-is (s .pre .0 .0) (first-of s + l .before .loop .s) (next l) (r .emission-at2 .ensures))
-              (i .filled) e;
+          (i .filled) e;
       entry = e .others 4 (λ q. omega (arith, small l)) (λ q. omega (arith, i .is)) ∙ i .entry;
     }
 
 returns : tie.Need-returns Inv-loop μ-loop
 unfolding states
-returns c = let i = c .before .loop .inv in record { moves = fill-done (c .loop-test .left) (i .filled); entry =
-    i .entry }
+returns c = let i = c .before .loop .inv in record {
+  moves = fill-done (c .loop-test .left) (i .filled);
+  entry =
+      i .entry;
+}
 
 pub letter-gains-spec : {M : Type 1} → statement M
 letter-gains-spec =

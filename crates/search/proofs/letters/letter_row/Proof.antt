@@ -8,7 +8,8 @@ use borrow.Author.Needs.{needs}
 use lib.ListN.{getD}
 use Rattle.voice.specs.Voice.{states}
 use Rattle.search.specs.Gains.{loopNumber, stepNumber}
-use Rattle.search.proofs.Gaining.{letter-small, letter-few, letter-byte, letter-there, letter-inside, pairs-stored}
+use Rattle.search.proofs.Gaining.{letter-small, letter-few, letter-byte, letter-there, letter-inside}
+use Rattle.search.proofs.Gaining.{pairs-stored}
 use Rattle.search.proofs.Filling.{Filling, fill-start, fill-done, scores-next, letter-scored}
 use Rattle.search.proofs.letters.letter_row.Statement.{statement}
 use Rattle.search.proofs.letters.letter_row.Tie as tie
@@ -34,7 +35,7 @@ loop-holds c = record { filled = fill-start (omega arith); letter = refl; begin 
 -- the state whose turn it is
 state : (c : tie.In-loop Inv-loop μ-loop) →
     let s = c .before .before .before .before .before in c .before .loop .s < states (s .args .voice .now)
-        (s .args .letter)
+    (s .args .letter)
 unfolding states
 state c = c .loop-test .taken
 

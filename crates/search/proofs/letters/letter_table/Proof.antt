@@ -23,9 +23,14 @@ abbrev μ-loop : tie.MeasureT-loop
 
 mark-letters-requires : tie.Need-mark-letters-requires Inv-loop μ-loop
 mark-letters-requires c κs =
-    let p = c .before .before .before .pre .0 in
-    ((record { letters = _; judged = p .1 }, λ u l h. omega
-        (arith, letter-known _ _ (p .1) u l h, letters-few _ (p .0))), marks-start refl)
+    let p = c .before .before .before .pre .0 in (
+      (
+        record { letters = _; judged = p .1 },
+        λ u l h. omega
+            (arith, letter-known _ _ (p .1) u l h, letters-few _ (p .0)),
+      ),
+      marks-start refl,
+    )
 
 loop-holds : tie.Need-loop-holds Inv-loop μ-loop
 loop-holds c = tabling-start (c .before .before .before .before .before .pre .1)
@@ -59,7 +64,7 @@ returns c =
     let m = c .before .before .before in
     let p = m .before .before .before .before .pre .0 in
     tabling-done (letters-few _ (p .0)) (λ u l h. letter-known _ _ (p .1) u l h) (c .loop-test .left)
-        (m .mark-letters .ensures) (c .before .loop .inv)
+    (m .mark-letters .ensures) (c .before .loop .inv)
 
 pub letter-table-spec : {M : Type 1} → statement M
 letter-table-spec =

@@ -14,7 +14,7 @@ returns c =
     let s = c .before .before in
     let a = s .args in
     rw (back (getD (getD (a .t1) (a .state) []) (a .which) (pos 0))
-        (s .pre .1 (a .state) (a .which))) at (c .from-stored .ensures)
+    (s .pre .1 (a .state) (a .which))) at (c .from-stored .ensures)
 
 pub move-score-spec : {M : Type 1} → statement M
 move-score-spec =

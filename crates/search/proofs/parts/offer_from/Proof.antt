@@ -7,7 +7,8 @@ use borrow.Author.Needs.{needs}
 use borrow.Rule.Slice.PartMut.{same-len-mid, mid-len}
 use Rattle.search.specs.Slots.{tokenAt, enter, PlaceRoom}
 use Rattle.search.proofs.Told.{same-told, other-told, below-told}
-use Rattle.search.proofs.Lending.{part-size, part-slots, part-room, part-back, FromLeft, from-start, from-none, from-fits, from-late, from-next, from-done}
+use Rattle.search.proofs.Lending.{part-size, part-slots, part-room, part-back, FromLeft, from-start, from-none}
+use Rattle.search.proofs.Lending.{from-fits, from-late, from-next, from-done}
 use Rattle.search.proofs.parts.offer_from.Statement.{statement}
 use Rattle.search.proofs.parts.offer_from.Tie as tie
 
@@ -29,7 +30,7 @@ returns c =
     let e = t .before .before in
     let p = start e .pre in
     from-none (p .0) (p .1) (e .before .loop .inv) (e .loop-test .taken) (t .token-at .ensures)
-        (same-told (c .before .is-none .ensures) (c .if1 .taken))
+    (same-told (c .before .is-none .ensures) (c .if1 .taken))
 
 -- there is a token
 token : (c : tie.Else1 Inv-loop μ-loop) → ¬ (c .before .before .token-at .result .0 ≡ 0)
@@ -58,7 +59,7 @@ returns-2 c =
     let a = start e .args in
     let late : t .token-at .result .0 + a .up - a .down < tokenAt (e .before .loop .store) (a .slot + a .n - 1) =
     rw (m .moved .ensures, q .token-at2 .ensures) at (below-told {a = m .moved .result .0} {b = q .token-at2 .result .0}
-        (c .before .outranks .ensures) (c .if2 .taken)) in
+    (c .before .outranks .ensures) (c .if2 .taken)) in
     from-late (p .0) (p .1) (e .before .loop .inv) (e .loop-test .taken) (t .token-at .ensures) late
 
 insert-requires : tie.Need-insert-requires Inv-loop μ-loop
@@ -86,7 +87,7 @@ loop-again c =
     (part-back (l .store) _ (a .slot) (a .n) _ _ size room
     (long ∙ mid-len (8 * a .slot) (8 * a .slot + 8 * a .n) (l .store) room)
     (rw (m .moved .ensures) at (w .insert .ensures) ∙ ap (enter (t .token-at .result .0 + a .up - a .down))
-        (part-slots (l .store) (a .slot) (a .n) _ size)))
+    (part-slots (l .store) (a .slot) (a .n) _ size)))
 
 returns-3 : tie.Need-returns-3 Inv-loop μ-loop
 returns-3 c =

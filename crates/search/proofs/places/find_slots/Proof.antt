@@ -48,10 +48,10 @@ next : (c : tie.In-loop Inv-loop μ-loop) →
     let a = l .before .before .before .before .args in
     let count = getD (a .voice .now) (2 + 2 * getD (a .lexicon .now) (1 + l .loop .node) 0) 0 in
     (a .n * count ≤ 32) × SlotsFound (a .voice .now) (a .lexicon .now) (a .n) (l .loop .node + 1)
-        (l .loop .slot + a .n * count) (a .vertices .now)
+    (l .loop .slot + a .n * count) (a .vertices .now)
     (set (l .loop .vertices) (l .loop .node)
-        (arcsIn (l .loop .vertices) (l .loop .node) ∷ pathsIn (l .loop .vertices) (l .loop .node) ∷ l .loop .slot ∷ getD
-        (a .lexicon .now) (1 + l .loop .node) 0 ∷ []))
+    (arcsIn (l .loop .vertices) (l .loop .node) ∷ pathsIn (l .loop .vertices) (l .loop .node) ∷ l .loop .slot ∷ getD
+    (a .lexicon .now) (1 + l .loop .node) 0 ∷ []))
 next c =
     let s = c .before .before .before .before .before in
     slots-next (images s) (s .pre .1 .0) (c .before .loop .inv) (high c)
@@ -84,7 +84,7 @@ returns : tie.Need-returns Inv-loop μ-loop
 returns c =
     let l = c .before in
     slots-done (l .before .loop .inv) (let h = l .loop-test .left in omega (arith, counted (l .before .before)))
-        (last (l .before))
+    (last (l .before))
 
 pub find-slots-spec : {M : Type 1} → statement M
 find-slots-spec =

@@ -33,7 +33,7 @@ returns c =
     let p = s .pre .0 in
     l .inv .1
     ∙ copied-early (s .args .n) (l .k) (s .args .part .now) (e .loop-test .taken) (p .0 .few) (p .1)
-        (sym (t .token-at .ensures) ∙ same-told (c .before .is-none .ensures) (c .if1 .taken))
+    (sym (t .token-at .ensures) ∙ same-told (c .before .is-none .ensures) (c .if1 .taken))
 
 loop-again : tie.Need-loop-again Inv-loop μ-loop
 loop-again c =

@@ -11,9 +11,16 @@ use Rattle.search.proofs.store.insert.Tie as tie
 push-down-requires : tie.Need-push-down-requires
 push-down-requires c κs =
     let a = c .before .before .before .before .args in
-    let tokens = slots (a .n) 0 (a .part .now) in
-    (omega (arith, c .before .position .ensures, position-within (a .token .0) tokens, length-slots (a .n) 0
-        (a .part .now)), search needs)
+    let tokens = slots (a .n) 0 (a .part .now) in (
+      omega (
+        arith,
+        c .before .position .ensures,
+        position-within (a .token .0) tokens,
+        length-slots (a .n) 0
+            (a .part .now),
+      ),
+      search needs,
+    )
 
 returns : tie.Need-returns
 returns c =

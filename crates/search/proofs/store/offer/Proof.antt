@@ -64,7 +64,7 @@ returns c =
     let s = start t in
     let a = s .args in
     sym (offered-ends (a .up) (a .down) (a .n) (l .i) (tokens s) (slots (a .n) 0 (l .list))
-        (t .before .loop-test .taken) (s .pre .1 .long)
+    (t .before .loop-test .taken) (s .pre .1 .long)
     (sym (read t) ∙ same-told (c .before .is-none .ensures) (c .if1 .taken)))
     ∙ l .inv .left
 
@@ -73,7 +73,7 @@ moved-requires c κs =
     let t = c .before .before in
     let s = start t in
     rw (read t) (s .pre .1 .fits _ (from-holds (s .args .n) (t .before .before .loop .i) (tokens s)
-        (t .before .loop-test .taken) (s .pre .1 .long)) (there c))
+    (t .before .loop-test .taken) (s .pre .1 .long)) (there c))
 
 returns-2 : tie.Need-returns-2 Inv-loop μ-loop
 returns-2 c =
@@ -85,9 +85,9 @@ returns-2 c =
     let a = s .args in
     let late : getD (tokens s) (l .i) 0 + a .up - a .down < tokenAt (l .list) (a .n - 1) =
     rw (m .moved .ensures, read t, q .token-at2 .ensures) at (below-told {a = m .moved .result .0}
-        {b = q .token-at2 .result .0} (c .before .outranks .ensures) (c .if2 .taken)) in
+    {b = q .token-at2 .result .0} (c .before .outranks .ensures) (c .if2 .taken)) in
     sym (offered-late (a .up) (a .down) (a .n) (l .i) 0 (a .n - 1) (tokens s) (l .list) (omega arith)
-        (t .before .loop-test .taken) (s .pre .1 .long)
+    (t .before .loop-test .taken) (s .pre .1 .long)
     (s .pre .1 .source) (l .inv .falling) late)
     ∙ l .inv .left
 
@@ -107,7 +107,7 @@ loop-again c =
       falling = rw entered (falling-enter (l .inv .falling) (getD (tokens s) (l .i) 0 + a .up - a .down));
       left = ap (offered (a .up) (a .down) (drop (l .i + 1) (take (a .n) (tokens s)))) entered
           ∙ sym (offered-goes (a .up) (a .down) (a .n) (l .i) (tokens s) (slots (a .n) 0 (l .list))
-              (t .before .loop-test .taken) (s .pre .1 .long) (there e))
+          (t .before .loop-test .taken) (s .pre .1 .long) (there e))
           ∙ l .inv .left;
     }
 
@@ -117,7 +117,7 @@ returns-3 c =
     let s = c .before .before .before .before in
     let a = s .args in
     sym (offered-done (a .up) (a .down) (a .n) (l .i) (tokens s) (slots (a .n) 0 (l .list)) (c .loop-test .left))
-        ∙ l .inv .left
+    ∙ l .inv .left
 
 pub offer-spec : {M : Type 1} → statement M
 offer-spec =
@@ -127,7 +127,7 @@ offer-spec =
     μ-loop
     loop-holds
     (λ c. let r = c .before .before .before .before .pre .0 in let h = c .loop-test .taken in let k =
-        r .room in search needs)
+    r .room in search needs)
     (λ c κs. let r = c .before .before .before .before .pre .0 in omega (arith, c .loop-test .taken, r .room))
     (λ c κs. search needs)
     (λ c. c .before .before .before .before .loop .inv .long)

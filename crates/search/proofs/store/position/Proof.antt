@@ -49,8 +49,12 @@ loop-again c =
     let l = e .before .loop in
     let a = e .before .before .before .args in (
       omega (arith, less e),
-      omega (arith, l .inv .1, passed (a .part .now) (a .n) (a .token .0) (l .k) (less e) (rank (c .before .before))
-          (sym (same (c .before)) ∙ c .if3 .left)),
+      omega (
+        arith,
+        l .inv .1,
+        passed (a .part .now) (a .n) (a .token .0) (l .k) (less e) (rank (c .before .before))
+            (sym (same (c .before)) ∙ c .if3 .left),
+      ),
     )
 
 returns : tie.Need-returns Inv-loop μ-loop
@@ -74,8 +78,13 @@ returns-3 c =
     let e = c .before .before .before .before .before in
     let l = e .before .loop in
     let a = e .before .before .before .args in
-    omega (arith, l .inv .0, l .inv .1, beaten (a .part .now) (a .n) (a .token .0) (l .k) (less e)
-        (rank (c .before .before)) (sym (same (c .before)) ∙ c .if3 .taken))
+    omega (
+      arith,
+      l .inv .0,
+      l .inv .1,
+      beaten (a .part .now) (a .n) (a .token .0) (l .k) (less e)
+          (rank (c .before .before)) (sym (same (c .before)) ∙ c .if3 .taken),
+    )
 
 pub position-spec : {M : Type 1} → statement M
 position-spec =

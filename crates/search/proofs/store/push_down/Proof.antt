@@ -33,12 +33,12 @@ module _ (w : tie.After-put-token Inv-loop μ-loop) where
       stops (codePart (a .token .0)) (tokenAt (l .part) (l .at)) ≡ true
       → slots (a .n) 0 (w .put-token .last .0)
       ≡ slots (a .from) 0 (a .part .now) ++ push (a .token .0) (codePart (a .token .0))
-          (slots (a .n - a .from) (a .from) (a .part .now))
+      (slots (a .n - a .from) (a .from) (a .part .now))
   ended e =
       let a = w .before .before .before .before .before .before .before .args in
       let l = w .before .before .before .before .before .loop in
       ends (l .part) (a .n) (l .at) (l .carry .0) (codePart (a .token .0)) (w .put-token .last .0)
-          (w .put-token .ensures)
+      (w .put-token .ensures)
       (w .before .before .before .before .loop-test .taken) e
       ∙ l .inv .2
 
@@ -46,19 +46,19 @@ returns : tie.Need-returns Inv-loop μ-loop
 returns c =
     let w = c .before .before .before .before in
     ended w (stop-none _ _ _ (w .before .before .token-at .ensures)
-        (same-told (c .before .is-none .ensures) (c .if1 .taken)))
+    (same-told (c .before .is-none .ensures) (c .if1 .taken)))
 
 -- the test on the code is the push's
 tested : (c : tie.After-has-code-of Inv-loop μ-loop) →
     let w = c .before .before .before .before .before in
     let l = w .before .before .before .before .before .loop in
     stops (codePart (w .before .before .before .before .before .before .before .args .token .0))
-        (tokenAt (l .part) (l .at)) ≡ c .has-code-of .result
+    (tokenAt (l .part) (l .at)) ≡ c .has-code-of .result
 tested c =
     let w = c .before .before .before .before .before in
     let n = c .before .before in
     stop-test _ _ _ (w .before .before .token-at .ensures) (other-told (n .is-none .ensures) (c .before .if1 .left))
-        ∙ sym (c .has-code-of .ensures)
+    ∙ sym (c .has-code-of .ensures)
 
 returns-2 : tie.Need-returns-2 Inv-loop μ-loop
 returns-2 c = ended (c .before .before .before .before .before .before) (tested (c .before) ∙ c .if2 .taken)
@@ -74,7 +74,7 @@ loop-again c =
       w .put-token .ensures .long ∙ l .inv .1,
       ap (λ t. slots (l .at + 1) 0 part ++ push t code (slots (a .n - (l .at + 1)) (l .at + 1) part)) (w .before .before .token-at .ensures)
           ∙ goes (l .part) (a .n) (l .at) (l .carry .0) code part (w .put-token .ensures)
-              (w .before .before .before .before .loop-test .taken)
+          (w .before .before .before .before .loop-test .taken)
           (tested (c .before) ∙ c .if2 .left)
           ∙ l .inv .2,
     )
@@ -84,7 +84,7 @@ returns-3 c =
     let l = c .before .loop in
     let a = c .before .before .before .args in
     all-pushed (l .part) (a .n) (l .at) (l .carry .0) (codePart (a .token .0)) (l .inv .0) (c .loop-test .left)
-        ∙ l .inv .2
+    ∙ l .inv .2
 
 pub push-down-spec : {M : Type 1} → statement M
 push-down-spec =

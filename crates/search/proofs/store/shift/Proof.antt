@@ -43,9 +43,9 @@ moved-requires c κs =
     let l = t .before .before .before .loop in
     let s = t .before .before .before .before .before in
     let was : t .token-at .result .0 ≡ tokenAt (s .args .part .now) (l .k) = t .token-at .ensures
-        ∙ l .inv .2 (l .k) (omega arith) in
+    ∙ l .inv .2 (l .k) (omega arith) in
     rw was (s .pre .1 _ (slots-hold (s .args .n) (l .k) (s .args .part .now) (t .before .before .loop-test .taken))
-        (λ z. there e (was ∙ z)))
+    (λ z. there e (was ∙ z)))
 
 loop-again : tie.Need-loop-again Inv-loop μ-loop
 loop-again c =

@@ -11,7 +11,7 @@ returns c =
     let p = q .before .before .before .before .before in
     let s = p .before .before .before .before in
     put-halves (s .args .part .now) (s .args .k) (s .args .token .0) _ _ (omega arith) (s .pre) (p .put-u32 .ensures)
-        (q .put-u322 .ensures)
+    (q .put-u322 .ensures)
 
 pub put-token-spec : {M : Type 1} → statement M
 put-token-spec =

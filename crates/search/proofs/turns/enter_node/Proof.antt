@@ -15,7 +15,8 @@ use Rattle.search.specs.Gains.{numberSum}
 use Rattle.search.proofs.Told.{same-told, other-told}
 use Rattle.search.proofs.Lending.{part-size, part-slots, part-room, part-back}
 use Rattle.search.proofs.Carrying.{pass-to-nothing, root-done}
-use Rattle.search.proofs.PassingOn.{ArcRead, arc-few, arc-read, arc-slot, arc-offering, arc-done, root-node, root-increment, root-sum}
+use Rattle.search.proofs.PassingOn.{ArcRead, arc-few, arc-read, arc-slot, arc-offering, arc-done, root-node}
+use Rattle.search.proofs.PassingOn.{root-increment, root-sum}
 use Rattle.search.proofs.turns.enter_node.Statement.{statement}
 use Rattle.search.proofs.turns.enter_node.Tie as tie
 
@@ -69,12 +70,12 @@ returns-2 c =
     let size = part-size slot (a .n) in
     let r = room s .room in
     λ t. arc-done t (node s) (gain s)
-        (root-done (a .increment) (arc-offering t (node s) (gain s)) (possible e)
-        (root-increment (s .pre) (a .increment) refl)
+    (root-done (a .increment) (arc-offering t (node s) (gain s)) (possible e)
+    (root-increment (s .pre) (a .increment) refl)
     (part-back (a .store .now) _ slot (a .n) _ _ size r
     (w .insert .kept .0 ∙ mid-len (8 * slot) (8 * slot + 8 * a .n) (a .store .now) r)
     (rw (o .of .ensures) at (w .insert .ensures) ∙ ap (enter (score s * 4294967296 + (4294967295 - a .increment)))
-        (part-slots (a .store .now) slot (a .n) _ size))))
+    (part-slots (a .store .now) slot (a .n) _ size))))
 
 pub enter-node-spec : {M : Type 1} → statement M
 enter-node-spec =

@@ -10,7 +10,8 @@ use Rattle.decoder.specs.Score.{bias}
 use Rattle.search.specs.Held.{lift}
 use Rattle.search.specs.Places.{arcsIn, pathsIn}
 use Rattle.search.specs.Stored.{source, PassingOn}
-use Rattle.search.proofs.PassingOn.{PassingLeft, list-of, passing-start, next-there, left-arc, successor-few, root-few, passing-next, passing-done}
+use Rattle.search.proofs.PassingOn.{PassingLeft, list-of, passing-start, next-there, left-arc, successor-few}
+use Rattle.search.proofs.PassingOn.{root-few, passing-next, passing-done}
 use Rattle.search.proofs.turns.enter_nodes.Statement.{statement}
 use Rattle.search.proofs.turns.enter_nodes.Tie as tie
 
@@ -55,7 +56,7 @@ entry c =
 
 sum : (c : tie.After-number-at2 Inv-loop μ-loop) →
     c .before .before .loop .increment + pathsIn (start (c .before .before) .args .vertices .now)
-        (c .number-at2 .result) < 4294967296
+    (c .number-at2 .result) < 4294967296
 sum c =
     let l = c .before .before in
     let t = start l .pre in
@@ -75,7 +76,7 @@ loop-again c =
     let l = m .before .before in
     λ t.
     let p = passing-next t (l .loop .inv t) (m .before .loop-test .taken) (m .number-at2 .ensures)
-        (o .enter-node .ensures) refl
+    (o .enter-node .ensures) refl
     (o .enter-node .kept .1 .1 .1 .1 .1 .1 .0) in
     let e : lift + l .loop .increment + pathsIn (start l .args .vertices .now) (m .number-at2 .result)
     ≡ lift + (l .loop .increment + pathsIn (start l .args .vertices .now) (m .number-at2 .result)) = omega arith in

@@ -13,7 +13,9 @@ use Rattle.search.specs.Places.{arcsIn, pathsIn}
 use Rattle.search.specs.Stored.{source, PassingOn}
 use Rattle.search.proofs.Told.{same-told, other-told}
 use Rattle.search.proofs.Carrying.{node-first}
-use Rattle.search.proofs.PassingOn.{PassingLeft, source-room, vertex-few, list-of, passing-start, next-there, left-arc, successor-few, down-few, passing-next, passing-done, passing-nothing, passing-closed}
+use Rattle.search.proofs.PassingOn.{PassingLeft, source-room, vertex-few, list-of, passing-start, next-there}
+use Rattle.search.proofs.PassingOn.{left-arc, successor-few, down-few, passing-next, passing-done}
+use Rattle.search.proofs.PassingOn.{passing-nothing, passing-closed}
 use Rattle.search.proofs.turns.pass_on.Statement.{statement}
 use Rattle.search.proofs.turns.pass_on.Tie as tie
 
@@ -83,7 +85,7 @@ entry c =
 
 sum : (c : tie.After-number-at2 Inv-loop μ-loop) →
     c .before .before .loop .down + pathsIn (start (c .before .before) .args .vertices .now)
-        (c .number-at2 .result) < lift + 4294967296
+    (c .number-at2 .result) < lift + 4294967296
 sum c =
     let l = c .before .before in
     let t = start l .pre in
@@ -104,7 +106,7 @@ loop-again c =
     let m = o .before .before in
     let l = m .before .before in
     λ t. passing-next t (l .loop .inv t) (m .before .loop-test .taken) (m .number-at2 .ensures)
-        (o .pass-over .ensures .0) (o .pass-over .ensures .1)
+    (o .pass-over .ensures .0) (o .pass-over .ensures .1)
     (o .pass-over .kept .1 .1 .1 .1 .1 .1 .1 .1 .0)
 
 same-length-3 : tie.Need-same-length-3 Inv-loop μ-loop

@@ -12,7 +12,8 @@ use Rattle.search.specs.Stored.{source}
 use Rattle.search.specs.Gains.{numberSum}
 use Rattle.search.proofs.Told.{same-told, other-told}
 use Rattle.search.proofs.Carrying.{node-ready, node-done}
-use Rattle.search.proofs.PassingOn.{ArcRead, arc-few, arc-read, arc-gain, arc-slot, arc-offering, arc-apart, arc-source, arc-done, arc-node, arc-closed}
+use Rattle.search.proofs.PassingOn.{ArcRead, arc-few, arc-read, arc-gain, arc-slot, arc-offering, arc-apart}
+use Rattle.search.proofs.PassingOn.{arc-source, arc-done, arc-node, arc-closed}
 use Rattle.search.proofs.turns.pass_over.Statement.{statement}
 use Rattle.search.proofs.turns.pass_over.Tie as tie
 

@@ -12,7 +12,8 @@ use Rattle.search.specs.Held.{held}
 use Rattle.search.specs.Carrying.{Renewing, stayed}
 use Rattle.search.proofs.Told.{same-told, other-told}
 use Rattle.search.proofs.Lending.{part-size, part-slots, part-room, part-back}
-use Rattle.search.proofs.Renewing.{entry-few, slot-few, staying, lent-staying, lent-stayed, first-done, loop-done, step-few, slot-covers, step-ready, step-done}
+use Rattle.search.proofs.Renewing.{entry-few, slot-few, staying, lent-staying, lent-stayed, first-done}
+use Rattle.search.proofs.Renewing.{loop-done, step-few, slot-covers, step-ready, step-done}
 use Rattle.search.proofs.turns.renew_state.Statement.{statement}
 use Rattle.search.proofs.turns.renew_state.Tie as tie
 
@@ -30,7 +31,7 @@ stay-requires c κs =
     let size = part-size (a .n * a .s) (a .n) in
     let z : 0 + a .s ≡ a .s = omega arith in
     rw z (lent-staying (s .pre) _ (part-slots (a .part .now) (a .n * a .s) (a .n) _ size)
-        (omega (arith, part-room (room s) _ size)))
+    (omega (arith, part-room (room s) _ size)))
 
 -- the place comes back with its tokens moved by the loop, and nothing else changes
 module _ (c : tie.After-stay) where
@@ -48,14 +49,14 @@ module _ (c : tie.After-stay) where
 
   looped : (t : Renewing (s .args .n) (suc (s .args .s)) (s .args .row .now) (s .args .part .now))
       → Changed (s .args .n * s .args .s) (s .args .n) (held (s .args .n) (stayed (staying t))) (s .args .part .now)
-          back
+      back
   looped t =
       let a = s .args in
       let slot = a .n * a .s in
       let z : 0 + a .s ≡ a .s = omega arith in
       let there = part-slots (a .part .now) slot (a .n) _ size in
       let long : 8 * a .n ≤ length (take (8 * slot + 8 * a .n - 8 * slot) (drop (8 * slot) (a .part .now))) =
-          omega (arith, part-room (room s) _ size) in
+      omega (arith, part-room (room s) _ size) in
       part-back (a .part .now) _ slot (a .n) _ _ size (room s .room)
       (c .stay .kept .0 ∙ mid-len (8 * slot) (8 * slot + 8 * a .n) (a .part .now) (room s .room))
       ((rw z at (c .stay .ensures)) (lent-staying t _ there long) ∙ ap (held (a .n)) (lent-stayed t _ there long))
@@ -64,7 +65,7 @@ module _ (c : tie.After-stay) where
   kept =
       let slot = s .args .n * s .args .s in
       same-len-mid (8 * slot) (8 * slot + 8 * s .args .n - 8 * slot) (s .args .part .now) (c .stay .last .0)
-          (c .stay .kept .0)
+      (c .stay .kept .0)
 
 returns : tie.Need-returns
 returns c = let o = c .before .before .before in λ t. first-done t (c .if1 .taken) (looped o t)

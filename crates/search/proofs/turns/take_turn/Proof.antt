@@ -2,7 +2,8 @@
 -- nothing.
 use mathlib.Core.Path.{_∙_}
 use borrow.Author.Needs.{needs}
-use Rattle.search.proofs.Turning.{node-there, node-few, letter-small, letter-there, count-range, slot-few, renewing, passing-on, turn-done}
+use Rattle.search.proofs.Turning.{node-there, node-few, letter-small, letter-there, count-range, slot-few}
+use Rattle.search.proofs.Turning.{renewing, passing-on, turn-done}
 use Rattle.search.proofs.turns.take_turn.Statement.{statement}
 use Rattle.search.proofs.turns.take_turn.Tie as tie
 
@@ -53,5 +54,5 @@ take-turn-spec =
     (λ c. let h = letter-small (start (c .before .before .before) .pre) in search needs)
     renew-node-requires
     (λ c. let r = c .before .before in r .renew-node .kept .0
-        ∙ r .before .before .before .before .before .pass-on .kept .1 .1 .1 .1 .1 .1 .1 .0)
+    ∙ r .before .before .before .before .before .pass-on .kept .1 .1 .1 .1 .1 .1 .1 .0)
     returns)
