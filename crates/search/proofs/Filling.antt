@@ -195,16 +195,21 @@ pub gained-start : {v : List ℕ} {k : ℕ} {scores gains : List (List ℕ)} →
 gained-start e = record { room = e; row = λ i h. absurd (omega arith) }
 
 pub gained-next : {v : List ℕ} {k i : ℕ} {scores gains : List (List ℕ)} {row : List ℕ} → letterAt scores i < 64
-    → Gained v k scores i gains
+    → Gained v k scores i gains → 8 ≤ length row
     → GainRow v k (letterAt scores i) row → Gained v k scores (i + 1) (set gains (letterAt scores i) row)
-gained-next {v} {k} {i} {scores} {gains} {row} h d p = record {
+gained-next {v} {k} {i} {scores} {gains} {row} h d w p = record {
   room = record {
     long = length-set gains (letterAt scores i) row ∙ d .room .long;
+    wide = λ {l} m. wide l m (ℕ-discrete l (letterAt scores i));
     nothing = rw (getD-set-other gains (letterAt scores i) 64 row [] (λ q. omega arith)) (d .room .nothing);
   };
   row = λ j m. at j m (ℕ-discrete (letterAt scores j) (letterAt scores i));
 }
   where
+    wide : (l : ℕ) → l < 65 → Dec (l ≡ letterAt scores i) → 8 ≤ length (getD (set gains (letterAt scores i) row) l [])
+    wide l m (yes e) = rw (e, getD-set-same gains (letterAt scores i) row [] (omega (arith, d .room .long))) w
+    wide l m (no e) = rw (getD-set-other gains (letterAt scores i) l row [] e) (d .room .wide m)
+
     at : (j : ℕ) → j < i + 1 → Dec (letterAt scores j ≡ letterAt scores i)
         → GainRow v k (letterAt scores j) (getD (set gains (letterAt scores i) row) (letterAt scores j) [])
     at j m (yes e) = rw (e, getD-set-same gains (letterAt scores i) row [] (omega (arith, d .room .long))) p
@@ -263,11 +268,11 @@ module _ {v : List ℕ} {l : ℕ} {scores : List ℕ} (e : LetterEntries v (loop
       (emission-range v _ k))
 
   -- the gain of the first state's loop
-  pub first-gained : (k : ℕ) {first emitted b : ℕ} {row : List ℕ} → AtLetter v l first
-      → emitted ≡ numberOf (possible (emission v (first + 0) k))
-      → FirstPut (numberSum (getD scores 0 0) emitted) b row → Filling v (loopGain v k) (stepGain v k) l 1 row
-  first-gained k {first} {emitted} {b} {row} a q d = record {
-    long = omega (arith, d .long);
+  pub first-gained : (k : ℕ) {first emitted b : ℕ} {row₀ row : List ℕ} → AtLetter v l first
+      → emitted ≡ numberOf (possible (emission v (first + 0) k)) → 8 ≤ length row₀
+      → FirstPut (numberSum (getD scores 0 0) emitted) b row₀ row → Filling v (loopGain v k) (stepGain v k) l 1 row
+  first-gained k {first} {emitted} {b} {row₀} {row} a q w d = record {
+    long = omega (arith, d .long, w);
     loop-at = λ r h. at r h (ℕ-discrete r 0);
     step-at = λ r h. absurd (omega arith);
   }

@@ -120,6 +120,7 @@ pub record GainRow (v : List ℕ) (k l : ℕ) (row : List ℕ) : Type 0 where
 -- room for the rows of 64 letters, and after them a row of no emission, for the sink
 pub record GainsRoom (gains : List (List ℕ)) : Type 0 where
   pub long : length gains ≡ 65
+  pub wide : {l : ℕ} → l < 65 → 8 ≤ length (getD gains l [])
   pub nothing : getD (getD gains 64 []) 4 0 ≡ 0
 
 -- the table of a frame: row l is that of letter l, for the letters of the first n rows of a call's table
@@ -151,11 +152,11 @@ pub record StatePut (row : List ℕ) (s a b : ℕ) (row′ : List ℕ) : Type 0 
   pub step : 1 ≤ s → getD row′ (4 + s) 0 ≡ b
   pub others : (i : ℕ) → ¬ (i ≡ s) → ¬ (i ≡ 4 + s) → getD row′ i 0 ≡ getD row i 0
 
--- a row of the first state's gains, of its loop and of its entry
-pub record FirstPut (a b : ℕ) (row : List ℕ) : Type 0 where
-  pub long : length row ≡ 8
-  pub loop : getD row 0 0 ≡ a
-  pub entry : getD row 4 0 ≡ b
+-- the first state's gains are put into a row: of its loop, and of its entry
+pub record FirstPut (a b : ℕ) (row row′ : List ℕ) : Type 0 where
+  pub long : length row′ ≡ length row
+  pub loop : getD row′ 0 0 ≡ a
+  pub entry : getD row′ 4 0 ≡ b
 
 -- a symbol of a well-formed voice model
 pub record KnownSymbol (v : List ℕ) (k : ℕ) : Type 0 where

@@ -43,13 +43,15 @@ fn emission_at(voice: &[u8], at: usize) -> Score
     Score::from_stored(score_at(voice, at))
 }
 
-// A row with the gain of the loop of a letter's first state, and its emission.
-fn first_gains(emission: Score, letter: &[u32; 10]) -> [u32; 8]
-    requires { ⌜ NearBias (emission .0) × NearBias (getD (now letter) 0 0) ⌝ }
-    ensures { λ r. ⌜ FirstPut (numberSum (getD (now (letter .entry)) 0 0) (emission .0)) (emission .0) r ⌝ }
+// Puts the gain of the loop of a letter's first state, and its emission.
+fn first_gains(emission: Score, letter: &[u32; 10], row: &mut [u32; 8])
+    requires { ⌜ NearBias (emission .0) × NearBias (getD (now letter) 0 0) × (8 ≤ length (now row)) ⌝ }
+    ensures { λ _. ⌜ FirstPut (numberSum (getD (now (letter .entry)) 0 0) (emission .0)) (emission .0)
+        (now (row .entry)) (now (row .exit)) ⌝ }
 {
     let stay = gain(Score(letter[LOOP]), emission);
-    [stay.0, 0, 0, 0, emission.0, 0, 0, 0]
+    row[LOOP] = stay.0;
+    row[ENTRY] = emission.0;
 }
 
 // Puts the gains of a later state: of its loop, and of the step into it.
@@ -65,28 +67,28 @@ fn state_gains(emission: Score, s: usize, letter: &[u32; 10], row: &mut [u32; 8]
     row[STEP + s] = step.0;
 }
 
-// The row of one letter, by its row in the call's table, at a frame of symbol k; `at` is the offset of the section
-// Symbols.
-fn letter_gains(voice: &[u8], at: usize, k: usize, letter: &[u32; 10]) -> [u32; 8]
+// Puts the row of one letter, by its row in the call's table, at a frame of symbol k; `at` is the offset of the section
+// Symbols. It is made in its place, since a row that is returned would be copied.
+fn letter_gains(voice: &[u8], at: usize, k: usize, letter: &[u32; 10], row: &mut [u32; 8])
     requires { ⌜ KnownSymbol (now voice) k × (at ≡ symbolsAt (now voice)) ⌝ }
-    requires { ⌜ LetterRow (now voice) (now letter) ⌝ }
-    ensures { λ r. ⌜ GainRow (now (voice .entry)) k (letterIn (now (letter .entry))) r ⌝ }
+    requires { ⌜ LetterRow (now voice) (now letter) × (8 ≤ length (now row)) ⌝ }
+    ensures { λ _. ⌜ GainRow (now (voice .entry)) k (letterIn (now (letter .entry))) (now (row .exit))
+        × (8 ≤ length (now (row .exit))) ⌝ }
 {
     let index = letter[INDEX] as usize;
     let first = letter[FIRST_STATE] as usize;
     let symbols = voice[at] as usize;
     let states = voice[2 + 2 * index] as usize;
     let mut offset = at + 1 + 2 * (first * symbols + k);
-    let mut row = first_gains(emission_at(voice, offset), letter);
+    first_gains(emission_at(voice, offset), letter, row);
     let mut s = 1;
     while s < states {
         // the next state's emission of k
         offset += 2 * symbols;
         let emission = emission_at(voice, offset);
-        state_gains(emission, s, letter, &mut row);
+        state_gains(emission, s, letter, row);
         s += 1;
     }
-    row
 }
 
 // The table of a frame of symbol k, for the first `used` letters of the call's table; `at` as above.
@@ -105,7 +107,7 @@ pub(crate) fn frame_gains(
     let mut i = 0;
     while i < used {
         let letter = letters[i][INDEX] as usize;
-        gains[letter] = letter_gains(voice, at, k, &letters[i]);
+        letter_gains(voice, at, k, &letters[i], &mut gains[letter]);
         i += 1;
     }
 }

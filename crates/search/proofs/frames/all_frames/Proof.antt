@@ -1,14 +1,16 @@
 -- `frames::all_frames` meets its contract: the table of the letters in use is filled, and then before each turn t
 -- frames are done. The measure is the frames left. Assumes nothing.
-use Prim.Native.Nat.{_-_, _≤_}
+use Prim.Native.Nat.{ℕ, _-_, _≤_}
 use mathlib.Core.Path.{_≡_, refl, ap, _∙_}
 use native.Mathlib.Omega.{arith}
 use borrow.Author.Needs.{needs}
 use lib.IntN.{ℤ}
-use lib.ListN.{length}
+use mathlib.Core.List.{List, []}
+use lib.ListN.{length, replicate, getD-replicate}
 use Rattle.lexicon.specs.Lexicon.{nodeCount}
 use Rattle.graph.proofs.Accepted.{AcceptedImages, accepted}
 use Rattle.decoder.specs.Score.{numberOf, possible}
+use Rattle.search.specs.Gains.{GainsRoom}
 use Rattle.search.specs.Running.{CallNumbers, FramesDone}
 use Rattle.search.proofs.Gaining.{back}
 use Rattle.search.proofs.Running.{frame-count, run-same, frames-start, frames-next, frames-end}
@@ -63,8 +65,19 @@ numbers c =
       letters-of = f .before .before .letter-table .ensures;
     }
 
+-- no letter has a gain yet
+abbrev none : List ℕ
+none = replicate 8 0
+
+no-gains : GainsRoom (replicate 65 none)
+no-gains = record {
+  long = refl;
+  wide = λ {l} h. rw (getD-replicate 65 l none [] h) (omega arith);
+  nothing = refl;
+}
+
 loop-holds : tie.Need-loop-holds Inv-loop μ-loop
-loop-holds c = (frames-start (record { long = refl; nothing = refl }) (start c .pre .1), omega arith, refl)
+loop-holds c = (frames-start no-gains (start c .pre .1), omega arith, refl)
 
 frame-requires : tie.Need-frame-requires Inv-loop μ-loop
 frame-requires c κs =

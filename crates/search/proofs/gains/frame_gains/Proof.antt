@@ -36,13 +36,13 @@ few c = let h = c .loop-test .taken in omega (arith, start c .pre .1 .0 .few)
 
 letter-gains-requires : tie.Need-letter-gains-requires Inv-loop μ-loop
 letter-gains-requires c κs =
-    let l = c .before .before in
-    (start l .pre .0, row l)
+    let l = c .before .before .before in
+    (start l .pre .0, (row l, l .before .loop .inv .room .wide (omega (arith, letter l))))
 
 loop-again : tie.Need-loop-again Inv-loop μ-loop
 loop-again c =
-    let l = c .before .before .before in
-    gained-next (letter l) (l .before .loop .inv) (c .letter-gains .ensures)
+    let l = c .before .before .before .before in
+    gained-next (letter l) (l .before .loop .inv) (c .letter-gains .ensures .1) (c .letter-gains .ensures .0)
 
 returns : tie.Need-returns Inv-loop μ-loop
 returns c = gained-done (c .loop-test .left) (c .before .loop .inv)
@@ -60,10 +60,10 @@ frame-gains-spec =
     (λ c. let h = letter (c .before) in search needs)
     (λ c. let h = few (c .before) in search needs)
     (λ c. let h = few (c .before) in search needs)
+    (λ c. let h = letter (c .before .before) in search needs)
+    (λ c. let h = letter (c .before .before) in search needs)
     letter-gains-requires
-    (λ c. let h = letter (c .before .before .before) in search needs)
-    (λ c. let h = letter (c .before .before .before) in search needs)
-    (λ c. let h = few (c .before .before .before) in search needs)
+    (λ c. let h = few (c .before .before .before .before) in search needs)
     (λ c. search needs)
     loop-again
     returns)

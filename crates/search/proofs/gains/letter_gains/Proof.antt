@@ -26,11 +26,11 @@ record StatesDone (v : List ℕ) (k l first offset s : ℕ) (row : List ℕ) : T
   entry : getD row 4 0 ≡ entryNumber v k l
 
 abbrev Inv-loop : tie.InvT-loop
-Inv-loop voice at k letter index first symbols states offset₀ row₀ s₀ offset row s =
+Inv-loop voice at k letter row₀ index first symbols states offset₀ s₀ row offset s =
     StatesDone voice k index first offset s row
 
 abbrev μ-loop : tie.MeasureT-loop
-μ-loop voice at k letter index first symbols states offset₀ row₀ s₀ offset row s = states - s
+μ-loop voice at k letter row₀ index first symbols states offset₀ s₀ row offset s = states - s
 
 -- the letter, its first state, and where it is known
 abbrev l-of : tie.Start Inv-loop μ-loop → ℕ
@@ -40,7 +40,7 @@ abbrev first-of : tie.Start Inv-loop μ-loop → ℕ
 first-of c = getD (c .args .letter .now) 9 0
 
 letter : (c : tie.Start Inv-loop μ-loop) → AtLetter (c .args .voice .now) (l-of c) (first-of c)
-letter c = row-letter (c .pre .0 .0 .well-formed) (c .pre .1)
+letter c = row-letter (c .pre .0 .0 .well-formed) (c .pre .1 .0)
 
 -- where the first emission stands
 begins : (c : tie.Start Inv-loop μ-loop) →
@@ -77,17 +77,18 @@ emitted c =
 
 first-gains-requires : tie.Need-first-gains-requires Inv-loop μ-loop
 first-gains-requires c κs =
-    let s = begin c in
+    let e = c .before in
+    let s = begin e in
     let a = letter s in (
-      emission-near _ _ (c .emission-at .ensures),
-      loop-near (s .pre .1 .scores)
-          {s = 0} (states-range _ (a .well-formed) (a .letter) .0),
+      emission-near _ _ (e .emission-at .ensures),
+      loop-near (s .pre .1 .0 .scores) {s = 0} (states-range _ (a .well-formed) (a .letter) .0),
+      s .pre .1 .1,
     )
 
 loop-holds : tie.Need-loop-holds Inv-loop μ-loop
 unfolding entryNumber
 loop-holds c =
-    let r = c .before in
+    let r = c .before .before in
     let s = begin r in
     let a = s .args in
     let b = letter s in
@@ -98,12 +99,12 @@ loop-holds c =
       last = 0;
       is = refl;
       here = begins s;
-      filled = first-gained (s .pre .1 .scores) (a .k) b (emitted r) (c .first-gains .ensures);
+      filled = first-gained (s .pre .1 .0 .scores) (a .k) b (emitted r) (s .pre .1 .1) (c .first-gains .ensures);
       entry = c .first-gains .ensures .entry ∙ e;
     }
 
 abbrev start : tie.In-loop Inv-loop μ-loop → tie.Start Inv-loop μ-loop
-start c = c .before .before .before .before .before .before .before .before .before
+start c = c .before .before .before .before .before .before .before .before .before .before
 
 -- the state whose turn it is
 state : (c : tie.In-loop Inv-loop μ-loop) → c .before .loop .s < states (start c .args .voice .now) (l-of (start c))
@@ -138,7 +139,7 @@ state-gains-requires c κs =
     let r = c .before in
     let l = r .before in
     let i = l .before .loop .inv in
-    let e = start l .pre .1 .scores in
+    let e = start l .pre .1 .0 .scores in
     let h = state l in
     ((small l, emission-near _ _ (r .emission-at2 .ensures), i .filled .long), (loop-near e h, step-near e (i .is) h))
 
@@ -153,7 +154,7 @@ loop-again c =
       last = l .before .loop .s;
       is = omega arith;
       here = next l;
-      filled = next-gained (s .pre .1 .scores) (s .args .k) (letter s) (i .is) (state l)
+      filled = next-gained (s .pre .1 .0 .scores) (s .args .k) (letter s) (i .is) (state l)
           (emitted-is (s .pre .0 .0) (first-of s + l .before .loop .s) (next l) (r .emission-at2 .ensures))
           (i .filled) e;
       entry = e .others 4 (λ q. omega (arith, small l)) (λ q. omega (arith, i .is)) ∙ i .entry;
@@ -161,11 +162,9 @@ loop-again c =
 
 returns : tie.Need-returns Inv-loop μ-loop
 unfolding states
-returns c = let i = c .before .loop .inv in record {
-  moves = fill-done (c .loop-test .left) (i .filled);
-  entry =
-      i .entry;
-}
+returns c =
+    let i = c .before .loop .inv in
+    (record { moves = fill-done (c .loop-test .left) (i .filled); entry = i .entry }, i .filled .long)
 
 pub letter-gains-spec : {M : Type 1} → statement M
 letter-gains-spec =
