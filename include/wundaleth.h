@@ -20,7 +20,7 @@
  * be shared.
  *
  * What it needs. The library is compiled for x86-64 Linux. Of the C library it needs memcpy and memset, and nothing
- * else: no heap, no files, no locale. A call takes less than 16 KiB of stack: decoding takes the most, some 11.8 KB,
+ * else: no heap, no files, no locale. A call takes less than 16 KiB of stack: listing takes the most, some 15.5 KB,
  * as bench/stack measures it.
  *
  * Codes belong to one lexicon image: two builds of one list may give a word two codes. Send a code only with the
