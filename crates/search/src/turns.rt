@@ -40,7 +40,7 @@ fn number_at(lexicon: &[u8], at: usize) -> usize
 }
 
 // Passes a node's tokens on over one arc, to the first state of vertex t: the move scores the link of the letter that
-// is left, and the emission of the one that is entered is added.
+// is left, and the emission of the one that is entered is added. The lexicon is there for the contract alone.
 fn pass_over(
     lexicon: &[u8],
     n: usize,
@@ -104,7 +104,8 @@ fn pass_on(
     }
 }
 
-// The root's token enters node t over the arc of that increment: its score is the emission alone.
+// The root's token enters node t over the arc of that increment: its score is the emission alone. The lexicon is there
+// for the contract alone.
 fn enter_node(
     lexicon: &[u8],
     n: usize,
