@@ -13,8 +13,8 @@ use Rattle.lexicon.specs.Lexicon.{sinkOf, arcsAt, lexiconVerdict}
 use Rattle.graph.specs.Graph.{Graph, graphOf, pathCount}
 
 -- the row of vertex u: the offset of its successors' count, which their list follows (0 to N); its path count (0 to
--- N + 1); and 0 for its first slot in the token store and for its letter, which the search fills. After the sink
--- nothing but 0
+-- N + 1); and 0 for its first slot in the token store and for the emission that enters it, which the search fills.
+-- After the sink nothing but 0
 unfoldable pub vertexRow : List ℕ → ℕ → List ℕ
 vertexRow x u =
     cond (ltb u (sinkOf x)) (arcsAt x u) 0 ∷ cond (ltb u (suc (sinkOf x))) (pathCount (graphOf x) u) 0 ∷ 0 ∷ 0 ∷ []

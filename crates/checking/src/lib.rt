@@ -38,14 +38,14 @@ pub const LETTERS: u16 = 32;
 const WORDS: u32 = 1048576;
 
 // The columns of a vertex's row: the offset of its successors' count, which their list follows; its path count; and its
-// first slot in the token store and its letter, which are the search's to fill.
+// first slot in the token store and the emission that enters it at a frame, which are the search's to fill.
 pub const ARCS_AT: usize = 0;
 
 pub const PATHS: usize = 1;
 
 pub const FIRST_SLOT: usize = 2;
 
-pub const LETTER: usize = 3;
+pub const EMISSION: usize = 3;
 
 // Rows 6 to 10, or W. A count of paths stops above the limit, so that W is exact wherever row 9 does not apply.
 fn judge_graph(

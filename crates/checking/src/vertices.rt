@@ -3,12 +3,12 @@ ghost use mathlib.Core.Path.{_≡_};
 ghost use mathlib.Core.List.{[], _∷_};
 ghost use Rattle.checking.specs.Tables.{verticesOf, Tables, WellFormed};
 use crate::ARCS_AT;
+use crate::EMISSION;
 use crate::FIRST_SLOT;
-use crate::LETTER;
 use crate::PATHS;
 use crate::offsets::number_at;
 
-// The row of a vertex, without slot and letter.
+// The row of a vertex, without slot and emission.
 fn row_of(offset: u16, paths: u32) -> [u32; 4]
     ensures { λ r. ⌜ r ≡ offset ∷ paths ∷ 0 ∷ 0 ∷ [] ⌝ }
 {
@@ -16,7 +16,7 @@ fn row_of(offset: u16, paths: u32) -> [u32; 4]
     row[ARCS_AT] = offset as u32;
     row[PATHS] = paths;
     row[FIRST_SLOT] = 0;
-    row[LETTER] = 0;
+    row[EMISSION] = 0;
     row
 }
 

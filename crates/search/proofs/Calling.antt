@@ -109,10 +109,10 @@ module _ (v x work : List ℕ) where
     call-run {t = t} p c o s l = record {
       ready = record {
         accepted = p .images;
+        long = s .long;
         arcs = λ {u} h. s .arcs u ∙ sym (column-at 0 u t) ∙ entry (o .tables .located) (omega arith);
         paths = λ {u} h. s .paths u ∙ sym (column-at 1 u t) ∙ entry (o .tables .counted) (omega arith);
         first = s .first;
-        letter = s .letter;
         sink = s .sink;
       };
       roomy = record { one = c .one; few = c .few; room = omega (arith, l, s .total) };

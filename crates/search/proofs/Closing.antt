@@ -151,7 +151,7 @@ module _ {v x : List ℕ} {n : ℕ} {vertices : List (List ℕ)} {w : ℕ} {b : 
 
   slot-is : firstIn vertices w + n * lastAt v x w ≡ n * (firstPlace v (graphOf x) w + lastAt v x w)
   unfolding sinkOf
-  slot-is = ap (λ (a : ℕ). a + n * lastAt v x w) (r .first low high) ∙ sym (mul-add n _ _)
+  slot-is = ap (λ (a : ℕ). a + n * lastAt v x w) (r .first low (omega arith)) ∙ sym (mul-add n _ _)
 
   pub end-place : EndPlace v x n vertices w b
   unfolding nodeLetter states lastState sink

@@ -201,12 +201,11 @@ gained-next {v} {k} {i} {scores} {gains} {row} h d w p = record {
   room = record {
     long = length-set gains (letterAt scores i) row ∙ d .room .long;
     wide = λ {l} m. wide l m (ℕ-discrete l (letterAt scores i));
-    nothing = rw (getD-set-other gains (letterAt scores i) 64 row [] (λ q. omega arith)) (d .room .nothing);
   };
   row = λ j m. at j m (ℕ-discrete (letterAt scores j) (letterAt scores i));
 }
   where
-    wide : (l : ℕ) → l < 65 → Dec (l ≡ letterAt scores i) → 8 ≤ length (getD (set gains (letterAt scores i) row) l [])
+    wide : (l : ℕ) → l < 64 → Dec (l ≡ letterAt scores i) → 8 ≤ length (getD (set gains (letterAt scores i) row) l [])
     wide l m (yes e) = rw (e, getD-set-same gains (letterAt scores i) row [] (omega (arith, d .room .long))) w
     wide l m (no e) = rw (getD-set-other gains (letterAt scores i) l row [] e) (d .room .wide m)
 
@@ -331,4 +330,4 @@ module _ {v x : List ℕ} {n : ℕ} {scores : List (List ℕ)} (t : NodeLetters 
   move-gains = λ u l h. node-row u l h .moves
 
   pub entry-gains : EntryGains v x k gains
-  entry-gains = record { room = g .room; entry = λ u l h. node-row u l h .entry }
+  entry-gains = λ u l h. node-row u l h .entry

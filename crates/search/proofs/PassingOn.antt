@@ -33,7 +33,7 @@ use Rattle.passing.proofs.InPlace.{put-node}
 use Rattle.search.specs.Slots.{Changed}
 use Rattle.search.specs.Held.{held, pad, lift, downOf}
 use Rattle.search.specs.Gains.{NearBias, numberSum, entryNumber}
-use Rattle.search.specs.Places.{firstPlace, firstSlot, arcsIn, pathsIn, firstIn, vertexLetter}
+use Rattle.search.specs.Places.{firstPlace, firstSlot, arcsIn, pathsIn, firstIn, emissionIn}
 use Rattle.search.specs.Stored.{VertexTable, Bound, Place, Stored, source, PassingOn, PassedOn, passedOn}
 use Rattle.search.specs.Carrying.{Worth, Offering, joined, Arc, overOne}
 use Rattle.search.proofs.Numbers.{token-some}
@@ -68,12 +68,10 @@ module _ {v x : List ℕ} {n : ℕ} {vertices : List (List ℕ)} (r : VertexTabl
 
 -- ---- one arc
 
--- the entries that are read for it
-pub record ArcRead (vertices gains : List (List ℕ)) (link u : ℕ) : Type 0 where
-  pub letter : vertexLetter vertices u < 65
-  pub long-gains : length gains ≡ 65
+-- the scores that are added for it
+pub record ArcRead (vertices : List (List ℕ)) (link u : ℕ) : Type 0 where
   pub link-near : NearBias link
-  pub entry-near : NearBias (getD (getD gains (vertexLetter vertices u) []) 4 0)
+  pub entry-near : NearBias (emissionIn vertices u)
 
 -- what is passed on stays where another place changes
 source-apart : (root : Bool) (n k : ℕ) {slot : ℕ} {l b b′ : List ℕ} → (root ≡ false → k + n ≤ slot) → Changed slot n l b b′
@@ -82,12 +80,12 @@ unfolding source
 source-apart true n k a c = refl
 source-apart false n k a c = changed-apart c n k (inl (a refl))
 
-module _ {x : List ℕ} {n : ℕ} {vertices gains : List (List ℕ)} {link : ℕ} {root : Bool} {from u down : ℕ} {b : List ℕ}
-    (t : Arc x n vertices gains link root from u down b) where
+module _ {x : List ℕ} {n : ℕ} {vertices : List (List ℕ)} {link : ℕ} {root : Bool} {from u down : ℕ} {b : List ℕ}
+    (t : Arc x n vertices link root from u down b) where
   abbrev w : ℕ
   w = t .w
 
-  abbrev h : PassingOn x n vertices gains link w root from b
+  abbrev h : PassingOn x n vertices link w root from b
   h = t .passing-on
 
   abbrev g : Graph
@@ -106,45 +104,31 @@ module _ {x : List ℕ} {n : ℕ} {vertices gains : List (List ℕ)} {link : ℕ
   words : wordCount g < 2 ^ 32
   words = words-few (h .v) x (h .ready .accepted)
 
-  -- what is read of the letter that is entered
+  -- the emission of the letter that is entered
   abbrev entered : ℕ
-  entered = getD (getD gains (vertexLetter vertices u) []) 4 0
+  entered = emissionIn vertices u
 
   entered-is : u ≤ nodeCount x → entered
       ≡ numberOf (possible (emission (h .v) (firstState (h .v) (nodeLetter x u) + 0) (h .k)))
   unfolding nodeLetter entryNumber
-  entered-is k =
-      let one : 1 ≤ u = omega (arith, rises .0) in
-      ap (λ l. getD (getD gains l []) 4 0) (h .ready .letter one k) ∙ h .entry-gains .entry u one k
+  entered-is k = h .emissions u (omega (arith, rises .0)) k
 
-  -- it leads to the sink at most, which has no letter
+  -- it leads to the sink at most, which is never entered
   pub arc-bounded : u ≤ sinkOf x
   unfolding sinkOf sink
   arc-bounded = rises .1
 
-  at-sink : ¬ (u < suc (nodeCount x)) → vertexLetter vertices u ≡ 64
-  unfolding sinkOf
-  at-sink d = let q : u ≡ suc (nodeCount x) = omega (arith, arc-bounded, d) in ap (vertexLetter vertices) q
-      ∙ h .ready .sink
-
   no-entry : ¬ (u < suc (nodeCount x)) → entered ≡ 0
-  no-entry d = ap (λ l. getD (getD gains l []) 4 0) (at-sink d) ∙ h .entry-gains .room .nothing
+  unfolding sinkOf
+  no-entry d = let q : u ≡ suc (nodeCount x) = omega (arith, arc-bounded, d) in ap (emissionIn vertices) q
+      ∙ h .ready .sink
 
   -- only a node has an emission
   pub arc-node : ¬ (entered ≡ 0) → u ≤ nodeCount x
   arc-node z = elim (decLt u (suc (nodeCount x))) [ yes l ↦ omega arith | no d ↦ absurd (z (no-entry d)) ]
 
-  pub arc-read : ArcRead vertices gains link u
-  unfolding nodeLetter
+  pub arc-read : ArcRead vertices link u
   arc-read = record {
-    letter = elim (decLt u (suc (nodeCount x))) [
-      | yes l ↦
-          let one : 1 ≤ u = omega (arith, rises .0) in
-          let k : u ≤ nodeCount x = omega arith in
-          rw (h .ready .letter one k) (omega (arith, letter-few (h .ready) one k))
-      | no d ↦ rw (at-sink d) (omega arith)
-    ];
-    long-gains = h .entry-gains .room .long;
     link-near = rw (h .link-is) (number-near (h .moved) (h .small));
     entry-near = elim (decLt u (suc (nodeCount x))) [
       | yes l ↦ rw (entered-is (omega arith)) (number-near _ (emission-range (h .v) _ (h .k)))
@@ -168,7 +152,8 @@ module _ {x : List ℕ} {n : ℕ} {vertices gains : List (List ℕ)} {link : ℕ
     place = place-of (h .ready) one k (state-range (h .ready) one k .0)
 
     slot-is : firstIn vertices u ≡ n * (firstPlace (h .v) g u + 0)
-    slot-is = rw add-zero (h .ready .first one k)
+    unfolding sinkOf
+    slot-is = rw add-zero (h .ready .first one (omega arith))
 
     -- the gain of a possible link and emission
     pub arc-gain : ¬ (link ≡ 0) → ¬ (entered ≡ 0) → (link + entered - bias ≡ numberSum link entered)
@@ -203,7 +188,8 @@ module _ {x : List ℕ} {n : ℕ} {vertices gains : List (List ℕ)} {link : ℕ
     }
 
     pub arc-apart : root ≡ false → from + n ≤ firstIn vertices u
-    arc-apart z = rw (h .ready .first one k) (h .apart z (rises .0) k)
+    unfolding sinkOf
+    arc-apart z = rw (h .ready .first one (omega arith)) (h .apart z (rises .0) k)
 
     pub arc-source : {l b′ : List ℕ} → Changed (firstIn vertices u) n l b b′ → source root n from b′
         ≡ source root n from b
@@ -255,9 +241,9 @@ module _ {x : List ℕ} {n : ℕ} {vertices gains : List (List ℕ)} {link : ℕ
 
 -- ---- an arc of the root
 
-module _ {x : List ℕ} {n : ℕ} {vertices gains : List (List ℕ)} {u down : ℕ} {b : List ℕ}
-    (t : Arc x n vertices gains bias true 0 u down b) where
-  abbrev p : PassingOn x n vertices gains bias (t .w) true 0 b
+module _ {x : List ℕ} {n : ℕ} {vertices : List (List ℕ)} {u down : ℕ} {b : List ℕ}
+    (t : Arc x n vertices bias true 0 u down b) where
+  abbrev p : PassingOn x n vertices bias (t .w) true 0 b
   p = t .passing-on
 
   from-root : List·Memᴰ u (successors x 0)
@@ -292,8 +278,8 @@ root-sum {e = suc e} n = omega arith
 
 -- ---- all arcs
 
-module _ {x : List ℕ} {n : ℕ} {vertices gains : List (List ℕ)} {link w : ℕ} {root : Bool} {from : ℕ} {b₀ : List ℕ}
-    (t : PassingOn x n vertices gains link w root from b₀) where
+module _ {x : List ℕ} {n : ℕ} {vertices : List (List ℕ)} {link w : ℕ} {root : Bool} {from : ℕ} {b₀ : List ℕ}
+    (t : PassingOn x n vertices link w root from b₀) where
   -- Q is the store when the arcs to the earlier successors are done
   pub record PassingLeft (at stop down : ℕ) (b : List ℕ) : Type 0 where
     pub Q : Store
@@ -347,7 +333,7 @@ module _ {x : List ℕ} {n : ℕ} {vertices gains : List (List ℕ)} {link w : �
   }
 
   module _ {at stop down : ℕ} {b : List ℕ} (L : PassingLeft at stop down b) where
-    so-far : PassingOn x n vertices gains link w root from b
+    so-far : PassingOn x n vertices link w root from b
     so-far = record {
       v = t .v;
       k = t .k;
@@ -358,7 +344,7 @@ module _ {x : List ℕ} {n : ℕ} {vertices gains : List (List ℕ)} {link w : �
       ready = t .ready;
       roomy = record { one = t .roomy .one; few = t .roomy .few; room = rw (L .long) (t .roomy .room) };
       vertex = t .vertex;
-      entry-gains = t .entry-gains;
+      emissions = t .emissions;
       moved = t .moved;
       score-is = t .score-is;
       small = t .small;
@@ -384,7 +370,7 @@ module _ {x : List ℕ} {n : ℕ} {vertices gains : List (List ℕ)} {link w : �
       in-list : List·Memᴰ u (successors x w)
       in-list = rw (e, split-here formed (t .vertex) (L .sums) next) (Memᴰ·append-right (L .sums .earlier) (here refl))
 
-      pub left-arc : Arc x n vertices gains link root from u down b
+      pub left-arc : Arc x n vertices link root from u down b
       left-arc = record {
         w = w;
         passing-on = so-far;
@@ -422,7 +408,7 @@ module _ {x : List ℕ} {n : ℕ} {vertices gains : List (List ℕ)} {link w : �
           )
 
       pub passing-next : {b′ : List ℕ}
-          → ((a : Arc x n vertices gains link root from u down b) → Stored (a .passing-on .v) (graphOf x) n
+          → ((a : Arc x n vertices link root from u down b) → Stored (a .passing-on .v) (graphOf x) n
           (overOne a) b′)
           → source root n from b′ ≡ source root n from b → length b′ ≡ length b
           → PassingLeft (at + 2) stop (down + pathsIn vertices u) b′

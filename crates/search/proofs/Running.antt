@@ -32,13 +32,15 @@ use Rattle.passing.proofs.InPlace.{first-frame, next-frame}
 use Rattle.passing.proofs.Bounds.{token-bounded}
 use Rattle.search.specs.Slots.{slots}
 use Rattle.search.specs.declared.frames.Numbers.{Numbers}
-use Rattle.search.specs.Gains.{GainsRoom, MoveGains, EntryGains, KnownSymbol}
-use Rattle.search.specs.Stored.{StoreRoom, Bound, Stored, Within, source, PassingOn, passedOn, PassedOn, Turn}
+use Rattle.search.specs.Gains.{GainsRoom, Gained, MoveGains, KnownSymbol}
+use Rattle.search.specs.Places.{NodesRead, EmissionsPut}
+use Rattle.search.specs.Stored.{VertexTable, NodeEmissions, StoreRoom, Bound, Stored, Within, source, PassingOn, passedOn, PassedOn, Turn}
 use Rattle.search.specs.Stored.{turned, TurnDone}
-use Rattle.search.specs.Running.{Empty, Run, StoredAt, FrameHeld, FramesDone}
+use Rattle.search.specs.Running.{Empty, Run, StoredAt, CallNumbers, FrameTables, FrameHeld, FramesDone}
 use Rattle.search.proofs.Held.{held-none}
-use Rattle.search.proofs.Filling.{gains-room}
+use Rattle.search.proofs.Filling.{gains-room, entry-gains}
 use Rattle.search.proofs.Storing.{stored-ext}
+use Rattle.search.proofs.PassingOn.{lexicon-formed, letter-few}
 
 -- ---- stores
 
@@ -87,7 +89,7 @@ module _ {v x frames : List ℕ} {n : ℕ} {vertices : List (List ℕ)} {b : Lis
 
   -- ---- the first frame
 
-  module _ (e : Empty b) {gains : List (List ℕ)} (entering : EntryGains v x (getD frames 0 0) gains) where
+  module _ (e : Empty b) (emissions : NodeEmissions v x (getD frames 0 0) vertices) where
     pub one-best : (n : ℕ) → 1 ≤ n → bestTokens n (hit (pos 0) 0 ∷ []) ≡ hit (pos 0) 0 ∷ []
     unfolding rowOf insert
     one-best zero h = absurd (omega arith)
@@ -97,7 +99,7 @@ module _ {v x frames : List ℕ} {n : ℕ} {vertices : List (List ℕ)} {b : Lis
     unfolding wordCount
     root-bound i = rw (only i) (record { score = omega arith; code = omega arith })
 
-    unfoldable pub root-passing : PassingOn x n vertices gains bias 0 true 0 b
+    unfoldable pub root-passing : PassingOn x n vertices bias 0 true 0 b
     unfolding possible impossible eqZ source numberOf raised
     root-passing = record {
       v = v;
@@ -114,7 +116,7 @@ module _ {v x frames : List ℕ} {n : ℕ} {vertices : List (List ℕ)} {b : Lis
       score-is = refl;
       small = omega arith;
       link-is = refl;
-      entry-gains = entering;
+      emissions = emissions;
       given = refl;
       inside = λ z. absurd (true≢false z);
       apart = λ z. absurd (true≢false z);
@@ -158,8 +160,15 @@ module _ {v x frames : List ℕ} {n : ℕ} {vertices : List (List ℕ)} {b₀ : 
     long = refl;
   })
 
+  one-turn : (m : ℕ) (Q : Store) → 1 ≤ m
+      → passDown v (graphOf x) n (getD frames (suc t) 0) (m - 1) (passNode v (graphOf x) n (getD frames (suc t) 0) m Q)
+      ≡ passDown v (graphOf x) n (getD frames (suc t) 0) m Q
+  unfolding passDown
+  one-turn zero Q h = absurd (omega arith)
+  one-turn (suc m) Q h = let e : suc m - 1 ≡ m = omega arith in rw e
+
   module _ (h : suc t < length frames) {gains : List (List ℕ)} (moves : MoveGains v x (getD frames (suc t) 0) gains)
-      (links : EntryGains v x (getD frames (suc t) 0) gains) {link : ℕ}
+      (emissions : NodeEmissions v x (getD frames (suc t) 0) vertices) {link : ℕ}
       (is : link ≡ numberOf (possible (linkScore v 0))) {m : ℕ} {b : List ℕ} (k : 1 ≤ m)
       (d : TurnsLeft v x frames n t m b₀ b) where
     unfoldable pub turn-next : Turn v x n vertices gains link m b
@@ -172,19 +181,12 @@ module _ {v x frames : List ℕ} {n : ℕ} {vertices : List (List ℕ)} {b₀ : 
       low = k;
       high = d .low;
       moves = moves;
-      entries = links;
+      emissions = emissions;
       link-is = is;
       stored = d .stored;
       within = d .within;
       fits = omega (arith, frame-count v frames (r .accepted));
     }
-
-    one-turn : (m : ℕ) (Q : Store) → 1 ≤ m
-        → passDown v (graphOf x) n (getD frames (suc t) 0) (m - 1) (passNode v (graphOf x) n (getD frames (suc t) 0) m Q)
-        ≡ passDown v (graphOf x) n (getD frames (suc t) 0) m Q
-    unfolding passDown
-    one-turn zero Q h = absurd (omega arith)
-    one-turn (suc m) Q h = let e : suc m - 1 ≡ m = omega arith in rw e
 
     pub turns-next : {b′ : List ℕ} → ((T : Turn v x n vertices gains link m b) → TurnDone T b′)
         → TurnsLeft v x frames n t (m - 1) b₀ b′
@@ -208,10 +210,9 @@ module _ {v x frames : List ℕ} {n : ℕ} {vertices : List (List ℕ)} {b₀ : 
 
 -- ---- all frames
 
-pub run-same : {v x frames : List ℕ} {n : ℕ} {vertices : List (List ℕ)} {b b′ : List ℕ} → length b′ ≡ length b
-    → Run v x frames n vertices b
-    → Run v x frames n vertices b′
-run-same e r = record { ready = r .ready; roomy = roomy-same e (r .roomy); accepted = r .accepted }
+pub run-with : {v x frames : List ℕ} {n : ℕ} {vertices vertices′ : List (List ℕ)} {b b′ : List ℕ}
+    → VertexTable v x n vertices′ → length b′ ≡ length b → Run v x frames n vertices b → Run v x frames n vertices′ b′
+run-with t e r = record { ready = t; roomy = roomy-same e (r .roomy); accepted = r .accepted }
 
 -- a frame that isn't the first comes after the one before it
 pub before-is : {t : ℕ} → ¬ (t ≡ 0) → suc (t - 1) ≡ t
@@ -220,26 +221,51 @@ before-is h = omega (arith, h)
 -- of the same frame
 module _ {v x frames : List ℕ} {n : ℕ} {vertices : List (List ℕ)} {b₀ : List ℕ} (r : Run v x frames n vertices b₀)
     {i j : ℕ} (e : i ≡ j) where
-  pub entry-same : {gains : List (List ℕ)} → EntryGains v x (getD frames i 0) gains
-      → EntryGains v x (getD frames j 0) gains
-  entry-same g = rw e at g
+  pub tables-same : {c : Numbers} {letters gains tables : List (List ℕ)}
+      → FrameTables v x (getD frames i 0) c letters gains tables → FrameTables v x (getD frames j 0) c letters gains tables
+  tables-same g = rw e at g
 
   pub stored-same : {b : List ℕ} → StoredAt v x frames n i b → StoredAt v x frames n j b
   stored-same s = rw e at s
 
-module _ {v x frames : List ℕ} {c : Numbers} {letters gains : List (List ℕ)} {b : List ℕ} where
-  pub frames-start : GainsRoom gains → Empty b → FramesDone v x frames 0 c letters gains b
-  frames-start r e = record { room = r; empty = λ z. e; held = λ h. absurd (omega arith) }
+module _ {v x frames : List ℕ} {c : Numbers} {letters gains vertices : List (List ℕ)} {b : List ℕ} where
+  pub frames-start : VertexTable v x (c .n) vertices → GainsRoom gains → Empty b
+      → FramesDone v x frames 0 c letters gains vertices b
+  frames-start t r e = record { table = t; room = r; empty = λ z. e; held = λ h. absurd (omega arith) }
 
-  pub frames-next : {t : ℕ} → FrameHeld v x frames t c letters gains b → FramesDone v x frames (t + 1) c letters gains b
+  pub frames-next : {t : ℕ} → FrameHeld v x frames t c letters gains vertices b
+      → FramesDone v x frames (t + 1) c letters gains vertices b
   frames-next {t} d = record {
-    room = gains-room (d .gained);
+    table = d .tables .table;
+    room = gains-room (d .tables .gained);
     empty = λ z. absurd (omega arith);
     held = λ h. let e : t + 1 - 1 ≡ t = omega arith in rw e d;
   }
 
   pub frames-end : {t : ℕ} → AcceptedFrames v frames → length frames ≤ t → t ≤ length frames
-      → FramesDone v x frames t c letters gains b → StoredAt v x frames (c .n) (length frames - 1) b
+      → FramesDone v x frames t c letters gains vertices b → StoredAt v x frames (c .n) (length frames - 1) b
   frames-end {t} a h l d =
       let e : length frames - 1 ≡ t - 1 = omega arith in
       rw e (d .held (omega (arith, frame-count v frames a)) .stored)
+
+-- what is read for the emissions
+pub nodes-read : {v x : List ℕ} {c : Numbers} {letters vertices : List (List ℕ)} → CallNumbers v x c letters
+    → VertexTable v x (c .n) vertices → NodesRead x (c .nodes)
+nodes-read c t = record { well-formed = lexicon-formed t; all = c .nodes; letter = letter-few t }
+
+-- the tables of a frame, once its emissions are put
+pub tables-put : {v x : List ℕ} {k : ℕ} {c : Numbers} {letters gains vertices vertices′ : List (List ℕ)}
+    → CallNumbers v x c letters → VertexTable v x (c .n) vertices → Gained v k letters (c .used) gains
+    → EmissionsPut x gains vertices vertices′ → FrameTables v x k c letters gains vertices′
+tables-put c t g p = record {
+  gained = g;
+  table = record {
+    accepted = t .accepted;
+    long = p .long;
+    arcs = λ {u} h. p .arcs u ∙ t .arcs h;
+    paths = λ {u} h. p .paths u ∙ t .paths h;
+    first = λ {u} l h. p .first u ∙ t .first l h;
+    sink = p .sink ∙ t .sink;
+  };
+  emissions = λ u l h. p .emission l h ∙ entry-gains (c .letters-of) g u l h;
+}

@@ -7,14 +7,14 @@ use mathlib.Core.Logic.{⊎-elim}
 use mathlib.Core.List.{List, [], List·Memᴰ, List·Memᴰ·append-cases as append-cases}
 use mathlib.Core.Option.{some}
 use native.Mathlib.Omega.{arith}
-use native.Mathlib.Nat.{mul-add}
+use native.Mathlib.Numerals.{add-one}
 use native.Mathlib.Decide.{ℕ-discrete}
 use lib.IntN.{ℤ, natAbs}
 use lib.ListN.{length, getD}
 use Rattle.endian.proofs.Bytes.{i16-range}
 use Rattle.voice.specs.Voice.{states, loopScore, stepScore, linkScore}
 use Rattle.voice.proofs.Letters.{states-there}
-use Rattle.lexicon.specs.Lexicon.{nodeCount, nodeLetter}
+use Rattle.lexicon.specs.Lexicon.{nodeCount, nodeLetter, sinkOf}
 use Rattle.graph.specs.Graph.{Graph, graphOf, sink}
 use Rattle.graph.proofs.Accepted.{accepted}
 use Rattle.checking.proofs.Arcs.{shape-of, sound-of, nodes-there}
@@ -30,7 +30,7 @@ use Rattle.search.specs.Held.{held}
 use Rattle.search.specs.Places.{firstPlace, firstSlot, firstIn}
 use Rattle.search.specs.Stored.{Bound, Place, Stored, source, PassingOn, PassedOn, passedOn, Turn, TurnDone, turned}
 use Rattle.search.specs.Carrying.{Renewal, renewal}
-use Rattle.search.proofs.Numbering.{place-end}
+use Rattle.search.proofs.Numbering.{place-end, slot-last}
 use Rattle.search.proofs.Storing.{block, place-there, place-room, slot-small, carried-bound}
 use Rattle.search.proofs.Carrying.{emission-range, move-small}
 use Rattle.search.proofs.PassingOn.{lexicon-formed, known, letter-few, state-range, place-of}
@@ -93,7 +93,8 @@ module _ {v x : List ℕ} {n : ℕ} {vertices gains : List (List ℕ)} {link w :
   count-range = state-range (t .ready) (t .low) (t .high)
 
   first-is : firstIn vertices w ≡ firstSlot v g n w
-  first-is = t .ready .first (t .low) (t .high)
+  unfolding sinkOf
+  first-is = t .ready .first (t .low) (omega (arith, t .high))
 
   place : {s : ℕ} → s < count → Place v g w s
   place {s} h = place-of (t .ready) (t .low) (t .high) (omega (arith, count-is))
@@ -101,11 +102,22 @@ module _ {v x : List ℕ} {n : ℕ} {vertices gains : List (List ℕ)} {link w :
   last : Place v g w (count - 1)
   last = place (omega (arith, count-range))
 
-  slot-is : firstIn vertices w + n * (count - 1) ≡ n * (firstPlace v g w + (count - 1))
-  slot-is = ap (λ (a : ℕ). a + n * (count - 1)) first-is ∙ sym (mul-add n _ _)
+  pub first-few : firstIn vertices w ≤ 8000
+  first-few = rw first-is (slot-small v x (t .ready .accepted) (t .roomy) (omega (arith, place-there v x last)))
 
-  pub slot-few : firstIn vertices w + n * (count - 1) ≤ 8000
-  slot-few = rw slot-is (slot-small v x (t .ready .accepted) (t .roomy) (omega (arith, place-there v x last)))
+  -- its last place ends where the next vertex's first begins
+  next-is : firstIn vertices (w + 1) ≡ n * (firstPlace v g w + (count - 1)) + n
+  unfolding sinkOf nodeLetter states
+  next-is = rw add-one (t .ready .first (omega arith) (omega (arith, t .high)) ∙ slot-last v g n (t .low) (count-range .0))
+
+  slot-is : firstIn vertices (w + 1) - n ≡ n * (firstPlace v g w + (count - 1))
+  slot-is = omega (arith, next-is)
+
+  pub slot-few : (n ≤ firstIn vertices (w + 1)) × (firstIn vertices (w + 1) ≤ 8008)
+  slot-few =
+      let s : n * (firstPlace v g w + (count - 1)) ≤ 8000
+      = slot-small v x (t .ready .accepted) (t .roomy) (omega (arith, place-there v x last)) in
+      (omega (arith, next-is), omega (arith, next-is, s, t .roomy .few))
 
   -- ---- passing on
 
@@ -116,7 +128,7 @@ module _ {v x : List ℕ} {n : ℕ} {vertices gains : List (List ℕ)} {link w :
   unfolding lastState
   last-is = ap (λ (c : ℕ). c - 1) count-is
 
-  old-slots : slots n (firstIn vertices w + n * (count - 1)) b ≡ held n old
+  old-slots : slots n (firstIn vertices (w + 1) - n) b ≡ held n old
   old-slots =
       let p : Place v g w (lastState v g w) = rw last-is at last in
       ap (λ (k : ℕ). slots n k b) (slot-is ∙ ap (λ (s : ℕ). n * (firstPlace v g w + s)) last-is) ∙ t .stored .holds p
@@ -126,10 +138,10 @@ module _ {v x : List ℕ} {n : ℕ} {vertices gains : List (List ℕ)} {link w :
   below = omega (arith, t .high)
 
   -- a node's places end before those of a later one begin
-  last-apart : {u : ℕ} → w < u → u ≤ nodeCount x → firstIn vertices w + n * (count - 1) + n ≤ firstSlot v g n u
+  last-apart : {u : ℕ} → w < u → u ≤ nodeCount x → firstIn vertices (w + 1) - n + n ≤ firstSlot v g n u
   last-apart {u} l h = rw slot-is (block n (omega (arith, count-is, count-range, place-end v g {u = w} {w = u} (t .low) l)))
 
-  pub passing-on : PassingOn x n vertices gains link w false (firstIn vertices w + n * (count - 1)) b
+  pub passing-on : PassingOn x n vertices link w false (firstIn vertices (w + 1) - n) b
   unfolding linkScore source
   passing-on = record {
     v = v;
@@ -142,7 +154,7 @@ module _ {v x : List ℕ} {n : ℕ} {vertices gains : List (List ℕ)} {link w :
     roomy = t .roomy;
     vertex = t .high;
     root-is = λ e. absurd (false≢true e);
-    entry-gains = t .entries;
+    emissions = t .emissions;
     moved = linkScore v 0;
     score-is = refl;
     small = i16-range v _;

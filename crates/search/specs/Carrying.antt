@@ -68,17 +68,17 @@ joined {n} t = bestTokens n (t .s ++ carried (t .score) (t .d) (t .l))
 
 -- ---- one arc: from vertex w to u, where the store is as far as the arcs before it left it
 
-pub record Arc (x : List ℕ) (n : ℕ) (vertices gains : List (List ℕ)) (link : ℕ) (root : Bool) (from u down : ℕ)
+pub record Arc (x : List ℕ) (n : ℕ) (vertices : List (List ℕ)) (link : ℕ) (root : Bool) (from u down : ℕ)
     (b : List ℕ)
     : Type 0 where
   pub w : ℕ
-  pub passing-on : PassingOn x n vertices gains link w root from b
+  pub passing-on : PassingOn x n vertices link w root from b
   pub arc : List·Memᴰ u (successors x w)
   pub down-is : down ≡ downOf (increment (graphOf x) w u)
 
-unfoldable pub overOne : {x : List ℕ} {n : ℕ} {vertices gains : List (List ℕ)} {link : ℕ} {root : Bool}
+unfoldable pub overOne : {x : List ℕ} {n : ℕ} {vertices : List (List ℕ)} {link : ℕ} {root : Bool}
     {from u down : ℕ}
-    {b : List ℕ} → Arc x n vertices gains link root from u down b → Store
+    {b : List ℕ} → Arc x n vertices link root from u down b → Store
 overOne {x} {n} {u = u} t =
     let h = t .passing-on in
     put (h .Q) u 0 (bestTokens n (h .Q u 0 ++ overArc (h .v) (graphOf x) (h .k) (h .score) (t .w) u (h .l)))

@@ -117,11 +117,10 @@ pub record GainRow (v : List ℕ) (k l : ℕ) (row : List ℕ) : Type 0 where
   pub moves : LetterEntries v (loopGain v k) (stepGain v k) l row
   pub entry : getD row 4 0 ≡ entryNumber v k l
 
--- room for the rows of 64 letters, and after them a row of no emission, for the sink
+-- room for the rows of 64 letters
 pub record GainsRoom (gains : List (List ℕ)) : Type 0 where
-  pub long : length gains ≡ 65
-  pub wide : {l : ℕ} → l < 65 → 8 ≤ length (getD gains l [])
-  pub nothing : getD (getD gains 64 []) 4 0 ≡ 0
+  pub long : length gains ≡ 64
+  pub wide : {l : ℕ} → l < 64 → 8 ≤ length (getD gains l [])
 
 -- the table of a frame: row l is that of letter l, for the letters of the first n rows of a call's table
 pub record Gained (v : List ℕ) (k : ℕ) (letters : List (List ℕ)) (n : ℕ) (gains : List (List ℕ)) : Type 0 where
@@ -137,10 +136,9 @@ abbrev pub MoveGains : List ℕ → List ℕ → ℕ → List (List ℕ) → Typ
 MoveGains v x k gains = (u : ℕ) → 1 ≤ u → u ≤ nodeCount x
     → MoveRow v k (nodeLetter x u) (getD gains (nodeLetter x u) [])
 
-pub record EntryGains (v x : List ℕ) (k : ℕ) (gains : List (List ℕ)) : Type 0 where
-  pub room : GainsRoom gains
-  pub entry : (u : ℕ) → 1 ≤ u → u ≤ nodeCount x → getD (getD gains (nodeLetter x u) []) 4 0
-      ≡ entryNumber v k (nodeLetter x u)
+abbrev pub EntryGains : List ℕ → List ℕ → ℕ → List (List ℕ) → Type 0
+EntryGains v x k gains = (u : ℕ) → 1 ≤ u → u ≤ nodeCount x
+    → getD (getD gains (nodeLetter x u) []) 4 0 ≡ entryNumber v k (nodeLetter x u)
 
 -- ---- what calls ask
 

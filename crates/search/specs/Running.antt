@@ -19,7 +19,7 @@ use Rattle.search.specs.Held.{held, Storable}
 use Rattle.search.specs.declared.frames.Numbers.{Numbers}
 use Rattle.search.specs.Gains.{NodeLetters, GainsRoom, Gained}
 use Rattle.search.specs.Places.{arcsIn, pathsIn}
-use Rattle.search.specs.Stored.{VertexTable, StoreRoom, Bound, Place, Stored}
+use Rattle.search.specs.Stored.{VertexTable, NodeEmissions, StoreRoom, Bound, Place, Stored}
 
 -- no slot holds a token
 abbrev pub Empty : List ℕ → Type 0
@@ -42,18 +42,25 @@ pub record CallNumbers (v x : List ℕ) (c : Numbers) (letters : List (List ℕ)
   pub link : c .link .0 ≡ numberOf (possible (linkScore v 0))
   pub letters-of : NodeLetters v x (c .used) letters
 
--- after frame t: what the places hold, and the table of gains
-pub record FrameHeld (v x frames : List ℕ) (t : ℕ) (c : Numbers) (letters gains : List (List ℕ)) (b : List ℕ) : Type
-    0 where
+-- the tables at a frame of symbol k: of gains, and of vertices with their emissions
+pub record FrameTables (v x : List ℕ) (k : ℕ) (c : Numbers) (letters gains vertices : List (List ℕ)) : Type 0 where
+  pub gained : Gained v k letters (c .used) gains
+  pub table : VertexTable v x (c .n) vertices
+  pub emissions : NodeEmissions v x k vertices
+
+-- after frame t: what the places hold, and the tables
+pub record FrameHeld (v x frames : List ℕ) (t : ℕ) (c : Numbers) (letters gains vertices : List (List ℕ))
+    (b : List ℕ) : Type 0 where
   pub stored : StoredAt v x frames (c .n) t b
-  pub gained : Gained v (getD frames t 0) letters (c .used) gains
+  pub tables : FrameTables v x (getD frames t 0) c letters gains vertices
 
 -- after the first t frames: what holds after the last of them, or an empty store where there is none
-pub record FramesDone (v x frames : List ℕ) (t : ℕ) (c : Numbers) (letters gains : List (List ℕ))
+pub record FramesDone (v x frames : List ℕ) (t : ℕ) (c : Numbers) (letters gains vertices : List (List ℕ))
     (b : List ℕ) : Type 0 where
+  pub table : VertexTable v x (c .n) vertices
   pub room : GainsRoom gains
   pub empty : t ≡ 0 → Empty b
-  pub held : 0 < t → FrameHeld v x frames (t - 1) c letters gains b
+  pub held : 0 < t → FrameHeld v x frames (t - 1) c letters gains vertices b
 
 -- ---- the end
 

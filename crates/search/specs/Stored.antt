@@ -19,17 +19,23 @@ use Rattle.passing.specs.Tokens.{Store, bestTokens}
 use Rattle.passing.specs.InPlace.{passOn, passNode}
 use Rattle.search.specs.Slots.{slots, PlaceRoom}
 use Rattle.search.specs.Held.{held}
-use Rattle.search.specs.Places.{firstPlace, firstSlot, arcsIn, pathsIn, firstIn, vertexLetter, noLetter}
-use Rattle.search.specs.Gains.{MoveGains, EntryGains}
+use Rattle.search.specs.Places.{firstPlace, firstSlot, arcsIn, pathsIn, firstIn, emissionIn}
+use Rattle.search.specs.Gains.{MoveGains, entryNumber}
 
--- accepted images, and the table of their vertices; the first slots are those of n tokens a place
+-- accepted images, and the table of their vertices, as far as it stays for the whole call; the first slots are those of
+-- n tokens a place, and the sink is never entered
 pub record VertexTable (v x : List ℕ) (n : ℕ) (vertices : List (List ℕ)) : Type 0 where
   pub accepted : Accepted v x
+  pub long : length vertices ≡ 402
   pub arcs : {u : ℕ} → u ≤ nodeCount x → arcsIn vertices u ≡ arcsAt x u
   pub paths : {u : ℕ} → u ≤ sinkOf x → pathsIn vertices u ≡ pathCount (graphOf x) u
-  pub first : {u : ℕ} → 1 ≤ u → u ≤ nodeCount x → firstIn vertices u ≡ firstSlot v (graphOf x) n u
-  pub letter : {u : ℕ} → 1 ≤ u → u ≤ nodeCount x → vertexLetter vertices u ≡ nodeLetter x u
-  pub sink : vertexLetter vertices (sinkOf x) ≡ noLetter
+  pub first : {u : ℕ} → 1 ≤ u → u ≤ sinkOf x → firstIn vertices u ≡ firstSlot v (graphOf x) n u
+  pub sink : emissionIn vertices (sinkOf x) ≡ 0
+
+-- and what it has of a frame of symbol k: the emission of each node's first state
+abbrev pub NodeEmissions : List ℕ → List ℕ → ℕ → List (List ℕ) → Type 0
+NodeEmissions v x k vertices = (u : ℕ) → 1 ≤ u → u ≤ nodeCount x
+    → emissionIn vertices u ≡ entryNumber v k (nodeLetter x u)
 
 -- n tokens a place, 1 to 8, and room for every place
 pub record StoreRoom (v x : List ℕ) (n : ℕ) (b : List ℕ) : Type 0 where
@@ -66,7 +72,7 @@ source true n k b = held n (hit (pos 0) 0 ∷ [])
 source false n k b = slots n k b
 
 -- vertex w, root or node, passes on the tokens l over arcs of one score, at a frame of symbol k
-pub record PassingOn (x : List ℕ) (n : ℕ) (vertices gains : List (List ℕ)) (link w : ℕ) (root : Bool) (from : ℕ)
+pub record PassingOn (x : List ℕ) (n : ℕ) (vertices : List (List ℕ)) (link w : ℕ) (root : Bool) (from : ℕ)
     (b : List ℕ) : Type 0 where
   pub v : List ℕ
   pub k : ℕ
@@ -78,7 +84,7 @@ pub record PassingOn (x : List ℕ) (n : ℕ) (vertices gains : List (List ℕ))
   pub roomy : StoreRoom v x n b
   pub vertex : w ≤ nodeCount x
   pub root-is : root ≡ true → w ≡ 0
-  pub entry-gains : EntryGains v x k gains
+  pub emissions : NodeEmissions v x k vertices
   -- the score is a stored one
   pub moved : ℤ
   pub score-is : score ≡ possible moved
@@ -96,14 +102,14 @@ pub record PassingOn (x : List ℕ) (n : ℕ) (vertices gains : List (List ℕ))
       → Bound (graphOf x) (M + frameLimit) u h
 
 -- the store after it
-unfoldable pub passedOn : {x : List ℕ} {n : ℕ} {vertices gains : List (List ℕ)} {link w : ℕ} {root : Bool} {from : ℕ}
+unfoldable pub passedOn : {x : List ℕ} {n : ℕ} {vertices : List (List ℕ)} {link w : ℕ} {root : Bool} {from : ℕ}
     {b : List ℕ}
-    → PassingOn x n vertices gains link w root from b → Store
+    → PassingOn x n vertices link w root from b → Store
 passedOn {x} {n} {w = w} t = passOn (t .v) (graphOf x) n (t .k) (λ u. t .score) w (t .l) (successors x w) (t .Q)
 
-pub record PassedOn {x : List ℕ} {n : ℕ} {vertices gains : List (List ℕ)} {link w : ℕ} {root : Bool} {from : ℕ}
+pub record PassedOn {x : List ℕ} {n : ℕ} {vertices : List (List ℕ)} {link w : ℕ} {root : Bool} {from : ℕ}
     {b : List ℕ}
-    (t : PassingOn x n vertices gains link w root from b) (b′ : List ℕ) : Type 0 where
+    (t : PassingOn x n vertices link w root from b) (b′ : List ℕ) : Type 0 where
   pub stored : Stored (t .v) (graphOf x) n (passedOn t) b′
   pub above : {u s : ℕ} {h : Hit} → Place (t .v) (graphOf x) u s → w < u → List·Memᴰ h (passedOn t u s)
       → Bound (graphOf x) (t .M + frameLimit) u h
@@ -120,7 +126,7 @@ pub record Turn (v x : List ℕ) (n : ℕ) (vertices gains : List (List ℕ)) (l
   pub low : 1 ≤ w
   pub high : w ≤ nodeCount x
   pub moves : MoveGains v x k gains
-  pub entries : EntryGains v x k gains
+  pub emissions : NodeEmissions v x k vertices
   pub link-is : link ≡ numberOf (possible (linkScore v 0))
   pub stored : Stored v (graphOf x) n P b
   pub within : Within v (graphOf x) w M P

@@ -69,7 +69,7 @@ pub(crate) fn best_words(
     lexicon: &[u8],
     frames: &[u8],
     n: usize,
-    vertices: &[[u32; 4]; 402],
+    vertices: &mut [[u32; 4]; 402],
     store: &mut [u8],
 ) -> [u64; 8]
     requires { ⌜ Run (now voice) (now lexicon) (now frames) n (now vertices) (now store) ⌝ }

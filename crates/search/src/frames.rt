@@ -1,12 +1,12 @@
 // Frame by frame: the root's token enters at the first, and at each later one every node takes its turn, from the last
 // to the first.
-ghost use mathlib.Core.Path.{_≡_};
 ghost use Prim.Native.Nat.{_-_, _<_};
 ghost use lib.ListN.{length, getD};
-ghost use Rattle.voice.specs.Voice.{symbolsAt};
-ghost use Rattle.search.specs.Gains.{LetterTable, GainsRoom, Gained, KnownSymbol};
-ghost use Rattle.search.specs.Running.{Empty, Run, StoredAt, CallNumbers, FrameHeld, FramesDone};
+ghost use Rattle.search.specs.Gains.{GainsRoom, KnownSymbol};
+ghost use Rattle.search.specs.Stored.{VertexTable};
+ghost use Rattle.search.specs.Running.{Empty, Run, StoredAt, CallNumbers, FrameTables, FrameHeld, FramesDone};
 use crate::gains::frame_gains;
+use crate::gains::put_emissions;
 use crate::letters::letter_table;
 use crate::letters::link_score;
 use crate::letters::symbols_at;
@@ -24,22 +24,25 @@ pub(crate) struct Numbers {
     pub link: Score,
 }
 
-// The gains of frame t. They depend on its symbol alone, so they stay where it is that of the frame before: a sound
-// lasts longer than a frame.
-fn new_gains(
+// The tables of frame t: the gains, and the emissions that enter the nodes. They depend on its symbol alone, so they
+// stay where it is that of the frame before: a sound lasts longer than a frame.
+fn frame_tables(
     voice: &[u8],
+    lexicon: &[u8],
     frames: &[u8],
     t: usize,
     numbers: Numbers,
     letters: &[[u32; 10]; 64],
-    gains: &mut [[u32; 8]; 65],
+    gains: &mut [[u32; 8]; 64],
+    vertices: &mut [[u32; 4]; 402],
 )
     requires { ⌜ (t < length (now frames)) × KnownSymbol (now voice) (getD (now frames) t 0) ⌝ }
-    requires { ⌜ LetterTable (now voice) (numbers .used) (now letters) × (numbers .symbols ≡ symbolsAt (now voice)) ⌝ }
-    requires { ⌜ GainsRoom (now gains)
-        × (0 < t → Gained (now voice) (getD (now frames) (t - 1) 0) (now letters) (numbers .used) (now gains)) ⌝ }
-    ensures { λ _. ⌜ Gained (now (voice .entry)) (getD (now (frames .entry)) t 0) (now (letters .entry))
-        (numbers .used) (now (gains .exit)) ⌝ }
+    requires { ⌜ CallNumbers (now voice) (now lexicon) numbers (now letters) ⌝ }
+    requires { ⌜ VertexTable (now voice) (now lexicon) (numbers .n) (now vertices) × GainsRoom (now gains)
+        × (0 < t → FrameTables (now voice) (now lexicon) (getD (now frames) (t - 1) 0) numbers (now letters) (now gains)
+        (now vertices)) ⌝ }
+    ensures { λ _. ⌜ FrameTables (now (voice .entry)) (now (lexicon .entry)) (getD (now (frames .entry)) t 0) numbers
+        (now (letters .entry)) (now (gains .exit)) (now (vertices .exit)) ⌝ }
 {
     let symbol = frames[t];
     if t > 0 {
@@ -55,6 +58,7 @@ fn new_gains(
         numbers.used,
         gains,
     );
+    put_emissions(lexicon, numbers.nodes, gains, vertices);
 }
 
 // One frame: at the first the root's token enters an empty store, and at each later one every node takes its turn.
@@ -64,23 +68,24 @@ fn frame(
     frames: &[u8],
     t: usize,
     numbers: Numbers,
-    vertices: &[[u32; 4]; 402],
+    vertices: &mut [[u32; 4]; 402],
     letters: &[[u32; 10]; 64],
-    gains: &mut [[u32; 8]; 65],
+    gains: &mut [[u32; 8]; 64],
     store: &mut [u8],
 )
     requires { ⌜ Run (now voice) (now lexicon) (now frames) (numbers .n) (now vertices) (now store)
         × (t < length (now frames)) ⌝ }
     requires { ⌜ CallNumbers (now voice) (now lexicon) numbers (now letters) ⌝ }
-    requires { ⌜ FramesDone (now voice) (now lexicon) (now frames) t numbers (now letters) (now gains) (now store) ⌝ }
+    requires { ⌜ FramesDone (now voice) (now lexicon) (now frames) t numbers (now letters) (now gains) (now vertices)
+        (now store) ⌝ }
     ensures { λ _. ⌜ FrameHeld (now (voice .entry)) (now (lexicon .entry)) (now (frames .entry)) t numbers
-        (now (letters .entry)) (now (gains .exit)) (now (store .exit)) ⌝ }
+        (now (letters .entry)) (now (gains .exit)) (now (vertices .exit)) (now (store .exit)) ⌝ }
 {
-    new_gains(voice, frames, t, numbers, letters, gains);
+    frame_tables(voice, lexicon, frames, t, numbers, letters, gains, vertices);
     let n = numbers.n;
     let link = numbers.link;
     if t == 0 {
-        enter_nodes(lexicon, n, vertices, gains, store);
+        enter_nodes(lexicon, n, vertices, store);
         return;
     }
     let mut node = numbers.nodes;
@@ -96,12 +101,14 @@ pub(crate) fn all_frames(
     lexicon: &[u8],
     frames: &[u8],
     n: usize,
-    vertices: &[[u32; 4]; 402],
+    vertices: &mut [[u32; 4]; 402],
     store: &mut [u8],
 )
     requires { ⌜ Run (now voice) (now lexicon) (now frames) n (now vertices) (now store) ⌝ }
     requires { ⌜ Empty (now store) ⌝ }
-    ensures { λ _. ⌜ StoredAt (now (voice .entry)) (now (lexicon .entry)) (now (frames .entry)) n (length (now (frames .entry)) - 1) (now (store .exit)) ⌝ }
+    ensures { λ _. ⌜ StoredAt (now (voice .entry)) (now (lexicon .entry)) (now (frames .entry)) n
+        (length (now (frames .entry)) - 1) (now (store .exit)) ⌝ }
+    ensures { λ _. ⌜ VertexTable (now (voice .entry)) (now (lexicon .entry)) n (now (vertices .exit)) ⌝ }
 {
     let mut letters = [[0u32; 10]; 64];
     let used = letter_table(voice, lexicon, &mut letters);
@@ -114,7 +121,7 @@ pub(crate) fn all_frames(
         used: used,
         link: link,
     };
-    let mut gains = [[0u32; 8]; 65];
+    let mut gains = [[0u32; 8]; 64];
     let mut t = 0;
     while t < frames.len() {
         frame(

@@ -10,11 +10,15 @@ ghost use Rattle.voice.specs.Voice.{symbolsAt};
 ghost use Rattle.decoder.specs.Score.{numberOf, possible};
 ghost use Rattle.search.specs.Gains.{NearBias, numberSum, LetterRow, GainRow, LetterTable, GainsRoom, Gained};
 ghost use Rattle.search.specs.Gains.{KnownSymbol, StatePut, FirstPut, letterIn};
+ghost use Rattle.search.specs.Places.{NodesRead, EmissionsPut};
 use crate::letters::FIRST_STATE;
 use crate::letters::INDEX;
 use crate::letters::LOOP;
 use crate::letters::STEP;
 use crate::letters::score_at;
+use checking::ARCS_AT;
+use checking::FIRST_SLOT;
+use checking::PATHS;
 use decoder::score::BIAS;
 use decoder::score::Score;
 
@@ -98,7 +102,7 @@ pub(crate) fn frame_gains(
     k: usize,
     letters: &[[u32; 10]; 64],
     used: usize,
-    gains: &mut [[u32; 8]; 65],
+    gains: &mut [[u32; 8]; 64],
 )
     requires { ⌜ KnownSymbol (now voice) k × (at ≡ symbolsAt (now voice)) ⌝ }
     requires { ⌜ LetterTable (now voice) used (now letters) × GainsRoom (now gains) ⌝ }
@@ -109,5 +113,27 @@ pub(crate) fn frame_gains(
         let letter = letters[i][INDEX] as usize;
         letter_gains(voice, at, k, &letters[i], &mut gains[letter]);
         i += 1;
+    }
+}
+
+// Puts the emission of each node's first state at the frame into the table of vertices, so that an arc finds it there,
+// with all else that it asks of the vertex that it leads to.
+pub(crate) fn put_emissions(
+    lexicon: &[u8],
+    nodes: usize,
+    gains: &[[u32; 8]; 64],
+    vertices: &mut [[u32; 4]; 402],
+)
+    requires { ⌜ NodesRead (now lexicon) nodes × (length (now vertices) ≡ 402) ⌝ }
+    ensures { λ _. ⌜ EmissionsPut (now (lexicon .entry)) (now (gains .entry)) (now (vertices .entry))
+        (now (vertices .exit)) ⌝ }
+{
+    let mut node = 1;
+    while node <= nodes {
+        let row = vertices[node];
+        let letter = lexicon[1 + node] as usize;
+        let emission = gains[letter][ENTRY];
+        vertices[node] = [row[ARCS_AT], row[PATHS], row[FIRST_SLOT], emission];
+        node += 1;
     }
 }

@@ -63,7 +63,7 @@ pub fn search(
         lexicon,
         frames,
         n as usize,
-        &vertices,
+        &mut vertices,
         &mut work[0..bytes],
     );
     zero(&mut work[0..bytes]);

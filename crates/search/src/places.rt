@@ -7,14 +7,13 @@ ghost use Rattle.voice.specs.Voice.{letterCount, voiceVerdict};
 ghost use Rattle.lexicon.specs.Lexicon.{lexiconVerdict};
 ghost use Rattle.search.specs.Places.{SlotsPut};
 use checking::ARCS_AT;
+use checking::EMISSION;
 use checking::PATHS;
+use decoder::score::Score;
 use endian::u16_at;
 
-// The letter of the sink, which has none: after the rows of 64 letters a frame's table of gains has one of no gain.
-const NO_LETTER: u32 = 64;
-
-// Puts the letter and the first slot of each node and of the sink into the table of vertices. A place has n slots, so a
-// node's first is n times the number of states of the nodes below it. Answers the number of all slots.
+// Puts the first slot of each node and of the sink into the table of vertices. A place has n slots, so a node's first is
+// n times the number of states of the nodes below it. Answers the number of all slots.
 pub(crate) fn find_slots(
     voice: &[u8],
     lexicon: &[u8],
@@ -32,11 +31,13 @@ pub(crate) fn find_slots(
     while node <= nodes {
         let row = vertices[node];
         let letter = lexicon[1 + node] as usize;
-        vertices[node] = [row[ARCS_AT], row[PATHS], slot as u32, letter as u32];
+        vertices[node] = [row[ARCS_AT], row[PATHS], slot as u32, row[EMISSION]];
         slot += n * (voice[2 + 2 * letter] as usize);
         node += 1;
     }
+    // the sink is never entered
+    let none = Score::IMPOSSIBLE;
     let row = vertices[node];
-    vertices[node] = [row[ARCS_AT], row[PATHS], slot as u32, NO_LETTER];
+    vertices[node] = [row[ARCS_AT], row[PATHS], slot as u32, none.0];
     slot
 }

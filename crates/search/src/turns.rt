@@ -12,7 +12,6 @@ ghost use Rattle.search.specs.Held.{lift, held};
 ghost use Rattle.search.specs.Stored.{Stored, PassingOn, PassedOn, Turn, TurnDone};
 ghost use Rattle.search.specs.Carrying.{Staying, Arc, Own, Renewing, Renewal, stayed, overOne, renewedOne};
 ghost use Rattle.search.specs.Carrying.{renewedAll, renewal};
-use crate::gains::ENTRY;
 use crate::letters::LOOP;
 use crate::letters::STEP;
 use crate::parts::offer_from;
@@ -21,8 +20,8 @@ use crate::store::insert;
 use crate::store::shift;
 use crate::tokens::token_at;
 use checking::ARCS_AT;
+use checking::EMISSION;
 use checking::FIRST_SLOT;
-use checking::LETTER;
 use checking::PATHS;
 use decoder::score::BIAS;
 use decoder::score::Score;
@@ -45,22 +44,20 @@ fn pass_over(
     lexicon: &[u8],
     n: usize,
     vertices: &[[u32; 4]; 402],
-    gains: &[[u32; 8]; 65],
     link: Score,
     from: usize,
     t: usize,
     down: u64,
     store: &mut [u8],
 )
-    requires { ⌜ Arc (now lexicon) n (now vertices) (now gains) (link .0) false from t down (now store) ⌝ }
+    requires { ⌜ Arc (now lexicon) n (now vertices) (link .0) false from t down (now store) ⌝ }
     requires { ⌜ 0 < (link .0) ⌝ }
-    ensures { λ _. ⌜ ((a : Arc (now (lexicon .entry)) n (now (vertices .entry)) (now (gains .entry))
-        (link .0) false from t down (now (store .entry))) → Stored (a .passing-on .v) (graphOf (now (lexicon .entry))) n
-        (overOne a) (now (store .exit))) ⌝ }
+    ensures { λ _. ⌜ ((a : Arc (now (lexicon .entry)) n (now (vertices .entry)) (link .0) false from t down
+        (now (store .entry))) → Stored (a .passing-on .v) (graphOf (now (lexicon .entry))) n (overOne a)
+        (now (store .exit))) ⌝ }
     ensures { λ _. ⌜ slots n from (now (store .exit)) ≡ slots n from (now (store .entry)) ⌝ }
 {
-    let letter = vertices[t][LETTER] as usize;
-    let emission = Score(gains[letter][ENTRY]);
+    let emission = Score(vertices[t][EMISSION]);
     // as at the sink, which has none
     if emission.is_impossible() {
         return;
@@ -75,15 +72,14 @@ fn pass_on(
     lexicon: &[u8],
     n: usize,
     vertices: &[[u32; 4]; 402],
-    gains: &[[u32; 8]; 65],
     link: Score,
     node: usize,
     from: usize,
     store: &mut [u8],
 )
-    requires { ⌜ PassingOn (now lexicon) n (now vertices) (now gains) (link .0) node false from (now store) ⌝ }
-    ensures { λ _. ⌜ ((t : PassingOn (now (lexicon .entry)) n (now (vertices .entry)) (now (gains .entry))
-        (link .0) node false from (now (store .entry))) → PassedOn t (now (store .exit))) ⌝ }
+    requires { ⌜ PassingOn (now lexicon) n (now vertices) (link .0) node false from (now store) ⌝ }
+    ensures { λ _. ⌜ ((t : PassingOn (now (lexicon .entry)) n (now (vertices .entry)) (link .0) node false from
+        (now (store .entry))) → PassedOn t (now (store .exit))) ⌝ }
 {
     let first = token_at(store, from);
     if first.is_none() {
@@ -98,7 +94,7 @@ fn pass_on(
     let mut down = LIFT;
     while at < stop {
         let t = number_at(lexicon, at);
-        pass_over(lexicon, n, vertices, gains, link, from, t, down, store);
+        pass_over(lexicon, n, vertices, link, from, t, down, store);
         down += vertices[t][PATHS] as u64;
         at += 2;
     }
@@ -110,18 +106,16 @@ fn enter_node(
     lexicon: &[u8],
     n: usize,
     vertices: &[[u32; 4]; 402],
-    gains: &[[u32; 8]; 65],
     t: usize,
     increment: u32,
     store: &mut [u8],
 )
-    requires { ⌜ Arc (now lexicon) n (now vertices) (now gains) bias true 0 t (lift + increment) (now store) ⌝ }
-    ensures { λ _. ⌜ ((a : Arc (now (lexicon .entry)) n (now (vertices .entry)) (now (gains .entry)) bias true 0 t
-        (lift + increment) (now (store .entry))) → Stored (a .passing-on .v) (graphOf (now (lexicon .entry))) n
-        (overOne a) (now (store .exit))) ⌝ }
+    requires { ⌜ Arc (now lexicon) n (now vertices) bias true 0 t (lift + increment) (now store) ⌝ }
+    ensures { λ _. ⌜ ((a : Arc (now (lexicon .entry)) n (now (vertices .entry)) bias true 0 t (lift + increment)
+        (now (store .entry))) → Stored (a .passing-on .v) (graphOf (now (lexicon .entry))) n (overOne a)
+        (now (store .exit))) ⌝ }
 {
-    let letter = vertices[t][LETTER] as usize;
-    let score = Score(gains[letter][ENTRY]);
+    let score = Score(vertices[t][EMISSION]);
     if score.is_impossible() {
         return;
     }
@@ -131,15 +125,9 @@ fn enter_node(
 }
 
 // The root's token enters the first state of each node that the root leads to.
-pub(crate) fn enter_nodes(
-    lexicon: &[u8],
-    n: usize,
-    vertices: &[[u32; 4]; 402],
-    gains: &[[u32; 8]; 65],
-    store: &mut [u8],
-)
-    requires { ⌜ PassingOn (now lexicon) n (now vertices) (now gains) bias 0 true 0 (now store) ⌝ }
-    ensures { λ _. ⌜ ((t : PassingOn (now (lexicon .entry)) n (now (vertices .entry)) (now (gains .entry)) bias 0 true 0
+pub(crate) fn enter_nodes(lexicon: &[u8], n: usize, vertices: &[[u32; 4]; 402], store: &mut [u8])
+    requires { ⌜ PassingOn (now lexicon) n (now vertices) bias 0 true 0 (now store) ⌝ }
+    ensures { λ _. ⌜ ((t : PassingOn (now (lexicon .entry)) n (now (vertices .entry)) bias 0 true 0
         (now (store .entry))) → PassedOn t (now (store .exit))) ⌝ }
 {
     let start = vertices[0][ARCS_AT] as usize;
@@ -148,7 +136,7 @@ pub(crate) fn enter_nodes(
     let mut increment = 0;
     while at < stop {
         let t = number_at(lexicon, at);
-        enter_node(lexicon, n, vertices, gains, t, increment, store);
+        enter_node(lexicon, n, vertices, t, increment, store);
         increment += vertices[t][PATHS];
         at += 2;
     }
@@ -219,7 +207,7 @@ pub(crate) fn take_turn(
     lexicon: &[u8],
     n: usize,
     vertices: &[[u32; 4]; 402],
-    gains: &[[u32; 8]; 65],
+    gains: &[[u32; 8]; 64],
     link: Score,
     node: usize,
     store: &mut [u8],
@@ -231,7 +219,8 @@ pub(crate) fn take_turn(
     let letter = lexicon[1 + node] as usize;
     let states = voice[2 + 2 * letter] as usize;
     let first = vertices[node][FIRST_SLOT] as usize;
-    let last = first + n * (states - 1);
-    pass_on(lexicon, n, vertices, gains, link, node, last, store);
+    // the place of its last state ends where the next vertex's begins
+    let last = vertices[node + 1][FIRST_SLOT] as usize - n;
+    pass_on(lexicon, n, vertices, link, node, last, store);
     renew_node(store, n, first, states, &gains[letter]);
 }

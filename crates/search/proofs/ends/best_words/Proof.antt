@@ -5,7 +5,7 @@ use native.Mathlib.Omega.{arith}
 use borrow.Author.Needs.{needs}
 use Rattle.lexicon.specs.Lexicon.{nodeCount}
 use Rattle.search.specs.Running.{Run}
-use Rattle.search.proofs.Running.{run-same}
+use Rattle.search.proofs.Running.{run-with}
 use Rattle.search.proofs.Whole.{EndsLeft, ends-start, next-end, ends-next, list-ready, ends-done}
 use Rattle.search.proofs.ends.best_words.Statement.{statement}
 use Rattle.search.proofs.ends.best_words.Tie as tie
@@ -24,14 +24,15 @@ abbrev start : tie.Else1 Inv-loop μ-loop → tie.Start Inv-loop μ-loop
 start c = c .before .before .before .before .before
 
 all-frames-requires : tie.Need-all-frames-requires Inv-loop μ-loop
-all-frames-requires c κs = start (c .before) .pre
+all-frames-requires c κs = start (c .before .before) .pre
 
 -- after all frames
 run : (c : tie.After-all-frames Inv-loop μ-loop) →
-    let a = start (c .before .before) .args in
-    Run (a .voice .now) (a .lexicon .now) (a .frames .now) (a .n) (a .vertices .now)
+    let a = start (c .before .before .before) .args in
+    Run (a .voice .now) (a .lexicon .now) (a .frames .now) (a .n) (c .all-frames .last .1 .1 .1 .1 .0)
     (c .all-frames .last .1 .1 .1 .1 .1 .0)
-run c = run-same (c .all-frames .kept .1 .1 .1 .1 .1 .0) (start (c .before .before) .pre .0)
+run c = run-with (c .all-frames .ensures .1) (c .all-frames .kept .1 .1 .1 .1 .1 .0)
+    (start (c .before .before .before) .pre .0)
 
 loop-holds : tie.Need-loop-holds Inv-loop μ-loop
 unfolding nodeCount
@@ -39,30 +40,30 @@ loop-holds c = ends-start _ _ _ _ _ (c .u16-at .ensures)
 
 offer-end-requires : tie.Need-offer-end-requires Inv-loop μ-loop
 offer-end-requires c κs =
-    let l = c .before .before in
+    let l = c .before .before .before in
     let f = l .before .before .before .before .before in
-    next-end (run f) (f .all-frames .ensures) (l .loop-test .taken) (l .before .loop .inv)
+    next-end (run f) (f .all-frames .ensures .0) (l .loop-test .taken) (l .before .loop .inv)
 
 loop-again : tie.Need-loop-again Inv-loop μ-loop
 loop-again c =
     let o = c .before in
-    let l = o .before .before .before in
+    let l = o .before .before .before .before in
     let f = l .before .before .before .before .before in
-    ends-next (run f) (f .all-frames .ensures) (l .loop-test .taken) (l .before .loop .inv)
+    ends-next (run f) (f .all-frames .ensures .0) (l .loop-test .taken) (l .before .loop .inv)
     (o .offer-end .kept .1 .1 .1 .1 .1 .1 .0)
-    (o .offer-end .ensures (next-end (run f) (f .all-frames .ensures) (l .loop-test .taken) (l .before .loop .inv)))
+    (o .offer-end .ensures (next-end (run f) (f .all-frames .ensures .0) (l .loop-test .taken) (l .before .loop .inv)))
 
 copy-place-requires : tie.Need-copy-place-requires Inv-loop μ-loop
 copy-place-requires c κs =
     let l = c .before .before .before in
     let f = l .before .before .before .before in
-    (list-ready (run f) (f .all-frames .ensures) (l .loop .inv), refl)
+    (list-ready (run f) (f .all-frames .ensures .0) (l .loop .inv), refl)
 
 returns-2 : tie.Need-returns-2 Inv-loop μ-loop
 returns-2 c =
     let l = c .before .before .before in
     let f = l .before .before .before .before .before in
-    ends-done (run f) (f .all-frames .ensures) (l .loop-test .left) (l .before .loop .inv) (c .copy-place .ensures)
+    ends-done (run f) (f .all-frames .ensures .0) (l .loop-test .left) (l .before .loop .inv) (c .copy-place .ensures)
 
 u16-at-requires : tie.Need-u16-at-requires Inv-loop μ-loop
 u16-at-requires c κs = search needs
@@ -74,10 +75,10 @@ slice-aggregate-offer-end : tie.Need-slice-aggregate-offer-end Inv-loop μ-loop
 slice-aggregate-offer-end c = search needs
 
 sub-node : tie.Need-sub-node Inv-loop μ-loop
-sub-node c = c .before .before .before .before .loop-test .taken
+sub-node c = c .before .before .before .before .before .loop-test .taken
 
 loop-less : tie.Need-loop-less Inv-loop μ-loop
-loop-less c = let h = c .before .before .before .before .loop-test .taken in omega arith
+loop-less c = let h = c .before .before .before .before .before .loop-test .taken in omega arith
 
 slice-aggregate-copy-place : tie.Need-slice-aggregate-copy-place Inv-loop μ-loop
 slice-aggregate-copy-place c = search needs

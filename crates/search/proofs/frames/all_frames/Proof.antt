@@ -13,16 +13,16 @@ use Rattle.decoder.specs.Score.{numberOf, possible}
 use Rattle.search.specs.Gains.{GainsRoom}
 use Rattle.search.specs.Running.{CallNumbers, FramesDone}
 use Rattle.search.proofs.Gaining.{back}
-use Rattle.search.proofs.Running.{frame-count, run-same, frames-start, frames-next, frames-end}
+use Rattle.search.proofs.Running.{frame-count, run-with, frames-start, frames-next, frames-end}
 use Rattle.search.proofs.frames.all_frames.Statement.{statement}
 use Rattle.search.proofs.frames.all_frames.Tie as tie
 
 abbrev Inv-loop : tie.InvT-loop
-Inv-loop voice lexicon frames n vertices store₀ letters used nodes numbers gains₀ t₀ store gains t =
-    FramesDone voice lexicon frames t numbers letters gains store × (t ≤ length frames) × (length store ≡ length store₀)
+Inv-loop voice lexicon frames n vertices₀ store₀ letters used nodes numbers gains₀ t₀ vertices store gains t =
+    FramesDone voice lexicon frames t numbers letters gains vertices store × (t ≤ length frames) × (length store ≡ length store₀)
 
 abbrev μ-loop : tie.MeasureT-loop
-μ-loop voice lexicon frames n vertices store₀ letters used nodes numbers gains₀ t₀ store gains t = length frames - t
+μ-loop voice lexicon frames n vertices₀ store₀ letters used nodes numbers gains₀ t₀ vertices store gains t = length frames - t
 
 images : (c : tie.Start Inv-loop μ-loop) → AcceptedImages (c .args .voice .now) (c .args .lexicon .now)
 images c = accepted (c .pre .0 .ready .accepted)
@@ -69,27 +69,27 @@ numbers c =
 abbrev none : List ℕ
 none = replicate 8 0
 
-no-gains : GainsRoom (replicate 65 none)
+no-gains : GainsRoom (replicate 64 none)
 no-gains = record {
   long = refl;
-  wide = λ {l} h. rw (getD-replicate 65 l none [] h) (omega arith);
-  nothing = refl;
+  wide = λ {l} h. rw (getD-replicate 64 l none [] h) (omega arith);
 }
 
 loop-holds : tie.Need-loop-holds Inv-loop μ-loop
-loop-holds c = (frames-start no-gains (start c .pre .1), omega arith, refl)
+loop-holds c = (frames-start (start c .pre .0 .ready) no-gains (start c .pre .1), omega arith, refl)
 
 frame-requires : tie.Need-frame-requires Inv-loop μ-loop
 frame-requires c κs =
-    let i = c .before .before .before in
+    let i = c .before .before .before .before in
     let l = i .before in
     let s = l .before in
-    ((run-same (l .loop .inv .2) (start s .pre .0), i .loop-test .taken), (numbers s, l .loop .inv .0))
+    let d = l .loop .inv .0 in
+    ((run-with (d .table) (l .loop .inv .2) (start s .pre .0), i .loop-test .taken), (numbers s, d))
 
 loop-again : tie.Need-loop-again Inv-loop μ-loop
 loop-again c =
     let f = c .before .before in
-    let i = f .before .before .before .before in (
+    let i = f .before .before .before .before .before in (
       frames-next (f .frame .ensures),
       omega (arith, i .loop-test .taken),
       f .frame .kept .1 .1 .1 .1 .1 .1 .1 .1 .0 ∙ i .before .loop .inv .2,
@@ -98,7 +98,7 @@ loop-again c =
 returns : tie.Need-returns Inv-loop μ-loop
 returns c =
     let i = c .before .loop .inv in
-    frames-end (start (c .before .before) .pre .0 .accepted) (c .loop-test .left) (i .1) (i .0)
+    (frames-end (start (c .before .before) .pre .0 .accepted) (c .loop-test .left) (i .1) (i .0), i .0 .table)
 
 pub all-frames-spec : {M : Type 1} → statement M
 all-frames-spec =
@@ -115,11 +115,11 @@ all-frames-spec =
     loop-holds
     frame-requires
     (λ c.
-    let i = c .before .before .before .before .before .before in
+    let i = c .before .before .before .before .before .before .before in
     let h = i .loop-test .taken in
     let f = frame-count _ _ (start (i .before .before) .pre .0 .accepted) .1 in
     search needs)
-    (λ c. let h = c .before .before .before .before .before .before .loop-test .taken in omega arith)
+    (λ c. let h = c .before .before .before .before .before .before .before .loop-test .taken in omega arith)
     loop-again
     (λ c. c .before .loop .inv .2)
     returns)

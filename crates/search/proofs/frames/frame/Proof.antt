@@ -1,13 +1,15 @@
 -- `frames::frame` meets its contract: the root's token enters an empty store; or the turns that are left give what all
 -- turns give. The measure is the nodes left. Assumes nothing.
 use Prim.Native.Nat.{suc, _-_, _<_}
-use mathlib.Core.Path.{sym}
+use mathlib.Core.Path.{refl, sym}
 use native.Mathlib.Omega.{arith}
 use borrow.Author.Needs.{needs}
 use lib.ListN.{length, getD}
-use Rattle.search.specs.Gains.{Gained, MoveGains, EntryGains}
-use Rattle.search.proofs.Filling.{move-gains, entry-gains}
-use Rattle.search.proofs.Running.{known-symbol, root-passing, root-stored, before-is, entry-same}
+use Rattle.search.specs.Gains.{MoveGains}
+use Rattle.search.specs.Stored.{NodeEmissions}
+use Rattle.search.specs.Running.{Run, FrameTables}
+use Rattle.search.proofs.Filling.{move-gains}
+use Rattle.search.proofs.Running.{run-with, known-symbol, root-passing, root-stored, before-is, tables-same}
 use Rattle.search.proofs.Running.{TurnsLeft, turns-start, turn-next, turns-next, turns-done, stored-same}
 use Rattle.search.proofs.frames.frame.Statement.{statement}
 use Rattle.search.proofs.frames.frame.Tie as tie
@@ -19,80 +21,74 @@ Inv-loop voice lexicon frames t vertices letters gains store₀ n link node₀ s
 abbrev μ-loop : tie.MeasureT-loop
 μ-loop voice lexicon frames t vertices letters gains store₀ n link node₀ store node = node
 
-new-gains-requires : tie.Need-new-gains-requires Inv-loop μ-loop
-new-gains-requires c κs =
-    let s = c .before .before .before .before .before in
+frame-tables-requires : tie.Need-frame-tables-requires Inv-loop μ-loop
+frame-tables-requires c κs =
+    let s = c .before .before .before .before .before .before in
     let r = s .pre .0 in
-    let n = s .pre .1 .0 in
-    let d = s .pre .1 .1 in (
-      (r .1, known-symbol (r .0) (s .args .t) (r .1)),
-      ((n .letters-of .table, n .symbols), (d .room, λ h. d .held h .gained)),
-    )
+    let d = s .pre .1 .1 in
+    ((r .1, known-symbol (r .0) (s .args .t) (r .1)), (s .pre .1 .0, (d .table, d .room, λ h. d .held h .tables)))
 
-abbrev start : tie.After-new-gains Inv-loop μ-loop → tie.Start Inv-loop μ-loop
-start c = c .before .before .before .before .before .before
+abbrev start : tie.After-frame-tables Inv-loop μ-loop → tie.Start Inv-loop μ-loop
+start c = c .before .before .before .before .before .before .before
+
+-- with the table of vertices of this frame
+run : (g : tie.After-frame-tables Inv-loop μ-loop) →
+    let a = start g .args in
+    Run (a .voice .now) (a .lexicon .now) (a .frames .now) (a .numbers .n)
+    (g .frame-tables .last .1 .1 .1 .1 .1 .1 .1 .0) (a .store .now)
+run g = run-with (g .frame-tables .ensures .table) refl (start g .pre .0 .0)
 
 -- ---- the first frame
 
-abbrev first : tie.Then1 Inv-loop μ-loop → tie.After-new-gains Inv-loop μ-loop
+abbrev first : tie.Then1 Inv-loop μ-loop → tie.After-frame-tables Inv-loop μ-loop
 first c = c .before .before
 
--- the gains of its entries
-entries : (c : tie.Then1 Inv-loop μ-loop) →
+-- the emissions of its symbol
+emissions : (c : tie.Then1 Inv-loop μ-loop) →
     let g = first c in
     let a = start g .args in
-    EntryGains (a .voice .now) (a .lexicon .now) (getD (a .frames .now) 0 0) (g .new-gains .last .1 .1 .1 .1 .1 .0)
-entries c =
-    let g = first c in
-    let p = start g .pre in
-    entry-same (p .0 .0) (c .if1 .taken) (entry-gains (p .1 .0 .letters-of) (g .new-gains .ensures))
+    NodeEmissions (a .voice .now) (a .lexicon .now) (getD (a .frames .now) 0 0)
+    (g .frame-tables .last .1 .1 .1 .1 .1 .1 .1 .0)
+emissions c = let g = first c in tables-same (run g) (c .if1 .taken) (g .frame-tables .ensures) .emissions
 
 enter-nodes-requires : tie.Need-enter-nodes-requires Inv-loop μ-loop
 enter-nodes-requires c κs =
     let i = c .before .before in
-    let p = start (first i) .pre in
-    root-passing (p .0 .0) (p .1 .1 .empty (i .if1 .taken)) (entries i)
+    let g = first i in
+    root-passing (run g) (start g .pre .1 .1 .empty (i .if1 .taken)) (emissions i)
 
 returns : tie.Need-returns Inv-loop μ-loop
 returns c =
     let m = c .before .before in
     let i = m .before .before .before in
     let g = first i in
-    let p = start g .pre in
-    let r = p .0 .0 in
+    let r = run g in
     let z = i .if1 .taken in
-    let e = p .1 .1 .empty z in
-    let d = m .enter-nodes .ensures (root-passing r e (entries i)) in
+    let e = start g .pre .1 .1 .empty z in
+    let d = m .enter-nodes .ensures (root-passing r e (emissions i)) in
     record {
-      stored = stored-same r (sym z) (root-stored r e (entries i) d);
-      gained = g .new-gains .ensures;
+      stored = stored-same r (sym z) (root-stored r e (emissions i) d);
+      tables = g .frame-tables .ensures;
     }
 
 -- ---- a later one
 
-abbrev later : tie.Else1 Inv-loop μ-loop → tie.After-new-gains Inv-loop μ-loop
+abbrev later : tie.Else1 Inv-loop μ-loop → tie.After-frame-tables Inv-loop μ-loop
 later c = c .before .before
 
-gained : (c : tie.Else1 Inv-loop μ-loop) →
+tables : (c : tie.Else1 Inv-loop μ-loop) →
     let g = later c in
     let a = start g .args in
-    Gained (a .voice .now) (getD (a .frames .now) (suc (a .t - 1)) 0) (a .letters .now) (a .numbers .used)
-    (g .new-gains .last .1 .1 .1 .1 .1 .0)
-gained c = rw (before-is (c .if1 .left)) (later c .new-gains .ensures)
+    FrameTables (a .voice .now) (a .lexicon .now) (getD (a .frames .now) (suc (a .t - 1)) 0) (a .numbers)
+    (a .letters .now) (g .frame-tables .last .1 .1 .1 .1 .1 .1 .0) (g .frame-tables .last .1 .1 .1 .1 .1 .1 .1 .0)
+tables c = rw (before-is (c .if1 .left)) (later c .frame-tables .ensures)
 
 moves : (c : tie.Else1 Inv-loop μ-loop) →
     let g = later c in
     let a = start g .args in
     MoveGains (a .voice .now) (a .lexicon .now) (getD (a .frames .now) (suc (a .t - 1)) 0)
-    (g .new-gains .last .1 .1 .1 .1 .1 .0)
-moves c = move-gains (start (later c) .pre .1 .0 .letters-of) (gained c)
-
-links : (c : tie.Else1 Inv-loop μ-loop) →
-    let g = later c in
-    let a = start g .args in
-    EntryGains (a .voice .now) (a .lexicon .now) (getD (a .frames .now) (suc (a .t - 1)) 0)
-    (g .new-gains .last .1 .1 .1 .1 .1 .0)
-links c = entry-gains (start (later c) .pre .1 .0 .letters-of) (gained c)
+    (g .frame-tables .last .1 .1 .1 .1 .1 .1 .0)
+moves c = move-gains (start (later c) .pre .1 .0 .letters-of) (tables c .gained)
 
 inside : (c : tie.Else1 Inv-loop μ-loop) →
     let a = start (later c) .args in
@@ -103,35 +99,35 @@ loop-holds : tie.Need-loop-holds Inv-loop μ-loop
 loop-holds c =
     let s = start (later c) in
     let p = s .pre in
-    turns-start (p .0 .0) (s .args .t - 1) (p .1 .0 .nodes) (p .1 .1 .held (omega (arith, c .if1 .left)) .stored)
+    turns-start (run (later c)) (s .args .t - 1) (p .1 .0 .nodes) (p .1 .1 .held (omega (arith, c .if1 .left)) .stored)
 
 take-turn-requires : tie.Need-take-turn-requires Inv-loop μ-loop
 take-turn-requires c κs =
-    let l = c .before .before in
+    let l = c .before .before .before in
     let i = l .before .before in
     let s = start (later i) in
-    turn-next (s .pre .0 .0) (s .args .t - 1) (inside i) (moves i) (links i) (s .pre .1 .0 .link) (l .loop-test .taken)
-    (l .before .loop .inv)
+    turn-next (run (later i)) (s .args .t - 1) (inside i) (moves i) (tables i .emissions) (s .pre .1 .0 .link)
+    (l .loop-test .taken) (l .before .loop .inv)
 
 loop-again : tie.Need-loop-again Inv-loop μ-loop
 loop-again c =
     let m = c .before .before in
-    let l = m .before .before .before in
+    let l = m .before .before .before .before in
     let i = l .before .before in
     let s = start (later i) in
-    turns-next (s .pre .0 .0) (s .args .t - 1) (inside i) (moves i) (links i) (s .pre .1 .0 .link) (l .loop-test .taken)
-    (l .before .loop .inv) (m .take-turn .ensures)
+    turns-next (run (later i)) (s .args .t - 1) (inside i) (moves i) (tables i .emissions) (s .pre .1 .0 .link)
+    (l .loop-test .taken) (l .before .loop .inv) (m .take-turn .ensures)
 
 returns-2 : tie.Need-returns-2 Inv-loop μ-loop
 returns-2 c =
     let i = c .before .before in
     let g = later i in
     let s = start g in
-    let r = s .pre .0 .0 in
+    let r = run g in
     let d = turns-done r (s .args .t - 1) (c .loop-test .left) (c .before .loop .inv) in
     record {
       stored = stored-same r (before-is (i .if1 .left)) d;
-      gained = g .new-gains .ensures;
+      tables = g .frame-tables .ensures;
     }
 
 pub frame-spec : {M : Type 1} → statement M
@@ -140,14 +136,14 @@ frame-spec =
     (tie.spec
     Inv-loop
     μ-loop
-    new-gains-requires
+    frame-tables-requires
     enter-nodes-requires
     (λ c. search needs)
     returns
     loop-holds
     take-turn-requires
-    (λ c. c .before .before .before .before .before .loop-test .taken)
-    (λ c. let h = c .before .before .before .before .before .loop-test .taken in omega arith)
+    (λ c. c .before .before .before .before .before .before .loop-test .taken)
+    (λ c. let h = c .before .before .before .before .before .before .loop-test .taken in omega arith)
     loop-again
     (λ c. c .before .loop .inv .long)
     returns-2)

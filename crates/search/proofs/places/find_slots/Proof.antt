@@ -9,7 +9,7 @@ use borrow.Author.Needs.{needs}
 use Rattle.lexicon.specs.Lexicon.{nodeCount, sinkOf}
 use Rattle.checking.proofs.Arcs.{shape-of}
 use Rattle.checking.proofs.Counting.{Images, well-formed, NodeRead, node-read}
-use Rattle.search.specs.Places.{arcsIn, pathsIn}
+use Rattle.search.specs.Places.{arcsIn, pathsIn, emissionIn}
 use Rattle.search.proofs.Numbering.{SlotsFound, slots-start, slots-next, slots-done}
 use Rattle.search.proofs.places.find_slots.Statement.{statement}
 use Rattle.search.proofs.places.find_slots.Tie as tie
@@ -50,8 +50,8 @@ next : (c : tie.In-loop Inv-loop μ-loop) →
     (a .n * count ≤ 32) × SlotsFound (a .voice .now) (a .lexicon .now) (a .n) (l .loop .node + 1)
     (l .loop .slot + a .n * count) (a .vertices .now)
     (set (l .loop .vertices) (l .loop .node)
-    (arcsIn (l .loop .vertices) (l .loop .node) ∷ pathsIn (l .loop .vertices) (l .loop .node) ∷ l .loop .slot ∷ getD
-    (a .lexicon .now) (1 + l .loop .node) 0 ∷ []))
+    (arcsIn (l .loop .vertices) (l .loop .node) ∷ pathsIn (l .loop .vertices) (l .loop .node) ∷ l .loop .slot
+    ∷ emissionIn (l .loop .vertices) (l .loop .node) ∷ []))
 next c =
     let s = c .before .before .before .before .before in
     slots-next (images s) (s .pre .1 .0) (c .before .loop .inv) (high c)

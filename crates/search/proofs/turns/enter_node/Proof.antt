@@ -2,15 +2,13 @@
 -- enters. Assumes nothing.
 use Prim.Native.Nat.{ℕ, _+_, _*_, _-_, _≤_}
 use mathlib.Core.Path.{_≡_, refl, ap, _∙_}
-use mathlib.Core.List.{[]}
 use native.Mathlib.Omega.{arith}
 use borrow.Author.Needs.{needs}
 use borrow.Rule.Slice.PartMut.{mid-len}
-use lib.ListN.{getD}
 use Rattle.lexicon.specs.Lexicon.{nodeCount}
 use Rattle.decoder.specs.Score.{bias, numberOf}
 use Rattle.search.specs.Slots.{enter, PlaceRoom}
-use Rattle.search.specs.Places.{firstIn, vertexLetter}
+use Rattle.search.specs.Places.{firstIn, emissionIn}
 use Rattle.search.specs.Gains.{numberSum}
 use Rattle.search.proofs.Told.{same-told, other-told}
 use Rattle.search.proofs.Lending.{part-size, part-slots, part-room, part-back}
@@ -24,11 +22,11 @@ use Rattle.search.proofs.turns.enter_node.Tie as tie
 node : (c : tie.Start) → c .args .t ≤ nodeCount (c .args .lexicon .now)
 node c = root-node (c .pre)
 
-read : (c : tie.Start) → let a = c .args in ArcRead (a .vertices .now) (a .gains .now) bias (a .t)
+read : (c : tie.Start) → let a = c .args in ArcRead (a .vertices .now) bias (a .t)
 read c = arc-read (c .pre)
 
 abbrev score : tie.Start → ℕ
-score c = getD (getD (c .args .gains .now) (vertexLetter (c .args .vertices .now) (c .args .t)) []) 4 0
+score c = emissionIn (c .args .vertices .now) (c .args .t)
 
 -- the emission alone is the gain
 gain : (c : tie.Start) → score c ≡ numberSum bias (score c)
@@ -37,12 +35,12 @@ gain c = root-sum (read c .entry-near)
 returns : tie.Need-returns
 unfolding numberOf
 returns c =
-    let s = c .before .before .before .before .before .before in
+    let s = c .before .before .before .before .before in
     let z = same-told (c .before .is-impossible .ensures) (c .if1 .taken) in
     λ a. arc-done a (node s) (gain s) (pass-to-nothing (arc-offering a (node s) (gain s)) z)
 
 abbrev start : tie.Else1 → tie.Start
-start c = c .before .before .before .before .before .before
+start c = c .before .before .before .before .before
 
 possible : (c : tie.Else1) → ¬ (score (start c) ≡ 0)
 unfolding numberOf
@@ -83,10 +81,6 @@ enter-node-spec =
     (tie.spec
     (λ c. let h = arc-few (c .before .before .pre) in search needs)
     (λ c. let h = arc-few (c .before .before .pre) in search needs)
-    (λ c. search needs)
-    (λ c. let h = read (c .before .before .before) .letter in search needs)
-    (λ c. let h = read (c .before .before .before) .letter in search needs)
-    (λ c. let h = read (c .before .before .before) .letter in search needs)
     (λ c. search needs)
     (λ c κs. search needs)
     returns

@@ -16,11 +16,11 @@ use Rattle.search.proofs.turns.enter_nodes.Statement.{statement}
 use Rattle.search.proofs.turns.enter_nodes.Tie as tie
 
 abbrev Inv-loop : tie.InvT-loop
-Inv-loop lexicon n vertices gains store₀ start stop at₀ increment₀ store at increment =
-    (t : PassingOn lexicon n vertices gains bias 0 true 0 store₀) → PassingLeft t at stop (lift + increment) store
+Inv-loop lexicon n vertices store₀ start stop at₀ increment₀ store at increment =
+    (t : PassingOn lexicon n vertices bias 0 true 0 store₀) → PassingLeft t at stop (lift + increment) store
 
 abbrev μ-loop : tie.MeasureT-loop
-μ-loop lexicon n vertices gains store₀ start stop at₀ increment₀ store at increment = stop - at
+μ-loop lexicon n vertices store₀ start stop at₀ increment₀ store at increment = stop - at
 
 abbrev begin : tie.After-number-at Inv-loop μ-loop → tie.Start Inv-loop μ-loop
 begin c = c .before .before .before .before
@@ -77,7 +77,7 @@ loop-again c =
     λ t.
     let p = passing-next t (l .loop .inv t) (m .before .loop-test .taken) (m .number-at2 .ensures)
     (o .enter-node .ensures) refl
-    (o .enter-node .kept .1 .1 .1 .1 .1 .1 .0) in
+    (o .enter-node .kept .1 .1 .1 .1 .1 .0) in
     let e : lift + l .loop .increment + pathsIn (start l .args .vertices .now) (m .number-at2 .result)
     ≡ lift + (l .loop .increment + pathsIn (start l .args .vertices .now) (m .number-at2 .result)) = omega arith in
     rw e at p

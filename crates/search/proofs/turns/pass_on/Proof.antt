@@ -20,11 +20,11 @@ use Rattle.search.proofs.turns.pass_on.Statement.{statement}
 use Rattle.search.proofs.turns.pass_on.Tie as tie
 
 abbrev Inv-loop : tie.InvT-loop
-Inv-loop lexicon n vertices gains link node from store₀ start stop at₀ down₀ store at down =
-    (t : PassingOn lexicon n vertices gains (link .0) node false from store₀) → PassingLeft t at stop down store
+Inv-loop lexicon n vertices link node from store₀ start stop at₀ down₀ store at down =
+    (t : PassingOn lexicon n vertices (link .0) node false from store₀) → PassingLeft t at stop down store
 
 abbrev μ-loop : tie.MeasureT-loop
-μ-loop lexicon n vertices gains link node from store₀ start stop at₀ down₀ store at down = stop - at
+μ-loop lexicon n vertices link node from store₀ start stop at₀ down₀ store at down = stop - at
 
 abbrev begin : tie.After-token-at Inv-loop μ-loop → tie.Start Inv-loop μ-loop
 begin c = c .before .before .before .before
@@ -107,7 +107,7 @@ loop-again c =
     let l = m .before .before in
     λ t. passing-next t (l .loop .inv t) (m .before .loop-test .taken) (m .number-at2 .ensures)
     (o .pass-over .ensures .0) (o .pass-over .ensures .1)
-    (o .pass-over .kept .1 .1 .1 .1 .1 .1 .1 .1 .0)
+    (o .pass-over .kept .1 .1 .1 .1 .1 .1 .1 .0)
 
 same-length-3 : tie.Need-same-length-3 Inv-loop μ-loop
 same-length-3 c = c .before .loop .inv (start (c .before) .pre) .long

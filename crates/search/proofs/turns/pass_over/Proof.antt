@@ -3,11 +3,9 @@ use Prim.Native.Nat.{ℕ, _+_, _-_, _≤_}
 use mathlib.Core.Path.{_≡_, refl}
 use native.Mathlib.Omega.{arith}
 use borrow.Author.Needs.{needs}
-use lib.ListN.{getD}
-use mathlib.Core.List.{[]}
 use Rattle.lexicon.specs.Lexicon.{nodeCount}
 use Rattle.decoder.specs.Score.{bias, numberOf}
-use Rattle.search.specs.Places.{vertexLetter}
+use Rattle.search.specs.Places.{emissionIn}
 use Rattle.search.specs.Stored.{source}
 use Rattle.search.specs.Gains.{numberSum}
 use Rattle.search.proofs.Told.{same-told, other-told}
@@ -17,11 +15,11 @@ use Rattle.search.proofs.PassingOn.{arc-source, arc-done, arc-node, arc
 use Rattle.search.proofs.turns.pass_over.Statement.{statement}
 use Rattle.search.proofs.turns.pass_over.Tie as tie
 
-read : (c : tie.Start) → let a = c .args in ArcRead (a .vertices .now) (a .gains .now) (a .link .0) (a .t)
+read : (c : tie.Start) → let a = c .args in ArcRead (a .vertices .now) (a .link .0) (a .t)
 read c = arc-read (c .pre .0)
 
 abbrev entered : tie.Start → ℕ
-entered s = getD (getD (s .args .gains .now) (vertexLetter (s .args .vertices .now) (s .args .t)) []) 4 0
+entered s = emissionIn (s .args .vertices .now) (s .args .t)
 
 returns : tie.Need-returns
 unfolding numberOf
@@ -31,7 +29,7 @@ returns c = ((λ a. arc-closed a (same-told (c .before .is-impossible .ensures) 
 
 module _ (c : tie.Else1) where
   abbrev s : tie.Start
-  s = c .before .before .before .before .before .before
+  s = c .before .before .before .before .before
 
   some : ¬ (entered s ≡ 0)
   unfolding numberOf
@@ -78,10 +76,6 @@ pass-over-spec =
     (tie.spec
     (λ c. let h = arc-few (c .before .before .pre .0) in search needs)
     (λ c. let h = arc-few (c .before .before .pre .0) in search needs)
-    (λ c. search needs)
-    (λ c. let h = read (c .before .before .before) .letter in search needs)
-    (λ c. let h = read (c .before .before .before) .letter in search needs)
-    (λ c. let h = read (c .before .before .before) .letter in search needs)
     (λ c. search needs)
     (λ c κs. search needs)
     returns

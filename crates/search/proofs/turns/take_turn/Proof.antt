@@ -2,16 +2,19 @@
 -- nothing.
 use mathlib.Core.Path.{_∙_}
 use borrow.Author.Needs.{needs}
-use Rattle.search.proofs.Turning.{node-there, node-few, letter-small, letter-there, count-range, slot-few}
-use Rattle.search.proofs.Turning.{renewing, passing-on, turn-done}
+use Rattle.search.proofs.Turning.{node-there, node-few, letter-small, letter-there, count-range, first-few}
+use Rattle.search.proofs.Turning.{slot-few, renewing, passing-on, turn-done}
 use Rattle.search.proofs.turns.take_turn.Statement.{statement}
 use Rattle.search.proofs.turns.take_turn.Tie as tie
 
 abbrev begin : tie.After-shared-slice-known3 → tie.Start
 begin c = c .before .before .before .before
 
-abbrev at-last : tie.After-first → tie.Start
-at-last c = begin (c .before .before)
+abbrev at-first : tie.After-first → tie.Start
+at-first c = begin (c .before .before)
+
+abbrev at-last : tie.After-last → tie.Start
+at-last c = at-first (c .before)
 
 pass-on-requires : tie.Need-pass-on-requires
 pass-on-requires c κs = passing-on (at-last (c .before) .pre)
@@ -45,8 +48,11 @@ take-turn-spec =
     (λ c. let h = node-few (begin (c .before) .pre) in search needs)
     (λ c. let h = node-few (begin (c .before) .pre) in search needs)
     (λ c. search needs)
-    (λ c. let h = slot-few (at-last c .pre) in search needs)
-    (λ c. let h = count-range (at-last c .pre) .0 in search needs)
+    (λ c. let h = first-few (at-first c .pre) in search needs)
+    (λ c. let h = node-few (at-first c .pre) in search needs)
+    (λ c. let h = node-few (at-first c .pre) in search needs)
+    (λ c. let h = node-few (at-first c .pre) in search needs)
+    (λ c. search needs)
     (λ c. let h = slot-few (at-last c .pre) in search needs)
     (λ c. let h = slot-few (at-last c .pre) in search needs)
     pass-on-requires
@@ -54,5 +60,5 @@ take-turn-spec =
     (λ c. let h = letter-small (start (c .before .before .before) .pre) in search needs)
     renew-node-requires
     (λ c. let r = c .before .before in r .renew-node .kept .0
-    ∙ r .before .before .before .before .before .pass-on .kept .1 .1 .1 .1 .1 .1 .1 .0)
+    ∙ r .before .before .before .before .before .pass-on .kept .1 .1 .1 .1 .1 .1 .0)
     returns)
