@@ -109,7 +109,7 @@ module _ (v x work : List ℕ) where
     call-run {t = t} p c o s l = record {
       ready = record {
         accepted = p .images;
-        long = s .long;
+        rows = s .rows;
         arcs = λ {u} h. s .arcs u ∙ sym (column-at 0 u t) ∙ entry (o .tables .located) (omega arith);
         paths = λ {u} h. s .paths u ∙ sym (column-at 1 u t) ∙ entry (o .tables .counted) (omega arith);
         first = s .first;

@@ -18,8 +18,8 @@ use Rattle.graph.specs.Graph.{Graph, graphOf, sink}
 use Rattle.graph.specs.Conditions.{placeCount}
 use Rattle.checking.proofs.Arcs.{shape-of}
 use Rattle.checking.proofs.Counting.{Images, well-formed, node-read}
-use Rattle.search.specs.Places.{firstPlace, firstSlot, arcsIn, pathsIn, firstIn, emissionIn, SlotsPut}
-use Rattle.search.specs.Places.{NodesRead, EmissionsPut}
+use Rattle.search.specs.Places.{firstPlace, firstSlot, arcsIn, pathsIn, firstIn, emissionIn, VertexRows}
+use Rattle.search.specs.Places.{SlotsPut, NodesRead, EmissionsPut}
 
 module _ (v : List ℕ) (g : Graph) where
   -- after a node's places come those of the next
@@ -73,9 +73,43 @@ module _ (v : List ℕ) (g : Graph) where
 
 -- ---- the table
 
+-- one number is put into the table: a, into column j of row w
+abbrev pub cellPut : List (List ℕ) → ℕ → ℕ → ℕ → List (List ℕ)
+cellPut t w j a = set t w (set (getD t w []) j a)
+
+module _ (t : List (List ℕ)) (w j a : ℕ) (r : VertexRows t) (h : w < 402) where
+  own-row : {u : ℕ} → u ≡ w → getD (cellPut t w j a) u [] ≡ set (getD t w []) j a
+  own-row e = rw e (getD-set-same t w (set (getD t w []) j a) [] (omega (arith, r .long)))
+
+  other-row : {u : ℕ} → ¬ (u ≡ w) → getD (cellPut t w j a) u [] ≡ getD t u []
+  other-row {u} d = getD-set-other t w u (set (getD t w []) j a) [] d
+
+  pub cell-here : j < 4 → getD (getD (cellPut t w j a) w []) j 0 ≡ a
+  cell-here k = rw (own-row refl) (getD-set-same (getD t w []) j a 0 (omega (arith, r .wide h)))
+
+  -- in another row
+  pub cell-below : {u : ℕ} (i : ℕ) → ¬ (u ≡ w) → getD (getD (cellPut t w j a) u []) i 0 ≡ getD (getD t u []) i 0
+  cell-below i d = rw (other-row d)
+
+  -- in another column
+  pub cell-beside : (u : ℕ) {i : ℕ} → ¬ (i ≡ j) → getD (getD (cellPut t w j a) u []) i 0 ≡ getD (getD t u []) i 0
+  cell-beside u {i} d = elim (ℕ-discrete u w) [
+    | yes e ↦ rw (own-row e, e) (getD-set-other (getD t w []) j i a 0 d)
+    | no f ↦ cell-below i f
+  ]
+
+  pub cell-rows : VertexRows (cellPut t w j a)
+  cell-rows = record {
+    long = length-set t w (set (getD t w []) j a) ∙ r .long;
+    wide = λ {u} k. elim (ℕ-discrete u w) [
+      | yes e ↦ rw (own-row e) (length-set (getD t w []) j a ∙ r .wide h)
+      | no f ↦ rw (other-row f) (r .wide k)
+    ];
+  }
+
 -- the nodes below this one have their first slot, and its own is known; lists and path counts of the table t are kept
 pub record SlotsFound (v x : List ℕ) (n node slot : ℕ) (t t′ : List (List ℕ)) : Type 0 where
-  pub long : length t′ ≡ 402
+  pub rows : VertexRows t′
   pub first : {u : ℕ} → 1 ≤ u → u < node → firstIn t′ u ≡ firstSlot v (graphOf x) n u
   pub arcs : (u : ℕ) → arcsIn t′ u ≡ arcsIn t u
   pub paths : (u : ℕ) → pathsIn t′ u ≡ pathsIn t u
@@ -84,10 +118,10 @@ pub record SlotsFound (v x : List ℕ) (n node slot : ℕ) (t t′ : List (List 
   pub high : node ≤ sinkOf x
   pub few : slot ≤ 32 * node
 
-pub slots-start : (v x : List ℕ) (n : ℕ) {t : List (List ℕ)} → length t ≡ 402 → SlotsFound v x n 1 0 t t
+pub slots-start : (v x : List ℕ) (n : ℕ) {t : List (List ℕ)} → VertexRows t → SlotsFound v x n 1 0 t t
 unfolding firstPlace sinkOf from sum
-slots-start v x n h = record {
-  long = h;
+slots-start v x n r = record {
+  rows = r;
   first = λ l k. absurd (omega arith);
   arcs = λ u. refl;
   paths = λ u. refl;
@@ -97,48 +131,26 @@ slots-start v x n h = record {
   few = omega arith;
 }
 
--- a row with another first slot and emission
-abbrev rowWith : List (List ℕ) → ℕ → ℕ → ℕ → List ℕ
-rowWith t u slot emission = arcsIn t u ∷ pathsIn t u ∷ slot ∷ emission ∷ []
-
-module _ (t : List (List ℕ)) (w slot emission : ℕ) (h : w < length t) where
-  set-row : {u : ℕ} → u ≡ w → getD (set t w (rowWith t w slot emission)) u [] ≡ rowWith t w slot emission
-  set-row e = rw e (getD-set-same t w (rowWith t w slot emission) [] h)
-
-  kept-row : {u : ℕ} → ¬ (u ≡ w) → getD (set t w (rowWith t w slot emission)) u [] ≡ getD t u []
-  kept-row {u} d = getD-set-other t w u (rowWith t w slot emission) [] d
-
-  pub slot-put : firstIn (set t w (rowWith t w slot emission)) w ≡ slot
-  slot-put = rw (set-row refl)
-
-  pub slot-other : {u : ℕ} → ¬ (u ≡ w) → firstIn (set t w (rowWith t w slot emission)) u ≡ firstIn t u
-  slot-other d = ap (λ r. getD r 2 0) (kept-row d)
-
-  pub emission-put : emissionIn (set t w (rowWith t w slot emission)) w ≡ emission
-  emission-put = rw (set-row refl)
-
-  pub emission-other : {u : ℕ} → ¬ (u ≡ w) → emissionIn (set t w (rowWith t w slot emission)) u ≡ emissionIn t u
-  emission-other d = ap (λ r. getD r 3 0) (kept-row d)
-
-  pub arcs-kept : (u : ℕ) → arcsIn (set t w (rowWith t w slot emission)) u ≡ arcsIn t u
-  arcs-kept u = elim (ℕ-discrete u w) [ yes e ↦ rw (set-row e, e) | no d ↦ ap (λ r. getD r 0 0) (kept-row d) ]
-
-  pub paths-kept : (u : ℕ) → pathsIn (set t w (rowWith t w slot emission)) u ≡ pathsIn t u
-  paths-kept u = elim (ℕ-discrete u w) [ yes e ↦ rw (set-row e, e) | no d ↦ ap (λ r. getD r 1 0) (kept-row d) ]
+-- with this one's slot
+slot-found : {v x : List ℕ} {n node slot : ℕ} {t t′ : List (List ℕ)} → SlotsFound v x n node slot t t′ → node < 402
+    → {u : ℕ} → 1 ≤ u → u ≤ node → firstIn (cellPut t′ node 2 slot) u ≡ firstSlot v (graphOf x) n u
+slot-found {node = node} {slot} {t′ = t′} p h {u} l k = elim (ℕ-discrete u node) [
+  | yes q ↦ rw q (cell-here t′ node 2 slot (p .rows) h (omega arith) ∙ p .here)
+  | no d ↦ cell-below t′ node 2 slot (p .rows) h 2 d ∙ p .first l (omega (arith, d))
+]
 
 pub slots-next : {v x : List ℕ} {n node slot : ℕ} {t t′ : List (List ℕ)} → Images v x → n ≤ 8
     → SlotsFound v x n node slot t t′ → node ≤ nodeCount x
     → (n * getD v (2 + 2 * getD x (1 + node) 0) 0 ≤ 32)
-    × SlotsFound v x n (node + 1) (slot + n * getD v (2 + 2 * getD x (1 + node) 0) 0) t
-    (set t′ node (arcsIn t′ node ∷ pathsIn t′ node ∷ slot ∷ emissionIn t′ node ∷ []))
+    × SlotsFound v x n (node + 1) (slot + n * getD v (2 + 2 * getD x (1 + node) 0) 0) t (cellPut t′ node 2 slot)
 unfolding nodeLetter states sinkOf
 slots-next {v} {x} {n} {node} {slot} {t} {t′} i e p h = (
   slots-few,
   rw add-one (record {
-    long = length-set t′ node (rowWith t′ node slot own) ∙ p .long;
-    first = λ {u} l k. first l k (ℕ-discrete u node);
-    arcs = λ u. arcs-kept t′ node slot own room u ∙ p .arcs u;
-    paths = λ u. paths-kept t′ node slot own room u ∙ p .paths u;
+    rows = cell-rows t′ node 2 slot (p .rows) room;
+    first = λ l k. slot-found p room l (omega arith);
+    arcs = λ u. cell-beside t′ node 2 slot (p .rows) room u (λ q. omega arith) ∙ p .arcs u;
+    paths = λ u. cell-beside t′ node 2 slot (p .rows) room u (λ q. omega arith) ∙ p .paths u;
     here = next node (p .low) (p .here);
     low = omega arith;
     high = omega arith;
@@ -146,119 +158,96 @@ slots-next {v} {x} {n} {node} {slot} {t} {t′} i e p h = (
   }),
 )
   where
-    room : node < length t′
-    room = omega (arith, shape-of (well-formed i) .few, p .long)
+    room : node < 402
+    room = omega (arith, shape-of (well-formed i) .few)
 
     slots-few : n * states v (nodeLetter x node) ≤ 32
     slots-few = mul-le-mul {n₂ = 8} {m₂ = 4} e (node-read i (p .low) h .few)
 
-    own : ℕ
-    own = emissionIn t′ node
-
-    first : {u : ℕ} → 1 ≤ u → u < suc node → Dec (u ≡ node)
-        → firstIn (set t′ node (rowWith t′ node slot own)) u ≡ firstSlot v (graphOf x) n u
-    first l k (yes q) = rw q (slot-put t′ node slot own room ∙ p .here)
-    first l k (no d) = slot-other t′ node slot own room d ∙ p .first l (omega (arith, d))
-
-    next : (u : ℕ) → 1 ≤ u → slot ≡ firstSlot v (graphOf x) n u → slot + n * states v (nodeLetter x u) ≡ firstSlot v (graphOf x) n (suc u)
+    next : (u : ℕ) → 1 ≤ u → slot ≡ firstSlot v (graphOf x) n u
+        → slot + n * states v (nodeLetter x u) ≡ firstSlot v (graphOf x) n (suc u)
     next zero l q = absurd (omega arith)
     next (suc m) l q = rw (q, place-next v (graphOf x) m) (sym (mul-add n _ _))
 
--- the sink's row comes last
+-- the sink comes last: its slot, and no emission
 pub slots-done : {v x : List ℕ} {n node slot : ℕ} {t t′ : List (List ℕ)} → SlotsFound v x n node slot t t′
     → nodeCount x < node → node < 402
-    → SlotsPut v x n t (set t′ node (arcsIn t′ node ∷ pathsIn t′ node ∷ slot ∷ 0 ∷ [])) slot
+    → SlotsPut v x n t (cellPut (cellPut t′ node 2 slot) node 3 0) slot
 unfolding sinkOf sink
-slots-done {v} {x} {n} {node} {slot} {t′ = t′} p h k =
-    let e : node ≡ suc (nodeCount x) = omega (arith, p .high) in
-    record {
-      long = length-set t′ node (rowWith t′ node slot 0) ∙ p .long;
-      first = λ {u} l m. first l m (ℕ-discrete u node);
-      sink = rw (sym e) (emission-put t′ node slot 0 room);
-      arcs = λ u. arcs-kept t′ node slot 0 room u ∙ p .arcs u;
-      paths = λ u. paths-kept t′ node slot 0 room u ∙ p .paths u;
-      total = p .here ∙ ap (firstSlot v (graphOf x) n) e ∙ ap (λ (a : ℕ). n * a) (places-all v (graphOf x));
-    }
+slots-done {v} {x} {n} {node} {slot} {t} {t′} p h k = record {
+  rows = cell-rows t″ node 3 0 r k;
+  first = λ {u} l m. cell-beside t″ node 3 0 r k u (λ q. omega arith) ∙ slot-found p k l (omega arith);
+  sink = rw (sym e) (cell-here t″ node 3 0 r k (omega arith));
+  arcs = λ u. beside u (λ q. omega arith) (λ q. omega arith) ∙ p .arcs u;
+  paths = λ u. beside u (λ q. omega arith) (λ q. omega arith) ∙ p .paths u;
+  total = p .here ∙ ap (firstSlot v (graphOf x) n) e ∙ ap (λ (a : ℕ). n * a) (places-all v (graphOf x));
+}
   where
-    room : node < length t′
-    room = omega (arith, p .long)
+    e : node ≡ suc (nodeCount x)
+    e = omega (arith, p .high)
 
-    first : {u : ℕ} → 1 ≤ u → u ≤ suc (nodeCount x) → Dec (u ≡ node)
-        → firstIn (set t′ node (rowWith t′ node slot 0)) u ≡ firstSlot v (graphOf x) n u
-    first l m (yes q) = rw q (slot-put t′ node slot 0 room ∙ p .here)
-    first l m (no d) = slot-other t′ node slot 0 room d ∙ p .first l (omega (arith, d))
+    t″ : List (List ℕ)
+    t″ = cellPut t′ node 2 slot
+
+    r : VertexRows t″
+    r = cell-rows t′ node 2 slot (p .rows) k
+
+    beside : (u : ℕ) {i : ℕ} → ¬ (i ≡ 3) → ¬ (i ≡ 2) → getD (getD (cellPut t″ node 3 0) u []) i 0
+        ≡ getD (getD t′ u []) i 0
+    beside u c d = cell-beside t″ node 3 0 r k u c ∙ cell-beside t′ node 2 slot (p .rows) k u d
 
 -- ---- the emissions of a frame
 
 -- the nodes below this one have theirs; nothing else of the table t has changed
 pub record EmissionsFound (x : List ℕ) (gains : List (List ℕ)) (node : ℕ) (t t′ : List (List ℕ)) : Type 0 where
-  pub long : length t′ ≡ 402
+  pub rows : VertexRows t′
   pub emission : {u : ℕ} → 1 ≤ u → u < node → emissionIn t′ u ≡ getD (getD gains (nodeLetter x u) []) 4 0
   pub sink : emissionIn t′ (sinkOf x) ≡ emissionIn t (sinkOf x)
-  pub arcs : (u : ℕ) → arcsIn t′ u ≡ arcsIn t u
-  pub paths : (u : ℕ) → pathsIn t′ u ≡ pathsIn t u
-  pub first : (u : ℕ) → firstIn t′ u ≡ firstIn t u
+  pub others : (u : ℕ) {i : ℕ} → ¬ (i ≡ 3) → getD (getD t′ u []) i 0 ≡ getD (getD t u []) i 0
   pub low : 1 ≤ node
   pub high : node ≤ sinkOf x
 
-pub emissions-start : (x : List ℕ) (gains : List (List ℕ)) {t : List (List ℕ)} → length t ≡ 402
+pub emissions-start : (x : List ℕ) (gains : List (List ℕ)) {t : List (List ℕ)} → VertexRows t
     → EmissionsFound x gains 1 t t
 unfolding sinkOf
-emissions-start x gains h = record {
-  long = h;
+emissions-start x gains r = record {
+  rows = r;
   emission = λ l k. absurd (omega arith);
   sink = refl;
-  arcs = λ u. refl;
-  paths = λ u. refl;
-  first = λ u. refl;
+  others = λ u d. refl;
   low = omega arith;
   high = omega arith;
 }
 
 pub emissions-next : {x : List ℕ} {gains : List (List ℕ)} {node nodes : ℕ} {t t′ : List (List ℕ)} → NodesRead x nodes
     → EmissionsFound x gains node t t′ → node ≤ nodeCount x
-    → EmissionsFound x gains (node + 1) t (set t′ node (arcsIn t′ node ∷ pathsIn t′ node ∷ firstIn t′ node
-    ∷ getD (getD gains (getD x (1 + node) 0) []) 4 0 ∷ []))
+    → EmissionsFound x gains (node + 1) t (cellPut t′ node 3 (getD (getD gains (getD x (1 + node) 0) []) 4 0))
 unfolding nodeLetter sinkOf
 emissions-next {x} {gains} {node} {t = t} {t′ = t′} i p h = rw add-one (record {
-  long = length-set t′ node row ∙ p .long;
-  emission = λ {u} l k. emission l k (ℕ-discrete u node);
-  sink = emission-other t′ node slot own room (λ q. omega arith) ∙ p .sink;
-  arcs = λ u. arcs-kept t′ node slot own room u ∙ p .arcs u;
-  paths = λ u. paths-kept t′ node slot own room u ∙ p .paths u;
-  first = λ u. first (ℕ-discrete u node) ∙ p .first u;
+  rows = cell-rows t′ node 3 own (p .rows) room;
+  emission = λ {u} l k. elim (ℕ-discrete u node) [
+    | yes q ↦ rw q (cell-here t′ node 3 own (p .rows) room (omega arith))
+    | no d ↦ cell-below t′ node 3 own (p .rows) room 3 d ∙ p .emission l (omega (arith, d))
+  ];
+  sink = cell-below t′ node 3 own (p .rows) room 3 (λ q. omega arith) ∙ p .sink;
+  others = λ u d. cell-beside t′ node 3 own (p .rows) room u d ∙ p .others u d;
   low = omega arith;
   high = omega arith;
 })
   where
-    slot : ℕ
-    slot = firstIn t′ node
-
     own : ℕ
     own = getD (getD gains (getD x (1 + node) 0) []) 4 0
 
-    row : List ℕ
-    row = rowWith t′ node slot own
-
-    room : node < length t′
-    room = omega (arith, shape-of (i .well-formed) .few, p .long)
-
-    emission : {u : ℕ} → 1 ≤ u → u < suc node → Dec (u ≡ node)
-        → emissionIn (set t′ node row) u ≡ getD (getD gains (getD x (1 + u) 0) []) 4 0
-    emission l k (yes q) = rw q (emission-put t′ node slot own room)
-    emission l k (no d) = emission-other t′ node slot own room d ∙ p .emission l (omega (arith, d))
-
-    first : {u : ℕ} → Dec (u ≡ node) → firstIn (set t′ node row) u ≡ firstIn t′ u
-    first (yes q) = rw q (slot-put t′ node slot own room)
-    first (no d) = slot-other t′ node slot own room d
+    room : node < 402
+    room = omega (arith, shape-of (i .well-formed) .few)
 
 pub emissions-done : {x : List ℕ} {gains : List (List ℕ)} {node : ℕ} {t t′ : List (List ℕ)}
     → EmissionsFound x gains node t t′ → nodeCount x < node → EmissionsPut x gains t t′
 emissions-done p h = record {
-  long = p .long;
+  rows = p .rows;
   emission = λ l k. p .emission l (omega arith);
   sink = p .sink;
-  arcs = p .arcs;
-  paths = p .paths;
-  first = p .first;
+  arcs = λ u. p .others u (λ q. omega arith);
+  paths = λ u. p .others u (λ q. omega arith);
+  first = λ u. p .others u (λ q. omega arith);
 }

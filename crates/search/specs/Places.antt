@@ -36,10 +36,15 @@ firstIn t u = getD (getD t u []) 2 0
 abbrev pub emissionIn : List (List ℕ) → ℕ → ℕ
 emissionIn t u = getD (getD t u []) 3 0
 
+-- 402 rows of four numbers
+pub record VertexRows (t : List (List ℕ)) : Type 0 where
+  pub long : length t ≡ 402
+  pub wide : {u : ℕ} → u < 402 → length (getD t u []) ≡ 4
+
 -- the first slots are put into the table t, no emission for the sink, and nothing else of what a vertex has for the
 -- whole call; r is the number of all slots
 pub record SlotsPut (v x : List ℕ) (n : ℕ) (t t′ : List (List ℕ)) (r : ℕ) : Type 0 where
-  pub long : length t′ ≡ 402
+  pub rows : VertexRows t′
   pub first : {u : ℕ} → 1 ≤ u → u ≤ sinkOf x → firstIn t′ u ≡ firstSlot v (graphOf x) n u
   pub sink : emissionIn t′ (sinkOf x) ≡ 0
   pub arcs : (u : ℕ) → arcsIn t′ u ≡ arcsIn t u
@@ -56,7 +61,7 @@ pub record NodesRead (x : List ℕ) (nodes : ℕ) : Type 0 where
 
 -- the emission of each node's letter, from column 4 of its row, is put into the table t, and nothing else
 pub record EmissionsPut (x : List ℕ) (gains t t′ : List (List ℕ)) : Type 0 where
-  pub long : length t′ ≡ 402
+  pub rows : VertexRows t′
   pub emission : {u : ℕ} → 1 ≤ u → u ≤ nodeCount x → emissionIn t′ u ≡ getD (getD gains (nodeLetter x u) []) 4 0
   pub sink : emissionIn t′ (sinkOf x) ≡ emissionIn t (sinkOf x)
   pub arcs : (u : ℕ) → arcsIn t′ u ≡ arcsIn t u

@@ -19,14 +19,14 @@ use Rattle.passing.specs.Tokens.{Store, bestTokens}
 use Rattle.passing.specs.InPlace.{passOn, passNode}
 use Rattle.search.specs.Slots.{slots, PlaceRoom}
 use Rattle.search.specs.Held.{held}
-use Rattle.search.specs.Places.{firstPlace, firstSlot, arcsIn, pathsIn, firstIn, emissionIn}
+use Rattle.search.specs.Places.{firstPlace, firstSlot, arcsIn, pathsIn, firstIn, emissionIn, VertexRows}
 use Rattle.search.specs.Gains.{MoveGains, entryNumber}
 
 -- accepted images, and the table of their vertices, as far as it stays for the whole call; the first slots are those of
 -- n tokens a place, and the sink is never entered
 pub record VertexTable (v x : List ℕ) (n : ℕ) (vertices : List (List ℕ)) : Type 0 where
   pub accepted : Accepted v x
-  pub long : length vertices ≡ 402
+  pub rows : VertexRows vertices
   pub arcs : {u : ℕ} → u ≤ nodeCount x → arcsIn vertices u ≡ arcsAt x u
   pub paths : {u : ℕ} → u ≤ sinkOf x → pathsIn vertices u ≡ pathCount (graphOf x) u
   pub first : {u : ℕ} → 1 ≤ u → u ≤ sinkOf x → firstIn vertices u ≡ firstSlot v (graphOf x) n u

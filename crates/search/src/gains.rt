@@ -10,15 +10,13 @@ ghost use Rattle.voice.specs.Voice.{symbolsAt};
 ghost use Rattle.decoder.specs.Score.{numberOf, possible};
 ghost use Rattle.search.specs.Gains.{NearBias, numberSum, LetterRow, GainRow, LetterTable, GainsRoom, Gained};
 ghost use Rattle.search.specs.Gains.{KnownSymbol, StatePut, FirstPut, letterIn};
-ghost use Rattle.search.specs.Places.{NodesRead, EmissionsPut};
+ghost use Rattle.search.specs.Places.{VertexRows, NodesRead, EmissionsPut};
 use crate::letters::FIRST_STATE;
 use crate::letters::INDEX;
 use crate::letters::LOOP;
 use crate::letters::STEP;
 use crate::letters::score_at;
-use checking::ARCS_AT;
-use checking::FIRST_SLOT;
-use checking::PATHS;
+use checking::EMISSION;
 use decoder::score::BIAS;
 use decoder::score::Score;
 
@@ -124,16 +122,14 @@ pub(crate) fn put_emissions(
     gains: &[[u32; 8]; 64],
     vertices: &mut [[u32; 4]; 402],
 )
-    requires { ⌜ NodesRead (now lexicon) nodes × (length (now vertices) ≡ 402) ⌝ }
+    requires { ⌜ NodesRead (now lexicon) nodes × VertexRows (now vertices) ⌝ }
     ensures { λ _. ⌜ EmissionsPut (now (lexicon .entry)) (now (gains .entry)) (now (vertices .entry))
         (now (vertices .exit)) ⌝ }
 {
     let mut node = 1;
     while node <= nodes {
-        let row = vertices[node];
         let letter = lexicon[1 + node] as usize;
-        let emission = gains[letter][ENTRY];
-        vertices[node] = [row[ARCS_AT], row[PATHS], row[FIRST_SLOT], emission];
+        vertices[node][EMISSION] = gains[letter][ENTRY];
         node += 1;
     }
 }

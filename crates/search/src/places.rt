@@ -1,14 +1,12 @@
 // The places of a lexicon, one for each state of each node, are numbered node by node, and with them their slots.
 ghost use mathlib.Core.Path.{_≡_};
 ghost use Prim.Native.Nat.{_≤_};
-ghost use lib.ListN.{length};
 ghost use Rattle.voice.specs.Fields.{wellFormed};
 ghost use Rattle.voice.specs.Voice.{letterCount, voiceVerdict};
 ghost use Rattle.lexicon.specs.Lexicon.{lexiconVerdict};
-ghost use Rattle.search.specs.Places.{SlotsPut};
-use checking::ARCS_AT;
+ghost use Rattle.search.specs.Places.{VertexRows, SlotsPut};
 use checking::EMISSION;
-use checking::PATHS;
+use checking::FIRST_SLOT;
 use decoder::score::Score;
 use endian::u16_at;
 
@@ -21,7 +19,7 @@ pub(crate) fn find_slots(
     vertices: &mut [[u32; 4]; 402],
 ) -> usize
     requires { ⌜ (voiceVerdict (now voice) ≡ wellFormed) × (lexiconVerdict (letterCount (now voice)) (now lexicon) ≡ wellFormed) ⌝ }
-    requires { ⌜ (n ≤ 8) × (length (now vertices) ≡ 402) ⌝ }
+    requires { ⌜ (n ≤ 8) × VertexRows (now vertices) ⌝ }
     ensures { λ r. ⌜ SlotsPut (now (voice .entry)) (now (lexicon .entry)) n (now (vertices .entry))
         (now (vertices .exit)) r ⌝ }
 {
@@ -29,15 +27,14 @@ pub(crate) fn find_slots(
     let mut slot = 0;
     let mut node = 1;
     while node <= nodes {
-        let row = vertices[node];
         let letter = lexicon[1 + node] as usize;
-        vertices[node] = [row[ARCS_AT], row[PATHS], slot as u32, row[EMISSION]];
+        vertices[node][FIRST_SLOT] = slot as u32;
         slot += n * (voice[2 + 2 * letter] as usize);
         node += 1;
     }
+    vertices[node][FIRST_SLOT] = slot as u32;
     // the sink is never entered
     let none = Score::IMPOSSIBLE;
-    let row = vertices[node];
-    vertices[node] = [row[ARCS_AT], row[PATHS], slot as u32, none.0];
+    vertices[node][EMISSION] = none.0;
     slot
 }

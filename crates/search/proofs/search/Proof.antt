@@ -72,7 +72,8 @@ find-slots-requires c κs =
     let t = c .before in
     let k = t .before .before .before in
     let i = accepted (passes k .images) in
-    ((i .voice, i .lexicon), (clear-call t .few, table k .long))
+    let v = table k in
+    ((i .voice, i .lexicon), (clear-call t .few, record { long = v .long; wide = v .wide }))
 
 -- ---- the store
 

@@ -30,7 +30,7 @@ frame-gains-requires c κs =
 put-emissions-requires : tie.Need-put-emissions-requires
 put-emissions-requires c κs =
     let p = start (c .before .before .before .before) .pre in
-    (nodes-read (p .1 .0) (p .1 .1 .0), p .1 .1 .0 .long)
+    (nodes-read (p .1 .0) (p .1 .1 .0), p .1 .1 .0 .rows)
 
 returns-2 : tie.Need-returns-2
 returns-2 c =

@@ -1,13 +1,11 @@
 -- `gains::put_emissions` meets its contract: before each node those below it have their emission. The measure is the
 -- nodes left. Assumes nothing.
 use Prim.Native.Nat.{_+_, _-_, _≤_, _<_}
-use mathlib.Core.List.{[], _∷_}
 use native.Mathlib.Omega.{arith}
 use borrow.Author.Needs.{needs}
-use lib.ListN.{length, getD, set}
+use lib.ListN.{length, getD}
 use Rattle.lexicon.specs.Lexicon.{nodeCount, nodeLetter}
 use Rattle.checking.proofs.Arcs.{shape-of, nodes-there}
-use Rattle.search.specs.Places.{arcsIn, pathsIn, firstIn}
 use Rattle.search.proofs.Numbering.{EmissionsFound, emissions-start, emissions-next, emissions-done}
 use Rattle.search.proofs.gains.put_emissions.Statement.{statement}
 use Rattle.search.proofs.gains.put_emissions.Tie as tie
@@ -38,11 +36,8 @@ letter : (c : tie.In-loop Inv-loop μ-loop) → getD (start c .args .lexicon .no
 unfolding nodeLetter
 letter c = start c .pre .0 .letter (c .before .loop .inv .low) (high c)
 
-abbrev inside : tie.After-shared-slice-known Inv-loop μ-loop → tie.In-loop Inv-loop μ-loop
-inside c = c .before .before
-
-abbrev turn : tie.After-emission Inv-loop μ-loop → tie.In-loop Inv-loop μ-loop
-turn c = inside (c .before)
+abbrev turn : tie.After-vertices Inv-loop μ-loop → tie.In-loop Inv-loop μ-loop
+turn c = c .before .before
 
 loop-again : tie.Need-loop-again Inv-loop μ-loop
 loop-again c = let i = turn c in emissions-next (start i .pre .0) (i .before .loop .inv) (high i)
@@ -59,18 +54,14 @@ put-emissions-spec =
     μ-loop
     loop-holds
     (λ c. let h = few c in search needs)
-    (λ c. let h = few c in search needs)
-    (λ c. let h = few (c .before) in search needs)
-    (λ c. let h = there (inside c) in search needs)
-    (λ c. let h = letter (inside c) in search needs)
-    (λ c. let h = letter (inside c) in search needs)
-    (λ c. let h = letter (inside c) in search needs)
-    (λ c. search needs)
-    (λ c. search needs)
-    (λ c. search needs)
+    (λ c. let h = there (c .before) in search needs)
+    (λ c. let h = letter (c .before) in search needs)
+    (λ c. let h = letter (c .before) in search needs)
+    (λ c. let h = letter (c .before) in search needs)
     (λ c. search needs)
     (λ c. let h = few (turn c) in search needs)
     (λ c. let h = few (turn c) in search needs)
+    (λ c. search needs)
     (λ c. let h = few (turn c) in search needs)
     (λ c. let h = turn c .loop-test .taken in omega arith)
     loop-again

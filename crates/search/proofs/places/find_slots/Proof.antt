@@ -3,14 +3,12 @@
 use Prim.Native.Nat.{_+_, _-_, _*_, _≤_, _<_}
 use mathlib.Core.Path.{_≡_}
 use native.Mathlib.Omega.{arith}
-use mathlib.Core.List.{[], _∷_}
-use lib.ListN.{getD, set}
+use lib.ListN.{getD}
 use borrow.Author.Needs.{needs}
 use Rattle.lexicon.specs.Lexicon.{nodeCount, sinkOf}
 use Rattle.checking.proofs.Arcs.{shape-of}
 use Rattle.checking.proofs.Counting.{Images, well-formed, NodeRead, node-read}
-use Rattle.search.specs.Places.{arcsIn, pathsIn, emissionIn}
-use Rattle.search.proofs.Numbering.{SlotsFound, slots-start, slots-next, slots-done}
+use Rattle.search.proofs.Numbering.{cellPut, SlotsFound, slots-start, slots-next, slots-done}
 use Rattle.search.proofs.places.find_slots.Statement.{statement}
 use Rattle.search.proofs.places.find_slots.Tie as tie
 
@@ -48,23 +46,20 @@ next : (c : tie.In-loop Inv-loop μ-loop) →
     let a = l .before .before .before .before .args in
     let count = getD (a .voice .now) (2 + 2 * getD (a .lexicon .now) (1 + l .loop .node) 0) 0 in
     (a .n * count ≤ 32) × SlotsFound (a .voice .now) (a .lexicon .now) (a .n) (l .loop .node + 1)
-    (l .loop .slot + a .n * count) (a .vertices .now)
-    (set (l .loop .vertices) (l .loop .node)
-    (arcsIn (l .loop .vertices) (l .loop .node) ∷ pathsIn (l .loop .vertices) (l .loop .node) ∷ l .loop .slot
-    ∷ emissionIn (l .loop .vertices) (l .loop .node) ∷ []))
+    (l .loop .slot + a .n * count) (a .vertices .now) (cellPut (l .loop .vertices) (l .loop .node) 2 (l .loop .slot))
 next c =
     let s = c .before .before .before .before .before in
     slots-next (images s) (s .pre .1 .0) (c .before .loop .inv) (high c)
 
 -- a letter index is a byte
 letter : (c : tie.After-shared-slice-known3 Inv-loop μ-loop) →
-    let l = c .before .before .before in
+    let l = c .before .before in
     getD (l .before .before .before .before .args .lexicon .now) (1 + l .loop .node) 0 < 256
-letter c = omega (arith, c .shared-slice-known3 .given (1 + c .before .before .before .loop .node))
+letter c = omega (arith, c .shared-slice-known3 .given (1 + c .before .before .loop .node))
 
 add-slot-2 : tie.Need-add-slot-2 Inv-loop μ-loop
 add-slot-2 c =
-    let l = c .before .before .before in
+    let l = c .before .before in
     let h = l .loop-test .taken in
     omega (arith, l .before .loop .inv .few, next l .0, few (l .before .before))
 
@@ -73,7 +68,7 @@ unfolding sinkOf
 small c = omega (arith, c .loop .inv .few, c .loop .inv .high, counted (c .before), few (c .before))
 
 loop-again : tie.Need-loop-again Inv-loop μ-loop
-loop-again c = next (c .before .before .before) .1
+loop-again c = next (c .before .before) .1
 
 -- after the nodes comes the sink
 last : (c : tie.At-loop Inv-loop μ-loop) → c .loop .node < 402
@@ -82,9 +77,11 @@ last c = omega (arith, c .loop .inv .high, counted (c .before), few (c .before))
 
 returns : tie.Need-returns Inv-loop μ-loop
 returns c =
-    let l = c .before in
-    slots-done (l .before .loop .inv) (let h = l .loop-test .left in omega (arith, counted (l .before .before)))
-    (last (l .before))
+    slots-done (c .before .loop .inv) (let h = c .loop-test .left in omega (arith, counted (c .before .before)))
+    (last (c .before))
+
+abbrev turn : tie.After-shared-slice-known3 Inv-loop μ-loop → tie.In-loop Inv-loop μ-loop
+turn c = c .before
 
 pub find-slots-spec : {M : Type 1} → statement M
 find-slots-spec =
@@ -96,30 +93,26 @@ find-slots-spec =
     (λ c. search needs)
     loop-holds
     (λ c. let h = last (c .before) in search needs)
-    (λ c. let h = last (c .before) in search needs)
-    (λ c. let h = few (c .before .before .before) in search needs)
-    (λ c. let h = node (c .before .before) .node-there in search needs)
+    (λ c. let h = node (turn c) .node-there in search needs)
     (λ c. let h = letter c in search needs)
+    (λ c. let h = small (turn c .before) in search needs)
+    (λ c. let h = last (turn c .before) in search needs)
+    (λ c. let h = last (turn c .before) in search needs)
     (λ c. search needs)
-    (λ c. search needs)
-    (λ c. let h = small (c .before .before .before) in search needs)
-    (λ c. let h = letter c in search needs)
-    (λ c. let h = last (c .before .before .before) in search needs)
-    (λ c. let h = last (c .before .before .before) in search needs)
     (λ c. let h = letter c in search needs)
     (λ c. let h = letter c in search needs)
-    (λ c. let h = node (c .before .before .before) .states-there in search needs)
-    (λ c. let h = node (c .before .before .before) .few in search needs)
-    (λ c. let h = next (c .before .before .before) .0 in search needs)
+    (λ c. let h = node (c .before .before) .states-there in search needs)
+    (λ c. let h = node (c .before .before) .few in search needs)
+    (λ c. let h = next (c .before .before) .0 in search needs)
     add-slot-2
-    (λ c. let h = few (c .before .before .before .before .before) in search needs)
+    (λ c. let h = few (c .before .before .before .before) in search needs)
     (λ c. search needs)
     loop-again
+    (λ c. let h = small (c .before) in search needs)
     (λ c. let h = last (c .before) in search needs)
     (λ c. let h = last (c .before) in search needs)
     (λ c. search needs)
+    (λ c. let h = last (c .before) in search needs)
+    (λ c. let h = last (c .before) in search needs)
     (λ c. search needs)
-    (λ c. let h = small (c .before .before) in search needs)
-    (λ c. let h = last (c .before .before) in search needs)
-    (λ c. let h = last (c .before .before) in search needs)
     returns)
