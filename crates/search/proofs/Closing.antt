@@ -41,7 +41,7 @@ use Rattle.search.proofs.Slots.{length-slots}
 use Rattle.search.proofs.Lending.{take-slots}
 use Rattle.search.proofs.Held.{Moves}
 use Rattle.search.proofs.Kept.{offered-best, offer-ready}
-use Rattle.search.proofs.Storing.{place-there, place-room, slot-small}
+use Rattle.search.proofs.PassingOn.{LastPlace, last-place}
 
 -- ---- the arc to the sink
 
@@ -111,7 +111,7 @@ module _ {x : List ℕ} {vertices : List (List ℕ)} (a : Arcs x vertices) {w : 
           none = λ f. p .counts .total-is ∙ ap (λ l. sum (map (pathCount (graphOf x)) l)) (sym e) ∙ sym (pathCount-below (sound-of formed) below);
         }
 
--- ---- a node's last state
+-- ---- a node's arcs
 
 module _ {v x : List ℕ} {n : ℕ} {vertices : List (List ℕ)} (r : VertexTable v x n vertices) where
   pub images : AcceptedImages v x
@@ -126,51 +126,6 @@ module _ {v x : List ℕ} {n : ℕ} {vertices : List (List ℕ)} (r : VertexTabl
     few = λ {u} h. omega (arith, count-within-words (sound-images images) (images .all-reached) {u = u} (omega arith), words-limit images);
   }
 
--- the last state of a node, as it is read
-abbrev pub lastAt : List ℕ → List ℕ → ℕ → ℕ
-lastAt v x w = getD v (2 + 2 * getD x (1 + w) 0) 0 - 1
-
-pub record EndPlace (v x : List ℕ) (n : ℕ) (vertices : List (List ℕ)) (w : ℕ) (b : List ℕ) : Type 0 where
-  pub vertex : w < 401
-  pub node-there : 1 + w < length x
-  pub letter-there : 2 + 2 * getD x (1 + w) 0 < length v
-  pub letter-small : getD x (1 + w) 0 < 64
-  pub one : 1 ≤ getD v (2 + 2 * getD x (1 + w) 0) 0
-  pub few : getD v (2 + 2 * getD x (1 + w) 0) 0 ≤ 4
-  pub slot-small : firstIn vertices w + n * lastAt v x w ≤ 8000
-  pub room : PlaceRoom n (firstIn vertices w + n * lastAt v x w) b
-  pub place : Place v (graphOf x) w (lastState v (graphOf x) w)
-  pub slot : slots n (firstIn vertices w + n * lastAt v x w) b
-      ≡ slots n (n * (firstPlace v (graphOf x) w + lastState v (graphOf x) w)) b
-
-module _ {v x : List ℕ} {n : ℕ} {vertices : List (List ℕ)} {w : ℕ} {b : List ℕ} (r : VertexTable v x n vertices)
-    (m : StoreRoom v x n b)
-    (low : 1 ≤ w) (high : w ≤ nodeCount x) where
-  known : nodeLetter x w < letterCount v
-  known = letter-known (letterCount v) x (images r .lexicon) w low high
-
-  slot-is : firstIn vertices w + n * lastAt v x w ≡ n * (firstPlace v (graphOf x) w + lastAt v x w)
-  unfolding sinkOf
-  slot-is = ap (λ (a : ℕ). a + n * lastAt v x w) (r .first low (omega arith)) ∙ sym (mul-add n _ _)
-
-  pub end-place : EndPlace v x n vertices w b
-  unfolding nodeLetter states lastState sink
-  end-place =
-      let s = states-range v (images r .voice) known in
-      let p : Place v (graphOf x) w (lastAt v x w) = record { low = low; high = omega arith; state = omega (arith, s) } in
-      record {
-        vertex = omega (arith, shape-of (arcs-of r .well-formed) .few);
-        node-there = omega (arith, nodes-there (arcs-of r .well-formed));
-        letter-there = states-there v (images r .voice) known;
-        letter-small = omega (arith, known, letters-few v (images r .voice));
-        one = s .0;
-        few = s .1;
-        slot-small = rw slot-is (slot-small v x (r .accepted) m (omega (arith, place-there v x p)));
-        room = rw slot-is (place-room v x m p);
-        place = p;
-        slot = ap (λ (k : ℕ). slots n k b) slot-is;
-      }
-
 -- ---- its tokens are candidates for the list
 
 pub level-up : upOf (pos 0) ≡ lift
@@ -181,10 +136,13 @@ pub level-down : (d : ℕ) → downOf d ≡ lift + d
 unfolding downOf
 level-down d = omega arith
 
-module _ {v x : List ℕ} {n : ℕ} {vertices : List (List ℕ)} {w : ℕ} {b list : List ℕ}
-    (e : Ending v x n vertices w b list) where
-  end-at : EndPlace v x n vertices w b
-  end-at = end-place (e .ready) (e .roomy) (e .low) (e .high)
+module _ {x : List ℕ} {n : ℕ} {vertices : List (List ℕ)} {w : ℕ} {b list : List ℕ}
+    (e : Ending x n vertices w b list) where
+  abbrev v : List ℕ
+  v = e .v
+
+  pub end-at : LastPlace v x n vertices w b
+  end-at = last-place (e .ready) (e .roomy) (e .low) (e .high)
 
   graph-ok : Sound (graphOf x)
   graph-ok = sound-images (images (e .ready))
@@ -245,19 +203,19 @@ module _ {v x : List ℕ} {n : ℕ} {vertices : List (List ℕ)} {w : ℕ} {b li
     unfolding ending carried finalScore
     ends-so = rw (t, q) refl
 
-    last-slots : slots n (firstIn vertices w + n * lastAt v x w) b ≡ held n (bestTokens n last-tokens)
-    last-slots = rw keeps (end-at .slot ∙ e .stored .holds (end-at .place))
+    last-slots : slots n (firstIn vertices (w + 1) - n) b ≡ held n (bestTokens n last-tokens)
+    last-slots = rw keeps (ap (λ (k : ℕ). slots n k b) (end-at .slot) ∙ e .stored .holds (end-at .place))
 
-    pub end-offer : Offer n 0 lift (lift + d) (slots n (firstIn vertices w + n * lastAt v x w) b) list
+    pub end-offer : Offer n 0 lift (lift + d) (slots n (firstIn vertices (w + 1) - n) b) list
     end-offer =
         rw (level-up, level-down d) at
         (offer-ready n (pos 0) d last-tokens end-moves {k = 0} {b = list} {s = e .s}
         (record { one = e .roomy .one; few = e .roomy .few; room = omega (arith, e .long, e .roomy .few) })
-        (omega (arith, length-slots n (firstIn vertices w + n * lastAt v x w) b))
-        (take-slots n (firstIn vertices w + n * lastAt v x w) b ∙ last-slots) (e .holds) (e .storable))
+        (omega (arith, length-slots n (firstIn vertices (w + 1) - n) b))
+        (take-slots n (firstIn vertices (w + 1) - n) b ∙ last-slots) (e .holds) (e .storable))
 
     pub end-offered : {list′ : List ℕ} → slots n 0 list′ ≡ offered lift (lift + d)
-        (slots n (firstIn vertices w + n * lastAt v x w) b) (slots n 0 list)
+        (slots n (firstIn vertices (w + 1) - n) b) (slots n 0 list)
         → Ended e list′
     end-offered o =
         let f : offered (upOf (pos 0)) (downOf d) (held n (bestTokens n last-tokens)) (held n (bestTokens n (e .s)))

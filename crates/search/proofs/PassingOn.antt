@@ -9,6 +9,7 @@ use mathlib.Core.Option.{none}
 use native.Mathlib.Omega.{arith}
 use native.Mathlib.Nat.{add-zero, pos-of-ne-zero}
 use native.Mathlib.Decide.{decLt, ℕ-discrete}
+use native.Mathlib.Numerals.{add-one}
 use lib.ListN.{length, getD}
 use Rattle.endian.specs.Bytes.{u16}
 use Rattle.voice.specs.Voice.{letterCount, states, firstState, emission}
@@ -25,19 +26,20 @@ use Rattle.checking.proofs.Arcs.{arcs-done}
 use Rattle.checking.proofs.Increments.{CountsPassed, counts-start, split-here, increment-here, counts-below, counts-next}
 use Rattle.ranking.specs.Hits.{Hit}
 use Rattle.decoder.specs.Score.{bias, frameLimit, numberOf, possible, plus}
-use Rattle.passing.specs.Tokens.{Store, bestTokens, stateOf, symbolScore, overArc}
+use Rattle.passing.specs.Tokens.{Store, bestTokens, stateOf, symbolScore, lastState, overArc}
 use Rattle.passing.specs.InPlace.{passOn}
 use Rattle.passing.proofs.Order.{hits-strict}
 use Rattle.passing.proofs.Best.{best-from, best-best}
 use Rattle.passing.proofs.InPlace.{put-node}
-use Rattle.search.specs.Slots.{Changed}
+use Rattle.search.specs.Slots.{PlaceRoom, Changed}
 use Rattle.search.specs.Held.{held, pad, lift, downOf}
 use Rattle.search.specs.Gains.{NearBias, numberSum, entryNumber}
 use Rattle.search.specs.Places.{firstPlace, firstSlot, arcsIn, pathsIn, firstIn, emissionIn}
-use Rattle.search.specs.Stored.{VertexTable, Bound, Place, Stored, source, PassingOn, PassedOn, passedOn}
+use Rattle.search.specs.Stored.{VertexTable, StoreRoom, Bound, Place, Stored, source, PassingOn, PassedOn, passedOn}
 use Rattle.search.specs.Carrying.{Worth, Offering, joined, Arc, overOne}
 use Rattle.search.proofs.Numbers.{token-some}
 use Rattle.search.proofs.Lending.{changed-apart}
+use Rattle.search.proofs.Numbering.{slot-last}
 use Rattle.search.proofs.Storing.{PutAt, same, other, put-at, stored-put, stored-ext, pass-nothing, pass-closed}
 use Rattle.search.proofs.Storing.{words-few, place-there, place-room, slot-small, carried-bound, bound-storable}
 use Rattle.search.proofs.Storing.{movers}
@@ -65,6 +67,44 @@ module _ {v x : List ℕ} {n : ℕ} {vertices : List (List ℕ)} (r : VertexTabl
   pub place-of : {u s : ℕ} → 1 ≤ u → u ≤ nodeCount x → s < states v (nodeLetter x u) → Place v (graphOf x) u s
   unfolding sink
   place-of h k l = record { low = h; high = omega arith; state = l }
+
+-- ---- a node's last state
+
+-- its place ends where the next vertex's first begins
+pub record LastPlace (v x : List ℕ) (n : ℕ) (vertices : List (List ℕ)) (w : ℕ) (b : List ℕ) : Type 0 where
+  pub vertex : w ≤ 400
+  pub long : n ≤ firstIn vertices (w + 1)
+  pub small : firstIn vertices (w + 1) ≤ 8008
+  pub place : Place v (graphOf x) w (lastState v (graphOf x) w)
+  pub slot : firstIn vertices (w + 1) - n ≡ n * (firstPlace v (graphOf x) w + lastState v (graphOf x) w)
+  pub room : PlaceRoom n (firstIn vertices (w + 1) - n) b
+
+module _ {v x : List ℕ} {n : ℕ} {vertices : List (List ℕ)} {w : ℕ} {b : List ℕ} (r : VertexTable v x n vertices)
+    (m : StoreRoom v x n b) (low : 1 ≤ w) (high : w ≤ nodeCount x) where
+  last-state : lastState v (graphOf x) w < states v (nodeLetter x w)
+  unfolding lastState
+  last-state = omega (arith, state-range r low high .0)
+
+  next-slot : firstIn vertices (w + 1) ≡ n * (firstPlace v (graphOf x) w + lastState v (graphOf x) w) + n
+  unfolding sinkOf lastState
+  next-slot = rw add-one (r .first (omega arith) (omega arith)
+      ∙ slot-last v (graphOf x) n low (state-range r low high .0))
+
+  pub last-place : LastPlace v x n vertices w b
+  last-place =
+      let p = place-of r low high last-state in
+      let s : n * (firstPlace v (graphOf x) w + lastState v (graphOf x) w) ≤ 8000
+      = slot-small v x (r .accepted) m (omega (arith, place-there v x p)) in
+      let e : firstIn vertices (w + 1) - n ≡ n * (firstPlace v (graphOf x) w + lastState v (graphOf x) w)
+      = omega (arith, next-slot) in
+      record {
+        vertex = omega (arith, high, shape-of (lexicon-formed r) .few);
+        long = omega (arith, next-slot);
+        small = omega (arith, next-slot, s, m .few);
+        place = p;
+        slot = e;
+        room = rw e (place-room v x m p);
+      }
 
 -- ---- one arc
 

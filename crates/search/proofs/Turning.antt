@@ -7,7 +7,6 @@ use mathlib.Core.Logic.{⊎-elim}
 use mathlib.Core.List.{List, [], List·Memᴰ, List·Memᴰ·append-cases as append-cases}
 use mathlib.Core.Option.{some}
 use native.Mathlib.Omega.{arith}
-use native.Mathlib.Numerals.{add-one}
 use native.Mathlib.Decide.{ℕ-discrete}
 use lib.IntN.{ℤ, natAbs}
 use lib.ListN.{length, getD}
@@ -27,13 +26,14 @@ use Rattle.passing.proofs.Best.{best-from}
 use Rattle.passing.proofs.InPlace.{renew-apart, pass-other, node-own, node-other}
 use Rattle.search.specs.Slots.{slots}
 use Rattle.search.specs.Held.{held}
-use Rattle.search.specs.Places.{firstPlace, firstSlot, firstIn}
+use Rattle.search.specs.Places.{firstSlot, firstIn}
 use Rattle.search.specs.Stored.{Bound, Place, Stored, source, PassingOn, PassedOn, passedOn, Turn, TurnDone, turned}
 use Rattle.search.specs.Carrying.{Renewal, renewal}
-use Rattle.search.proofs.Numbering.{place-end, slot-last}
-use Rattle.search.proofs.Storing.{block, place-there, place-room, slot-small, carried-bound}
+use Rattle.search.proofs.Numbering.{place-end}
+use Rattle.search.proofs.Storing.{block, place-there, slot-small, carried-bound}
 use Rattle.search.proofs.Carrying.{emission-range, move-small}
-use Rattle.search.proofs.PassingOn.{lexicon-formed, known, letter-few, state-range, place-of}
+use Rattle.search.proofs.PassingOn.{lexicon-formed, known, letter-few, state-range, place-of, LastPlace}
+use Rattle.search.proofs.PassingOn.{last-place}
 
 -- ---- bounds of a renewed state
 
@@ -99,39 +99,19 @@ module _ {v x : List ℕ} {n : ℕ} {vertices gains : List (List ℕ)} {link w :
   place : {s : ℕ} → s < count → Place v g w s
   place {s} h = place-of (t .ready) (t .low) (t .high) (omega (arith, count-is))
 
-  last : Place v g w (count - 1)
-  last = place (omega (arith, count-range))
+  pub at-end : LastPlace v x n vertices w b
+  at-end = last-place (t .ready) (t .roomy) (t .low) (t .high)
 
   pub first-few : firstIn vertices w ≤ 8000
-  first-few = rw first-is (slot-small v x (t .ready .accepted) (t .roomy) (omega (arith, place-there v x last)))
-
-  -- its last place ends where the next vertex's first begins
-  next-is : firstIn vertices (w + 1) ≡ n * (firstPlace v g w + (count - 1)) + n
-  unfolding sinkOf nodeLetter states
-  next-is = rw add-one (t .ready .first (omega arith) (omega (arith, t .high)) ∙ slot-last v g n (t .low) (count-range .0))
-
-  slot-is : firstIn vertices (w + 1) - n ≡ n * (firstPlace v g w + (count - 1))
-  slot-is = omega (arith, next-is)
-
-  pub slot-few : (n ≤ firstIn vertices (w + 1)) × (firstIn vertices (w + 1) ≤ 8008)
-  slot-few =
-      let s : n * (firstPlace v g w + (count - 1)) ≤ 8000
-      = slot-small v x (t .ready .accepted) (t .roomy) (omega (arith, place-there v x last)) in
-      (omega (arith, next-is), omega (arith, next-is, s, t .roomy .few))
+  first-few = rw first-is (slot-small v x (t .ready .accepted) (t .roomy) (omega (arith, place-there v x (at-end .place))))
 
   -- ---- passing on
 
   abbrev old : List Hit
   old = t .P w (lastState v g w)
 
-  last-is : count - 1 ≡ lastState v g w
-  unfolding lastState
-  last-is = ap (λ (c : ℕ). c - 1) count-is
-
   old-slots : slots n (firstIn vertices (w + 1) - n) b ≡ held n old
-  old-slots =
-      let p : Place v g w (lastState v g w) = rw last-is at last in
-      ap (λ (k : ℕ). slots n k b) (slot-is ∙ ap (λ (s : ℕ). n * (firstPlace v g w + s)) last-is) ∙ t .stored .holds p
+  old-slots = ap (λ (k : ℕ). slots n k b) (at-end .slot) ∙ t .stored .holds (at-end .place)
 
   below : w < sink g
   unfolding sink
@@ -139,7 +119,7 @@ module _ {v x : List ℕ} {n : ℕ} {vertices gains : List (List ℕ)} {link w :
 
   -- a node's places end before those of a later one begin
   last-apart : {u : ℕ} → w < u → u ≤ nodeCount x → firstIn vertices (w + 1) - n + n ≤ firstSlot v g n u
-  last-apart {u} l h = rw slot-is (block n (omega (arith, count-is, count-range, place-end v g {u = w} {w = u} (t .low) l)))
+  last-apart {u} l h = rw (at-end .slot) (block n (omega (arith, at-end .place .state, place-end v g {u = w} {w = u} (t .low) l)))
 
   pub passing-on : PassingOn x n vertices link w false (firstIn vertices (w + 1) - n) b
   unfolding linkScore source
@@ -160,10 +140,10 @@ module _ {v x : List ℕ} {n : ℕ} {vertices gains : List (List ℕ)} {link w :
     small = i16-range v _;
     link-is = t .link-is;
     given = old-slots;
-    inside = λ z. rw slot-is (place-room v x (t .roomy) last);
+    inside = λ z. at-end .room;
     apart = λ z l h. last-apart l h;
-    best = t .stored .kept (rw last-is at last);
-    bound = λ i. t .within .old (rw last-is at last) (omega arith) i;
+    best = t .stored .kept (at-end .place);
+    bound = λ i. t .within .old (at-end .place) (omega arith) i;
     fits = t .fits;
     stored = t .stored;
     above = λ p l i. t .within .new p l i;

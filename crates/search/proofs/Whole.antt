@@ -63,8 +63,9 @@ module _ {v x frames : List ℕ} {n : ℕ} {vertices : List (List ℕ)} {b : Lis
       record { score = omega (arith, B .score, frame-count v frames (r .accepted)); code = B .code }
 
   module _ {m : ℕ} {list : List ℕ} (k : 1 ≤ m) (d : EndsLeft v x frames n m list) where
-    unfoldable pub next-end : Ending v x n vertices m b list
+    unfoldable pub next-end : Ending x n vertices m b list
     next-end = record {
+      v = v;
       P = tokens v (graphOf x) frames n (length frames - 1);
       s = d .s;
       ready = r .ready;

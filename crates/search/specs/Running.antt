@@ -77,7 +77,8 @@ pub record LastArc (g : Graph) (w r : ℕ) : Type 0 where
   pub none : has (sink g) (g .successors w) ≡ false → r ≡ pathCount g w
 
 -- the tokens of node w's last state are candidates for a list that holds the n best of s
-pub record Ending (v x : List ℕ) (n : ℕ) (vertices : List (List ℕ)) (w : ℕ) (b list : List ℕ) : Type 0 where
+pub record Ending (x : List ℕ) (n : ℕ) (vertices : List (List ℕ)) (w : ℕ) (b list : List ℕ) : Type 0 where
+  pub v : List ℕ
   pub P : Store
   pub s : List Hit
   pub ready : VertexTable v x n vertices
@@ -91,7 +92,7 @@ pub record Ending (v x : List ℕ) (n : ℕ) (vertices : List (List ℕ)) (w : �
   pub long : length list ≡ 64
 
 -- the list after it
-pub record Ended {v x : List ℕ} {n : ℕ} {vertices : List (List ℕ)} {w : ℕ} {b list : List ℕ}
-    (e : Ending v x n vertices w b list)
+pub record Ended {x : List ℕ} {n : ℕ} {vertices : List (List ℕ)} {w : ℕ} {b list : List ℕ}
+    (e : Ending x n vertices w b list)
     (list′ : List ℕ) : Type 0 where
-  pub holds : slots n 0 list′ ≡ held n (bestTokens n (e .s ++ ending v (graphOf x) (e .P) w))
+  pub holds : slots n 0 list′ ≡ held n (bestTokens n (e .s ++ ending (e .v) (graphOf x) (e .P) w))

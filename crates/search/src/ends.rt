@@ -40,7 +40,6 @@ fn last_increment(lexicon: &[u8], vertices: &[[u32; 4]; 402], node: usize) -> u3
 
 // The tokens of a node's last state are candidates for the list, if an arc leads from it to the sink.
 fn offer_end(
-    voice: &[u8],
     lexicon: &[u8],
     n: usize,
     vertices: &[[u32; 4]; 402],
@@ -48,17 +47,16 @@ fn offer_end(
     store: &[u8],
     list: &mut [u8],
 )
-    requires { ⌜ Ending (now voice) (now lexicon) n (now vertices) node (now store) (now list) ⌝ }
-    ensures { λ _. ⌜ ((e : Ending (now (voice .entry)) (now (lexicon .entry)) n (now (vertices .entry)) node
-        (now (store .entry)) (now (list .entry))) → Ended e (now (list .exit))) ⌝ }
+    requires { ⌜ Ending (now lexicon) n (now vertices) node (now store) (now list) ⌝ }
+    ensures { λ _. ⌜ ((e : Ending (now (lexicon .entry)) n (now (vertices .entry)) node (now (store .entry))
+        (now (list .entry))) → Ended e (now (list .exit))) ⌝ }
 {
     let increment = last_increment(lexicon, vertices, node);
     if increment == vertices[node][PATHS] {
         return;
     }
-    let letter = lexicon[1 + node] as usize;
-    let states = voice[2 + 2 * letter] as usize;
-    let last = vertices[node][FIRST_SLOT] as usize + n * (states - 1);
+    // the place of its last state ends where the next vertex's begins
+    let last = vertices[node + 1][FIRST_SLOT] as usize - n;
     // the move to the sink scores 0
     offer(list, n, store, last, LIFT, LIFT + increment as u64);
 }
@@ -84,7 +82,7 @@ pub(crate) fn best_words(
     let mut list = [0u8; 64];
     let mut node = u16_at(lexicon, 0) as usize;
     while 0 < node {
-        offer_end(voice, lexicon, n, vertices, node, &store[..], &mut list[..]);
+        offer_end(lexicon, n, vertices, node, &store[..], &mut list[..]);
         node -= 1;
     }
     let mut best = [0; 8];

@@ -50,7 +50,7 @@ loop-again c =
     let l = o .before .before .before .before in
     let f = l .before .before .before .before .before in
     ends-next (run f) (f .all-frames .ensures .0) (l .loop-test .taken) (l .before .loop .inv)
-    (o .offer-end .kept .1 .1 .1 .1 .1 .1 .0)
+    (o .offer-end .kept .1 .1 .1 .1 .1 .0)
     (o .offer-end .ensures (next-end (run f) (f .all-frames .ensures .0) (l .loop-test .taken) (l .before .loop .inv)))
 
 copy-place-requires : tie.Need-copy-place-requires Inv-loop μ-loop

@@ -2,26 +2,28 @@
 -- state holds. Assumes nothing.
 use native.Mathlib.Omega.{arith}
 use borrow.Author.Needs.{needs}
-use Rattle.search.proofs.Closing.{arcs-of, EndPlace, end-place, end-none, end-there, end-nothing, end-offer}
-use Rattle.search.proofs.Closing.{end-offered}
+use Rattle.search.proofs.PassingOn.{LastPlace}
+use Rattle.search.proofs.Closing.{arcs-of, end-at, end-none, end-there, end-nothing, end-offer, end-offered}
 use Rattle.search.proofs.ends.offer_end.Statement.{statement}
 use Rattle.search.proofs.ends.offer_end.Tie as tie
-
--- where the node's last state stands
-at : (c : tie.Start)
-    → EndPlace (c .args .voice .now) (c .args .lexicon .now) (c .args .n) (c .args .vertices .now) (c .args .node)
-    (c .args .store .now)
-at c = end-place (c .pre .ready) (c .pre .roomy) (c .pre .low) (c .pre .high)
 
 returns : tie.Need-returns
 returns c e = end-nothing e (end-none e (c .before .before .last-increment .ensures) (c .if1 .taken))
 
+abbrev begin : tie.After-last-increment → tie.Start
+begin c = c .before .before .before .before
+
 abbrev start : tie.Else1 → tie.Start
-start c = c .before .before .before .before .before .before .before
+start c = begin (c .before .before)
+
+-- where the node's last state stands
+at : (c : tie.Start) → let a = c .args in
+    LastPlace (c .pre .v) (a .lexicon .now) (a .n) (a .vertices .now) (a .node) (a .store .now)
+at c = end-at (c .pre)
 
 offer-requires : tie.Need-offer-requires
 offer-requires c κs =
-    let l = c .before .before .before .before in
+    let l = c .before .before in
     let i = l .before .before in
     let e = start l .pre in
     let t = end-there e (i .last-increment .ensures) (l .if1 .left) in
@@ -30,7 +32,7 @@ offer-requires c κs =
 returns-2 : tie.Need-returns-2
 returns-2 c e =
     let o = c .before .before in
-    let l = o .before .before .before .before .before in
+    let l = o .before .before .before in
     let i = l .before .before in
     let t = end-there e (i .last-increment .ensures) (l .if1 .left) in
     end-offered e t (i .last-increment .ensures .there t) (o .offer .ensures)
@@ -39,25 +41,17 @@ pub offer-end-spec : {M : Type 1} → statement M
 offer-end-spec =
     tie.close
     (tie.spec
-    (λ c κs. let s = c .before .before .before .before in (arcs-of (s .pre .ready), s .pre .high))
-    (λ c. let h = at (c .before .before .before .before .before) .vertex in search needs)
-    (λ c. let h = at (c .before .before .before .before .before) .vertex in search needs)
+    (λ c κs. let s = c .before .before .before in (arcs-of (s .pre .ready), s .pre .high))
+    (λ c. let h = at (begin c) .vertex in search needs)
+    (λ c. let h = at (begin c) .vertex in search needs)
     (λ c. search needs)
     returns
     (λ c. let h = at (start c) .vertex in search needs)
-    (λ c. let h = at (start (c .before)) .node-there in search needs)
-    (λ c. let h = at (start (c .before)) .letter-small in search needs)
-    (λ c. let h = at (start (c .before)) .letter-small in search needs)
-    (λ c. let h = at (start (c .before)) .letter-small in search needs)
-    (λ c. let h = at (start (c .before .before)) .letter-there in search needs)
-    (λ c. let h = at (start (c .before .before)) .few in search needs)
-    (λ c. let h = at (start (c .before .before)) .vertex in search needs)
-    (λ c. let h = at (start (c .before .before)) .vertex in search needs)
+    (λ c. let h = at (start c) .vertex in search needs)
+    (λ c. let h = at (start c) .vertex in search needs)
     (λ c. search needs)
-    (λ c. let h = at (start (c .before .before .before)) .slot-small in search needs)
-    (λ c. let h = at (start (c .before .before .before)) .one in search needs)
-    (λ c. let h = at (start (c .before .before .before)) .slot-small in search needs)
-    (λ c. let h = at (start (c .before .before .before)) .slot-small in search needs)
+    (λ c. let h = at (start (c .before)) .small in search needs)
+    (λ c. let h = at (start (c .before)) .long in search needs)
     (λ c. search needs)
     (λ c. search needs)
     offer-requires

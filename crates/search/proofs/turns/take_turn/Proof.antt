@@ -3,7 +3,7 @@
 use mathlib.Core.Path.{_∙_}
 use borrow.Author.Needs.{needs}
 use Rattle.search.proofs.Turning.{node-there, node-few, letter-small, letter-there, count-range, first-few}
-use Rattle.search.proofs.Turning.{slot-few, renewing, passing-on, turn-done}
+use Rattle.search.proofs.Turning.{at-end, renewing, passing-on, turn-done}
 use Rattle.search.proofs.turns.take_turn.Statement.{statement}
 use Rattle.search.proofs.turns.take_turn.Tie as tie
 
@@ -53,8 +53,8 @@ take-turn-spec =
     (λ c. let h = node-few (at-first c .pre) in search needs)
     (λ c. let h = node-few (at-first c .pre) in search needs)
     (λ c. search needs)
-    (λ c. let h = slot-few (at-last c .pre) in search needs)
-    (λ c. let h = slot-few (at-last c .pre) in search needs)
+    (λ c. let h = at-end (at-last c .pre) .small in search needs)
+    (λ c. let h = at-end (at-last c .pre) .long in search needs)
     pass-on-requires
     (λ c. let h = letter-small (start (c .before .before .before) .pre) in search needs)
     (λ c. let h = letter-small (start (c .before .before .before) .pre) in search needs)
