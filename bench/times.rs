@@ -1,0 +1,108 @@
+//! Times two libraries' decoding in turn on the cases of bench/decode with 300 frames, and prints a line for each: its
+//! name, and the time of the one called new in percent of the old one's. bench/times links it with both.
+
+#[allow(dead_code)]
+mod decode_cases;
+#[allow(dead_code)]
+mod decode_inputs;
+#[allow(dead_code)]
+#[path = "../tests/running/draw.rs"]
+mod draw;
+#[allow(dead_code)]
+#[path = "../tests/running/image.rs"]
+mod image;
+#[allow(dead_code)]
+#[path = "../tests/running/random.rs"]
+mod random;
+#[allow(dead_code)]
+#[path = "../tests/running/sketch.rs"]
+mod sketch;
+
+use decode_cases::{cases, Case, Decode};
+
+macro_rules! decoders {
+    ($($name:ident)*) => {
+        extern "C" {
+            $(fn $name(
+                voice: *const u8,
+                voice_len: usize,
+                lexicon: *const u8,
+                lexicon_len: usize,
+                frames: *const u8,
+                frames_len: usize,
+                n: u32,
+                work: *mut u8,
+                work_len: usize,
+                out: *mut u8,
+                out_len: usize,
+            ) -> i32;)*
+        }
+    };
+}
+
+decoders!(old_decode new_decode);
+
+extern "C" {
+    fn clock_gettime(clock: i32, time: *mut [i64; 2]) -> i32;
+}
+
+/// Linux's number for the processor time of this process.
+const PROCESSOR_TIME: i32 = 2;
+
+/// Microseconds of processor time so far.
+fn now() -> f64 {
+    let mut time = [0; 2];
+    // seconds and nanoseconds, 64 bits each
+    unsafe { clock_gettime(PROCESSOR_TIME, &mut time) };
+    time[0] as f64 * 1e6 + time[1] as f64 / 1e3
+}
+
+/// A case is timed in rounds, at least so many, until they have taken so many microseconds.
+const ROUNDS: usize = 9;
+const SPENT: f64 = 150_000.0;
+
+/// At a page's start, whatever the program is linked with.
+#[repr(align(4096))]
+struct Work([u8; 64_000]);
+
+fn time(case: &Case, decode: Decode, calls: usize, work: &mut Work) -> f64 {
+    let mut out = [0; 64];
+    let begin = now();
+    for _ in 0..calls {
+        std::hint::black_box(case.call(decode, &mut work.0, &mut out));
+    }
+    now() - begin
+}
+
+/// The least of each one's rounds, since what else the machine does can only add to a time; new in percent of old.
+fn percent(case: &Case, work: &mut Work) -> f64 {
+    let decoders: [Decode; 2] = [old_decode, new_decode];
+    let lists = decoders.map(|decode| {
+        let mut out = [0; 64];
+        (case.call(decode, &mut work.0, &mut out), out)
+    });
+    assert_eq!(lists[0], lists[1]);
+    // short calls in rows of about 100 microseconds
+    let calls = (100.0 / time(case, decoders[0], 1, work)) as usize + 1;
+    let mut least = [f64::MAX; 2];
+    let begin = now();
+    let mut round = 0;
+    while round < ROUNDS || now() - begin < SPENT {
+        for (least, decode) in least.iter_mut().zip(decoders) {
+            *least = least.min(time(case, decode, calls, work));
+        }
+        round += 1;
+    }
+    100.0 * least[1] / least[0]
+}
+
+fn main() {
+    let mut work = Box::new(Work([0; 64_000]));
+    for case in cases().table.iter().filter(|case| case.frames.len() == 300) {
+        let name = format!(
+            "{}, {} places, n {}",
+            case.input.name, case.input.places, case.n
+        );
+        println!("{name}\t{:.2}", percent(case, &mut work));
+    }
+}
