@@ -1,7 +1,7 @@
 -- Tokens passed on along the arcs of a vertex: one arc, and the loop over all. What is left to pass on from the store so far is what was to be
 -- passed on from the store at the beginning; the increment of the next arc is the sum of the counts before it. Assumes nothing.
 use Prim.Native.Nat.{ℕ, zero, suc, _+_, _-_, _*_, _^_, _≤_, _<_}
-use mathlib.Core.Path.{_≡_, refl, sym, ap, ap₂, _∙_}
+use mathlib.Core.Path.{_≡_, refl, sym, ap, ap₂, _∙_, subst}
 use mathlib.Core.Bool.{Bool, true, false}
 use mathlib.Core.Logic.{inl, ⊎-elim}
 use mathlib.Core.List.{List, [], _∷_, _++_, Memᴰ·append-right, List·Memᴰ, List·Memᴰ·head as here, List·Memᴰ·tail as there, List·Memᴰ·append-cases as append-cases}
@@ -120,8 +120,11 @@ unfolding source
 source-apart true n k a c = refl
 source-apart false n k a c = changed-apart c n k (inl (a refl))
 
-module _ {x : List ℕ} {n : ℕ} {vertices : List (List ℕ)} {link : ℕ} {root : Bool} {from u down : ℕ} {b : List ℕ}
-    (t : Arc x n vertices link root from u down b) where
+module _ {n : ℕ} {vertices : List (List ℕ)} {link : ℕ} {root : Bool} {from u down : ℕ} {b : List ℕ}
+    (t : Arc n vertices link root from u down b) where
+  abbrev x : List ℕ
+  x = t .x
+
   abbrev w : ℕ
   w = t .w
 
@@ -281,35 +284,37 @@ module _ {x : List ℕ} {n : ℕ} {vertices : List (List ℕ)} {link : ℕ} {roo
 
 -- ---- an arc of the root
 
-module _ {x : List ℕ} {n : ℕ} {vertices : List (List ℕ)} {u down : ℕ} {b : List ℕ}
-    (t : Arc x n vertices bias true 0 u down b) where
-  abbrev p : PassingOn x n vertices bias (t .w) true 0 b
+module _ {n : ℕ} {vertices : List (List ℕ)} {u down : ℕ} {b : List ℕ} (t : Arc n vertices bias true 0 u down b) where
+  abbrev y : List ℕ
+  y = t .x
+
+  abbrev p : PassingOn y n vertices bias (t .w) true 0 b
   p = t .passing-on
 
-  from-root : List·Memᴰ u (successors x 0)
+  from-root : List·Memᴰ u (successors y 0)
   from-root = rw (p .root-is refl) at (t .arc)
 
-  low : 0 < sink (graphOf x)
+  low : 0 < sink (graphOf y)
   unfolding sink
   low = omega arith
 
   -- the root does not lead to the sink
-  pub root-node : u ≤ nodeCount x
+  pub root-node : u ≤ nodeCount y
   unfolding sink
   root-node =
       let s = sound-of (lexicon-formed (p .ready)) in
-      let r : u ≤ suc (nodeCount x) = s .rises low from-root .1 in
-      elim (ℕ-discrete u (suc (nodeCount x))) [
-        | yes e ↦ absurd (s .worded (rw e at from-root))
+      let r : u ≤ suc (nodeCount y) = s .rises low from-root .1 in
+      elim (ℕ-discrete u (suc (nodeCount y))) [
+        | yes e ↦ absurd (s .worded (subst (λ z. List·Memᴰ z (successors y 0)) e from-root))
         | no d ↦ omega (arith, r, d)
       ]
 
   pub root-increment : (d : ℕ) → down ≡ lift + d → d < 4294967296
   unfolding downOf wordCount
   root-increment d e =
-      let q : down ≡ lift + increment (graphOf x) 0 u = rw (p .root-is refl) at (t .down-is) in
+      let q : down ≡ lift + increment (graphOf y) 0 u = rw (p .root-is refl) at (t .down-is) in
       let c = arc-count (sound-of (lexicon-formed (p .ready))) low from-root in
-      omega (arith, e, q, c, words-few (p .v) x (p .ready .accepted))
+      omega (arith, e, q, c, words-few (p .v) y (p .ready .accepted))
 
 pub root-sum : {e : ℕ} → NearBias e → e ≡ numberSum bias e
 unfolding numberSum
@@ -410,8 +415,9 @@ module _ {x : List ℕ} {n : ℕ} {vertices : List (List ℕ)} {link w : ℕ} {r
       in-list : List·Memᴰ u (successors x w)
       in-list = rw (e, split-here formed (t .vertex) (L .sums) next) (Memᴰ·append-right (L .sums .earlier) (here refl))
 
-      pub left-arc : Arc x n vertices link root from u down b
+      pub left-arc : Arc n vertices link root from u down b
       left-arc = record {
+        x = x;
         w = w;
         passing-on = so-far;
         arc = in-list;
@@ -448,7 +454,7 @@ module _ {x : List ℕ} {n : ℕ} {vertices : List (List ℕ)} {link w : ℕ} {r
           )
 
       pub passing-next : {b′ : List ℕ}
-          → ((a : Arc x n vertices link root from u down b) → Stored (a .passing-on .v) (graphOf x) n
+          → ((a : Arc n vertices link root from u down b) → Stored (a .passing-on .v) (graphOf (a .x)) n
           (overOne a) b′)
           → source root n from b′ ≡ source root n from b → length b′ ≡ length b
           → PassingLeft (at + 2) stop (down + pathsIn vertices u) b′

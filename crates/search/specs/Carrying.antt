@@ -68,20 +68,19 @@ joined {n} t = bestTokens n (t .s ++ carried (t .score) (t .d) (t .l))
 
 -- ---- one arc: from vertex w to u, where the store is as far as the arcs before it left it
 
-pub record Arc (x : List ℕ) (n : ℕ) (vertices : List (List ℕ)) (link : ℕ) (root : Bool) (from u down : ℕ)
-    (b : List ℕ)
+pub record Arc (n : ℕ) (vertices : List (List ℕ)) (link : ℕ) (root : Bool) (from u down : ℕ) (b : List ℕ)
     : Type 0 where
+  pub x : List ℕ
   pub w : ℕ
   pub passing-on : PassingOn x n vertices link w root from b
   pub arc : List·Memᴰ u (successors x w)
   pub down-is : down ≡ downOf (increment (graphOf x) w u)
 
-unfoldable pub overOne : {x : List ℕ} {n : ℕ} {vertices : List (List ℕ)} {link : ℕ} {root : Bool}
-    {from u down : ℕ}
-    {b : List ℕ} → Arc x n vertices link root from u down b → Store
-overOne {x} {n} {u = u} t =
+unfoldable pub overOne : {n : ℕ} {vertices : List (List ℕ)} {link : ℕ} {root : Bool} {from u down : ℕ} {b : List ℕ}
+    → Arc n vertices link root from u down b → Store
+overOne {n} {u = u} t =
     let h = t .passing-on in
-    put (h .Q) u 0 (bestTokens n (h .Q u 0 ++ overArc (h .v) (graphOf x) (h .k) (h .score) (t .w) u (h .l)))
+    put (h .Q) u 0 (bestTokens n (h .Q u 0 ++ overArc (h .v) (graphOf (t .x)) (h .k) (h .score) (t .w) u (h .l)))
 
 -- ---- the states of a node
 

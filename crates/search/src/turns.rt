@@ -39,9 +39,8 @@ fn number_at(lexicon: &[u8], at: usize) -> usize
 }
 
 // Passes a node's tokens on over one arc, to the first state of vertex t: the move scores the link of the letter that
-// is left, and the emission of the one that is entered is added. The lexicon is there for the contract alone.
+// is left, and the emission of the one that is entered is added.
 fn pass_over(
-    lexicon: &[u8],
     n: usize,
     vertices: &[[u32; 4]; 402],
     link: Score,
@@ -50,11 +49,10 @@ fn pass_over(
     down: u64,
     store: &mut [u8],
 )
-    requires { ⌜ Arc (now lexicon) n (now vertices) (link .0) false from t down (now store) ⌝ }
+    requires { ⌜ Arc n (now vertices) (link .0) false from t down (now store) ⌝ }
     requires { ⌜ 0 < (link .0) ⌝ }
-    ensures { λ _. ⌜ ((a : Arc (now (lexicon .entry)) n (now (vertices .entry)) (link .0) false from t down
-        (now (store .entry))) → Stored (a .passing-on .v) (graphOf (now (lexicon .entry))) n (overOne a)
-        (now (store .exit))) ⌝ }
+    ensures { λ _. ⌜ ((a : Arc n (now (vertices .entry)) (link .0) false from t down (now (store .entry)))
+        → Stored (a .passing-on .v) (graphOf (a .x)) n (overOne a) (now (store .exit))) ⌝ }
     ensures { λ _. ⌜ slots n from (now (store .exit)) ≡ slots n from (now (store .entry)) ⌝ }
 {
     let emission = Score(vertices[t][EMISSION]);
@@ -94,26 +92,17 @@ fn pass_on(
     let mut down = LIFT;
     while at < stop {
         let t = number_at(lexicon, at);
-        pass_over(lexicon, n, vertices, link, from, t, down, store);
+        pass_over(n, vertices, link, from, t, down, store);
         down += vertices[t][PATHS] as u64;
         at += 2;
     }
 }
 
-// The root's token enters node t over the arc of that increment: its score is the emission alone. The lexicon is there
-// for the contract alone.
-fn enter_node(
-    lexicon: &[u8],
-    n: usize,
-    vertices: &[[u32; 4]; 402],
-    t: usize,
-    increment: u32,
-    store: &mut [u8],
-)
-    requires { ⌜ Arc (now lexicon) n (now vertices) bias true 0 t (lift + increment) (now store) ⌝ }
-    ensures { λ _. ⌜ ((a : Arc (now (lexicon .entry)) n (now (vertices .entry)) bias true 0 t (lift + increment)
-        (now (store .entry))) → Stored (a .passing-on .v) (graphOf (now (lexicon .entry))) n (overOne a)
-        (now (store .exit))) ⌝ }
+// The root's token enters node t over the arc of that increment: its score is the emission alone.
+fn enter_node(n: usize, vertices: &[[u32; 4]; 402], t: usize, increment: u32, store: &mut [u8])
+    requires { ⌜ Arc n (now vertices) bias true 0 t (lift + increment) (now store) ⌝ }
+    ensures { λ _. ⌜ ((a : Arc n (now (vertices .entry)) bias true 0 t (lift + increment) (now (store .entry)))
+        → Stored (a .passing-on .v) (graphOf (a .x)) n (overOne a) (now (store .exit))) ⌝ }
 {
     let score = Score(vertices[t][EMISSION]);
     if score.is_impossible() {
@@ -136,7 +125,7 @@ pub(crate) fn enter_nodes(lexicon: &[u8], n: usize, vertices: &[[u32; 4]; 402], 
     let mut increment = 0;
     while at < stop {
         let t = number_at(lexicon, at);
-        enter_node(lexicon, n, vertices, t, increment, store);
+        enter_node(n, vertices, t, increment, store);
         increment += vertices[t][PATHS];
         at += 2;
     }

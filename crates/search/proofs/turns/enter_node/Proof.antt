@@ -19,7 +19,7 @@ use Rattle.search.proofs.turns.enter_node.Statement.{statement}
 use Rattle.search.proofs.turns.enter_node.Tie as tie
 
 -- the root does not lead to the sink
-node : (c : tie.Start) → c .args .t ≤ nodeCount (c .args .lexicon .now)
+node : (c : tie.Start) → c .args .t ≤ nodeCount (c .pre .x)
 node c = root-node (c .pre)
 
 read : (c : tie.Start) → let a = c .args in ArcRead (a .vertices .now) bias (a .t)
@@ -35,12 +35,12 @@ gain c = root-sum (read c .entry-near)
 returns : tie.Need-returns
 unfolding numberOf
 returns c =
-    let s = c .before .before .before .before .before in
+    let s = c .before .before .before .before in
     let z = same-told (c .before .is-impossible .ensures) (c .if1 .taken) in
-    λ a. arc-done a (node s) (gain s) (pass-to-nothing (arc-offering a (node s) (gain s)) z)
+    λ a. arc-done a (root-node a) (gain s) (pass-to-nothing (arc-offering a (root-node a) (gain s)) z)
 
 abbrev start : tie.Else1 → tie.Start
-start c = c .before .before .before .before .before
+start c = c .before .before .before .before
 
 possible : (c : tie.Else1) → ¬ (score (start c) ≡ 0)
 unfolding numberOf
@@ -67,8 +67,8 @@ returns-2 c =
     let slot = firstIn (a .vertices .now) (a .t) in
     let size = part-size slot (a .n) in
     let r = room s .room in
-    λ t. arc-done t (node s) (gain s)
-    (root-done (a .increment) (arc-offering t (node s) (gain s)) (possible e)
+    λ t. arc-done t (root-node t) (gain s)
+    (root-done (a .increment) (arc-offering t (root-node t) (gain s)) (possible e)
     (root-increment (s .pre) (a .increment) refl)
     (part-back (a .store .now) _ slot (a .n) _ _ size r
     (w .insert .kept .0 ∙ mid-len (8 * slot) (8 * slot + 8 * a .n) (a .store .now) r)
@@ -79,8 +79,8 @@ pub enter-node-spec : {M : Type 1} → statement M
 enter-node-spec =
     tie.close
     (tie.spec
-    (λ c. let h = arc-few (c .before .before .pre) in search needs)
-    (λ c. let h = arc-few (c .before .before .pre) in search needs)
+    (λ c. let h = arc-few (c .before .pre) in search needs)
+    (λ c. let h = arc-few (c .before .pre) in search needs)
     (λ c. search needs)
     (λ c κs. search needs)
     returns

@@ -77,7 +77,7 @@ loop-again c =
     λ t.
     let p = passing-next t (l .loop .inv t) (m .before .loop-test .taken) (m .number-at2 .ensures)
     (o .enter-node .ensures) refl
-    (o .enter-node .kept .1 .1 .1 .1 .1 .0) in
+    (o .enter-node .kept .1 .1 .1 .1 .0) in
     let e : lift + l .loop .increment + pathsIn (start l .args .vertices .now) (m .number-at2 .result)
     ≡ lift + (l .loop .increment + pathsIn (start l .args .vertices .now) (m .number-at2 .result)) = omega arith in
     rw e at p

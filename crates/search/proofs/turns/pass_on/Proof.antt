@@ -107,7 +107,7 @@ loop-again c =
     let l = m .before .before in
     λ t. passing-next t (l .loop .inv t) (m .before .loop-test .taken) (m .number-at2 .ensures)
     (o .pass-over .ensures .0) (o .pass-over .ensures .1)
-    (o .pass-over .kept .1 .1 .1 .1 .1 .1 .1 .0)
+    (o .pass-over .kept .1 .1 .1 .1 .1 .1 .0)
 
 same-length-3 : tie.Need-same-length-3 Inv-loop μ-loop
 same-length-3 c = c .before .loop .inv (start (c .before) .pre) .long

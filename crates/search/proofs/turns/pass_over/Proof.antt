@@ -29,14 +29,14 @@ returns c = ((λ a. arc-closed a (same-told (c .before .is-impossible .ensures) 
 
 module _ (c : tie.Else1) where
   abbrev s : tie.Start
-  s = c .before .before .before .before .before
+  s = c .before .before .before .before
 
   some : ¬ (entered s ≡ 0)
   unfolding numberOf
   some = other-told (c .before .is-impossible .ensures) (c .if1 .left)
 
   -- the arc leads to a node
-  node : s .args .t ≤ nodeCount (s .args .lexicon .now)
+  node : s .args .t ≤ nodeCount (s .pre .0 .x)
   node = arc-node (s .pre .0) some
 
   abbrev gain : ℕ
@@ -66,7 +66,7 @@ returns-2 c =
     let from = s e .args .from in
     let q = sum e in
     let f = o .offer-from .ensures in (
-      (λ a. arc-done a (node e) (q .0) (node-done from (arc-offering a (node e) (q .0)) (q .1) f)),
+      (λ a. let k = arc-node a (some e) in arc-done a k (q .0) (node-done from (arc-offering a k (q .0)) (q .1) f)),
       arc-source p (node e) (node-done from (arc-offering p (node e) (q .0)) (q .1) f),
     )
 
@@ -74,8 +74,8 @@ pub pass-over-spec : {M : Type 1} → statement M
 pass-over-spec =
     tie.close
     (tie.spec
-    (λ c. let h = arc-few (c .before .before .pre .0) in search needs)
-    (λ c. let h = arc-few (c .before .before .pre .0) in search needs)
+    (λ c. let h = arc-few (c .before .pre .0) in search needs)
+    (λ c. let h = arc-few (c .before .pre .0) in search needs)
     (λ c. search needs)
     (λ c κs. search needs)
     returns
