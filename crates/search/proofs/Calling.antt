@@ -30,7 +30,6 @@ use Rattle.search.specs.Found.{searchAnswer, found, searchTokens}
 use Rattle.search.specs.Calling.{callRows}
 use Rattle.search.specs.Places.{SlotsPut}
 use Rattle.search.specs.Running.{Empty, Run}
-use Rattle.search.proofs.Held.{held-none}
 use Rattle.search.proofs.Whole.{zeros-empty}
 
 -- ---- the work space
@@ -75,15 +74,16 @@ module _ (v x work : List ℕ) where
     unfolding searchAnswer
     call-judged p = rw rows-so (unless-past (firstRows v x work) (callRows v frames n out) _ (p .rows))
 
-    -- the hits where it answers a value, and no tokens after a refusal
-    pub found-some : {k : ℕ} → searchAnswer v x frames n work out ≡ value k
-        → held 8 (hits v (graphOf x) frames n) ≡ searchTokens v x frames n work out
+    -- the hits where it answers a value, and the tokens as they were after a refusal
+    pub found-some : (t : List ℕ) {k : ℕ} → searchAnswer v x frames n work out ≡ value k
+        → held 8 (hits v (graphOf x) frames n) ≡ searchTokens v x frames n work out t
     unfolding searchTokens found
-    found-some e = rw e
+    found-some t e = rw e
 
-    pub found-none : {r : Refusal} → searchAnswer v x frames n work out ≡ refused r → replicate 8 0 ≡ searchTokens v x frames n work out
+    pub found-none : {r : Refusal} {t : List ℕ} → searchAnswer v x frames n work out ≡ refused r
+        → t ≡ searchTokens v x frames n work out t
     unfolding searchTokens found
-    found-none e = rw e (held-none 8)
+    found-none e = rw e
 
     -- no row applies
     pub record Clear : Type 0 where

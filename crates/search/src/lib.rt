@@ -21,13 +21,8 @@ mod store;
 mod tokens;
 mod turns;
 
-// The first refusal that applies to decoding, or 0; and the hits as tokens, best first, with no token after them.
-pub struct Searched {
-    pub answer: Answer,
-    pub tokens: [u64; 8],
-}
-
-// Finds the n best words. Of the output, which decoding writes later, it looks at the length alone.
+// Finds the n best words: answers 0 and puts them in tokens, best first, with no token after them; or answers the first
+// refusal that applies to decoding, and leaves tokens. Of the output, which decoding writes later, it looks at the length alone.
 pub fn search(
     voice: &[u8],
     lexicon: &[u8],
@@ -35,40 +30,33 @@ pub fn search(
     n: u32,
     work: &mut [u8],
     out: &[u8],
-) -> Searched
-    ensures { λ r. ⌜ answerOf (r .answer) ≡ searchAnswer (now (voice .entry)) (now (lexicon .entry)) (now (frames .entry)) n (now (work .entry)) (now (out .entry)) ⌝ }
+    tokens: &mut [u64; 8],
+) -> Answer
+    ensures { λ r. ⌜ answerOf r ≡ searchAnswer (now (voice .entry)) (now (lexicon .entry)) (now (frames .entry)) n (now (work .entry)) (now (out .entry)) ⌝ }
     ensures { λ _. ⌜ now (work .exit) ≡ decodeWork (now (voice .entry)) (now (lexicon .entry)) (now (frames .entry)) n (now (work .entry)) ⌝ }
-    ensures { λ r. ⌜ r .tokens ≡ searchTokens (now (voice .entry)) (now (lexicon .entry)) (now (frames .entry)) n (now (work .entry)) (now (out .entry)) ⌝ }
+    ensures { λ _. ⌜ now (tokens .exit) ≡ searchTokens (now (voice .entry)) (now (lexicon .entry)) (now (frames .entry)) n (now (work .entry)) (now (out .entry)) (now (tokens .entry)) ⌝ }
 {
     let mut vertices = [[0u32; 4]; 402];
     let opened = open(voice, lexicon, work, &mut vertices);
     let Answer::Value(_) = opened else {
-        return Searched {
-            answer: opened,
-            tokens: [0; 8],
-        };
+        return opened;
     };
     let judged = judge_call(voice, frames, n, out);
     let Answer::Value(_) = judged else {
-        return Searched {
-            answer: judged,
-            tokens: [0; 8],
-        };
+        return judged;
     };
-    let slots = find_slots(voice, lexicon, n as usize, &mut vertices);
+    let count = n as usize;
+    let slots = find_slots(voice, lexicon, count, &mut vertices);
     // a store of n tokens a place; checking left the work space clear, so nothing else has to be cleared again
     let bytes = 8 * slots;
-    let tokens = best_words(
+    *tokens = best_words(
         voice,
         lexicon,
         frames,
-        n as usize,
+        count,
         &mut vertices,
-        &mut work[0..bytes],
+        &mut work[..bytes],
     );
-    zero(&mut work[0..bytes]);
-    Searched {
-        answer: judged,
-        tokens: tokens,
-    }
+    zero(&mut work[..bytes]);
+    judged
 }

@@ -96,7 +96,7 @@ inside c = omega (arith, counted c, store-few _ _ _ _ _ _ (passes (checked c)) (
 
 -- its length, as the part is lent
 abbrev size : tie.After-find-slots → ℕ
-size c = 8 * c .find-slots .result - 0
+size c = 8 * c .find-slots .result
 
 small : (c : tie.After-find-slots) → size c ≤ 64000
 small c = omega (arith, inside c)
@@ -149,25 +149,25 @@ returns-3 c =
     let f = found (b .before .before) in
     let t = told f in
     let q = call-judged _ _ _ _ _ _ (passes (checked f)) ∙ sym (t .before .before .judge-call .ensures) in
-    (sym q, (wiped z, b .best-words .ensures ∙ found-some _ _ _ _ _ _ (q ∙ ap answerOf (t .enum-told3 .given .1))))
+    (sym q, (wiped z, b .best-words .ensures ∙ found-some _ _ _ _ _ _ _ (q ∙ ap answerOf (t .enum-told3 .given .1))))
 
 mul-bytes : tie.Need-mul-bytes
 mul-bytes c = let h = inside c in search needs
 
-part-best-words-end : tie.Need-part-best-words-end
-part-best-words-end c = let h = fits (found c) in search needs
+slice-relend-prefix-best-words : tie.Need-slice-relend-prefix-best-words
+slice-relend-prefix-best-words c = fits (found c)
 
-part-zero-end : tie.Need-part-zero-end
-part-zero-end c = let h = fits (found (c .before .before .before .before)) in search needs
+slice-aggregate-best-words : tie.Need-slice-aggregate-best-words
+slice-aggregate-best-words c = sym (length-take-le _ _ (fits (found (c .before))))
+
+slice-relend-prefix-zero : tie.Need-slice-relend-prefix-zero
+slice-relend-prefix-zero c = let h = fits (found (c .before .before .before .before)) in search needs
+
+slice-aggregate-zero : tie.Need-slice-aggregate-zero
+slice-aggregate-zero c = sym (length-take-le _ _ (slice-relend-prefix-zero (c .before)))
 
 same-length-3 : tie.Need-same-length-3
 same-length-3 c = ap length (wiped (c .before .before)) ∙ cleared-length _
-
-sub-zero : tie.Need-sub-zero
-sub-zero c = search needs
-
-part-zero-start : tie.Need-part-zero-start
-part-zero-start c = search needs
 
 zero-requires : tie.Need-zero-requires
 zero-requires c κs = search needs
@@ -196,12 +196,6 @@ enum-told-4 c = c .match2 .keys2
 same-length-2 : tie.Need-same-length-2
 same-length-2 c = c .before .before .before .before .before .before .before .«open» .kept .1 .1 .0
 
-sub-best-words : tie.Need-sub-best-words
-sub-best-words c = search needs
-
-part-best-words-start : tie.Need-part-best-words-start
-part-best-words-start c = search needs
-
 pub search-spec : {M : Type 1} → statement M
 search-spec =
     tie.close
@@ -218,13 +212,11 @@ search-spec =
     returns-2
     find-slots-requires
     mul-bytes
-    sub-best-words
-    part-best-words-start
-    part-best-words-end
+    slice-relend-prefix-best-words
+    slice-aggregate-best-words
     best-words-requires
-    sub-zero
-    part-zero-start
-    part-zero-end
+    slice-relend-prefix-zero
+    slice-aggregate-zero
     zero-requires
     same-length-3
     returns-3)
