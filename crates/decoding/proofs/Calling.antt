@@ -53,10 +53,10 @@ module _ (v x frames work out : List ℕ) (n : ℕ) where
     unfolding hits
     within h m = within-limits v x frames (call .images) (call .short) h (take-out n (row v (graphOf x) frames) m)
 
-    module _ {tokens : List ℕ} (f : tokens ≡ searchTokens v x frames n work out) where
+    module _ {tokens : List ℕ} (lent : List ℕ) (f : tokens ≡ searchTokens v x frames n work out lent) where
       held-so : tokens ≡ held 8 (hits v (graphOf x) frames n)
       unfolding searchTokens found
-      held-so = f ∙ ap (λ a. found a (hits v (graphOf x) frames n)) e
+      held-so = f ∙ ap (λ a. found a (hits v (graphOf x) frames n) lent) e
 
       pub says-hits : hitsOf tokens ≡ hits v (graphOf x) frames n
       says-hits = rw held-so (hits-held 8 (hits v (graphOf x) frames n) (omega (arith, few-hits, call .few-wanted))

@@ -23,12 +23,11 @@ pub fn decode(
     ensures { λ _. ⌜ now (out .exit) ≡ decodeOut (now (voice .entry)) (now (lexicon .entry)) (now (frames .entry)) n (now (work .entry)) (now (out .entry)) ⌝ }
     ensures { λ r. ⌜ MeetsDemand3 (now (voice .entry)) (now (lexicon .entry)) (now (frames .entry)) n (answerOf r) (now (out .exit)) ⌝ }
 {
-    let found = search(voice, lexicon, frames, n, work, &out[..]);
-    let answer = found.answer;
+    let mut tokens = [0; 8];
+    let answer = search(voice, lexicon, frames, n, work, &out[..], &mut tokens);
     let Answer::Value(_) = answer else {
         return answer;
     };
-    let tokens = found.tokens;
     let listed = put_hits(&tokens, out);
     Answer::Value(listed)
 }

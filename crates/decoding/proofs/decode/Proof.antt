@@ -21,7 +21,7 @@ returns c =
 
 -- where the call began
 abbrev begin : tie.After-enum-told → tie.Start
-begin c = c .before .before .before .before .before .before .before .before .before .before .before .before
+begin c = c .before .before .before .before .before .before .before .before .before .before .before .before .before
 
 -- the search has answered a value
 passes : (c : tie.After-enum-told) →
@@ -31,16 +31,16 @@ passes c = sym (c .before .before .before .before .search .ensures .0) ∙ ap an
 
 put-hits-requires : tie.Need-put-hits-requires
 put-hits-requires c κs =
-    let t = c .before .before .before in
-    listable _ _ _ _ _ _ (passes t) (t .before .before .before .before .search .ensures .1 .1)
+    let t = c .before .before in
+    listable _ _ _ _ _ _ (passes t) _ (t .before .before .before .before .search .ensures .1 .1)
 
 returns-2 : tie.Need-returns-2
 returns-2 c =
     let p = c .before .before in
-    let t = p .before .before .before .before in
+    let t = p .before .before .before in
     let a = begin t .args in
     let s = t .before .before .before .before .search .ensures in
-    let e = says-hits (a .voice .now) (a .lexicon .now) (a .frames .now) (a .work .now) (a .out .now) (a .n) (passes t) (s .1 .1) in
+    let e = says-hits (a .voice .now) (a .lexicon .now) (a .frames .now) (a .work .now) (a .out .now) (a .n) (passes t) _ (s .1 .1) in
     let answer = ap value (p .put-hits .ensures .1 ∙ ap length e) ∙ sym (call-answer _ _ _ _ _ _ (passes t)) in
     let out =
     p .put-hits .ensures .0 ∙ ap (λ (l : List Hit). hitBytes l ++ drop (length (hitBytes l)) (a .out .now)) e
@@ -58,6 +58,6 @@ decode-spec =
     (λ c. search needs)
     returns
     put-hits-requires
-    (λ c. c .before .before .before .before .before .before .before .before .before .before .search .kept .1 .1 .1 .1 .0)
+    (λ c. c .before .before .before .before .before .before .before .before .before .search .kept .1 .1 .1 .1 .0)
     (λ c. c .before .before .put-hits .kept .1 .0)
     returns-2)
