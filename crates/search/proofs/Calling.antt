@@ -6,21 +6,21 @@ use native.Mathlib.Omega.{arith}
 use native.Mathlib.Nat.{mul-le-mul}
 use lib.Dec.{ltb}
 use lib.ListN.{length, take, drop, replicate, take-append-drop}
-use lib.Seq.{drop-at, take-at}
+use lib.Seq.{drop-at, take-at, length-take-le}
 use borrow.Author.Tests.{ltb-false, not-false}
 use Rattle.endian.proofs.Ranges.{bounds}
 use Rattle.call.specs.declared.Refusal.{Refusal}
 use Rattle.call.specs.declared.Refusal.the-variants.{Count, Output}
-use Rattle.call.specs.Table.{value, refused, on, unless}
+use Rattle.call.specs.Table.{Answer, value, refused, on, unless}
 use Rattle.call.specs.Limits.{badCount}
 use Rattle.call.specs.Buffers.{zeroed, cleared}
 use Rattle.call.proofs.Table.{none-parts, none-says, unless-past, value-passed, refused-before}
-use Rattle.call.proofs.Buffers.{cleared-long}
+use Rattle.call.proofs.Buffers.{cleared-long, cleared-length, cleared-twice}
 use Rattle.lexicon.specs.Lexicon.{sinkOf}
 use Rattle.graph.specs.Graph.{graphOf, wordCount}
 use Rattle.graph.specs.Conditions.{placeCount}
-use Rattle.graph.specs.Checking.{firstRows, checkAnswer}
-use Rattle.graph.proofs.Accepted.{Passed, accepted, places-limit}
+use Rattle.graph.specs.Checking.{Accepted, firstRows, checkAnswer}
+use Rattle.graph.proofs.Accepted.{Passed, passed, accepted, places-limit}
 use Rattle.checking.specs.Tables.{Vertices}
 use Rattle.checking.proofs.Tables.{entry}
 use Rattle.checking.proofs.Columns.{column-at}
@@ -45,11 +45,11 @@ unfolding zeroed
 front-zeros m n w h = take-zeros m n (drop n w) h
 
 -- the part that is lent is empty
-pub part-empty : (m : ℕ) (b w : List ℕ) → b ≡ cleared w → m ≤ 64000 → 64000 ≤ length w → Empty (take m b)
+part-empty : (m : ℕ) (b w : List ℕ) → b ≡ cleared w → m ≤ 64000 → 64000 ≤ length w → Empty (take m b)
 part-empty m b w e k h j = rw (e, cleared-long w h, front-zeros m 64000 w k) (zeros-empty m j)
 
 -- zero again, it leaves the work space cleared
-pub part-zeroed : (m : ℕ) (b w ys zs : List ℕ) → b ≡ cleared w → m ≤ 64000 → 64000 ≤ length w → length ys ≡ m
+part-zeroed : (m : ℕ) (b w ys zs : List ℕ) → b ≡ cleared w → m ≤ 64000 → 64000 ≤ length w → length ys ≡ m
     → zs ≡ replicate (length (take m (ys ++ drop m b))) 0 → zs ++ drop m (ys ++ drop m b) ≡ cleared w
 part-zeroed m b w ys zs e k h long z =
     let front : take m b ≡ replicate m 0 = rw (e, cleared-long w h) (front-zeros m 64000 w k) in
@@ -59,67 +59,107 @@ part-zeroed m b w ys zs e k h long z =
 
 -- ---- after checking
 
+-- no row applies, and the work space and the table are as checking leaves them
+pub record Called (v x frames : List ℕ) (n : ℕ) (vertices : List (List ℕ)) (work : List ℕ) : Type 0 where
+  pub images : Accepted v x
+  pub accepted : AcceptedFrames v frames
+  pub one : 1 ≤ n
+  pub few : n ≤ 8
+  pub table : Vertices x vertices
+  pub room : 64000 ≤ length work
+  pub clear : work ≡ cleared work
+
 module _ (v x work : List ℕ) where
+  -- checking has answered W
+  pub call-passed : {W : ℕ} {a : Answer ℕ} → a ≡ checkAnswer v x work → a ≡ value W → Passed v x work W
+  call-passed c e = passed v x work (sym c ∙ e)
+
   module _ (frames : List ℕ) (n : ℕ) (out : List ℕ) where
     rows-so : decodeRows v x frames n work out ≡ firstRows v x work ++ callRows v frames n out
     unfolding decodeRows callRows
     rows-so = append-assoc (firstRows v x work) (frameRows v frames) _
 
-    pub search-refused : {r : Refusal} → checkAnswer v x work ≡ refused r → searchAnswer v x frames n work out ≡ refused r
+    pub search-refused : {r : Refusal} {a : Answer ℕ} → a ≡ checkAnswer v x work → a ≡ refused r
+        → searchAnswer v x frames n work out ≡ refused r
     unfolding checkAnswer searchAnswer
-    search-refused e = rw rows-so (refused-before (firstRows v x work) (callRows v frames n out) (wordCount (graphOf x)) _ e)
+    search-refused c e = rw rows-so
+        (refused-before (firstRows v x work) (callRows v frames n out) (wordCount (graphOf x)) _ (sym c ∙ e))
 
     -- past checking, its own rows decide
-    pub call-judged : {W : ℕ} → Passed v x work W → searchAnswer v x frames n work out ≡ unless {A = ℕ} (callRows v frames n out) 0
+    pub call-judged : {W : ℕ} {a : Answer ℕ} → Passed v x work W → a ≡ unless (callRows v frames n out) 0
+        → searchAnswer v x frames n work out ≡ a
     unfolding searchAnswer
-    call-judged p = rw rows-so (unless-past (firstRows v x work) (callRows v frames n out) _ (p .rows))
+    call-judged p c = rw rows-so (unless-past (firstRows v x work) (callRows v frames n out) _ (p .rows)) ∙ sym c
 
     -- the hits where it answers a value, and the tokens as they were after a refusal
-    pub found-some : (t : List ℕ) {k : ℕ} → searchAnswer v x frames n work out ≡ value k
-        → held 8 (hits v (graphOf x) frames n) ≡ searchTokens v x frames n work out t
+    pub found-some : (t : List ℕ) {l : List ℕ} {k : ℕ} → l ≡ held 8 (hits v (graphOf x) frames n)
+        → searchAnswer v x frames n work out ≡ value k
+        → l ≡ searchTokens v x frames n work out t
     unfolding searchTokens found
-    found-some t e = rw e
+    found-some t h e = rw (e, h)
 
     pub found-none : {r : Refusal} {t : List ℕ} → searchAnswer v x frames n work out ≡ refused r
         → t ≡ searchTokens v x frames n work out t
     unfolding searchTokens found
     found-none e = rw e
 
-    -- no row applies
-    pub record Clear : Type 0 where
-      pub frames-accepted : AcceptedFrames v frames
-      pub one : 1 ≤ n
-      pub few : n ≤ 8
-      pub room : 8 * n ≤ length out
-
-    pub call-clear : {k : ℕ} → unless {A = ℕ} (callRows v frames n out) 0 ≡ value k → Clear
+    pub call-clear : {W k : ℕ} {t : List (List ℕ)} {b : List ℕ} {a : Answer ℕ} → Passed v x work W → Vertices x t
+        → b ≡ cleared work
+        → a ≡ unless (callRows v frames n out) 0 → a ≡ value k → Called v x frames n t b
     unfolding callRows badCount
-    call-clear {k} e =
-        let p = value-passed {A = ℕ} (callRows v frames n out) 0 k e .0 in
-        let q = none-parts (frameRows v frames) (on Count (badCount n) ∷ on Output (ltb (length out) (8 * n)) ∷ []) p in
+    call-clear {k = k} p o z c e =
+        let q = none-parts (frameRows v frames) (on Count (badCount n) ∷ on Output (ltb (length out) (8 * n)) ∷ [])
+        (value-passed {A = ℕ} (callRows v frames n out) 0 k (sym c ∙ e) .0) in
         let s = none-says (on Count (badCount n) ∷ on Output (ltb (length out) (8 * n)) ∷ []) (q .1) in
-        let b = bounds 1 8 n (not-false _ (s .0)) in
-        record { frames-accepted = q .0; one = b .0; few = b .1; room = ltb-false (length out) (8 * n) (s .1 .0) }
+        let l = bounds 1 8 n (not-false _ (s .0)) in
+        record {
+          images = p .images;
+          accepted = q .0;
+          one = l .0;
+          few = l .1;
+          table = o;
+          room = omega (arith, ap length z, cleared-length work, p .room);
+          clear = z ∙ sym (cleared-twice work (p .room)) ∙ ap cleared (sym z);
+        }
 
-    -- a store of n tokens a place
-    pub call-run : {W r : ℕ} {t t′ : List (List ℕ)} {b : List ℕ} → Passed v x work W → Clear → Vertices x t
-        → SlotsPut v x n t t′ r
-        → length b ≡ 8 * r → Run v x frames n t′ b
-    unfolding sinkOf
-    call-run {t = t} p c o s l = record {
-      ready = record {
-        accepted = p .images;
-        rows = s .rows;
-        arcs = λ {u} h. s .arcs u ∙ sym (column-at 0 u t) ∙ entry (o .tables .located) (omega arith);
-        paths = λ {u} h. s .paths u ∙ sym (column-at 1 u t) ∙ entry (o .tables .counted) (omega arith);
-        first = s .first;
-        sink = s .sink;
-      };
-      roomy = record { one = c .one; few = c .few; room = omega (arith, l, s .total) };
-      accepted = c .frames-accepted;
-    }
+-- ---- the store
 
-    pub store-few : {W : ℕ} → Passed v x work W → Clear → 8 * (n * placeCount v (graphOf x)) ≤ 64000
-    store-few p c =
-        let room : n * placeCount v (graphOf x) ≤ 8 * 1000 = mul-le-mul {n₂ = 8} {m₂ = 1000} (c .few) (places-limit (accepted (p .images))) in
-        omega (arith, room)
+module _ {v x frames : List ℕ} {n : ℕ} {t : List (List ℕ)} {w : List ℕ} (c : Called v x frames n t w) {t′ : List (List ℕ)}
+    {r : ℕ} (s : SlotsPut v x n t t′ r) where
+  -- it lies in the work space
+  pub store-few : 8 * r ≤ 64000
+  store-few =
+      let room : n * placeCount v (graphOf x) ≤ 8 * 1000 = mul-le-mul {n₂ = 8} {m₂ = 1000} (c .few) (places-limit (accepted (c .images))) in
+      omega (arith, room, s .total)
+
+  pub store-fits : 8 * r ≤ length w
+  store-fits = omega (arith, store-few, c .room)
+
+  -- n tokens a place
+  pub store-run : Run v x frames n t′ (take (8 * r) w)
+  unfolding sinkOf
+  store-run = record {
+    ready = record {
+      accepted = c .images;
+      rows = s .rows;
+      arcs = λ {u} h. s .arcs u ∙ sym (column-at 0 u t) ∙ entry (c .table .tables .located) (omega arith);
+      paths = λ {u} h. s .paths u ∙ sym (column-at 1 u t) ∙ entry (c .table .tables .counted) (omega arith);
+      first = s .first;
+      sink = s .sink;
+    };
+    roomy = record { one = c .one; few = c .few; room = omega (arith, length-take-le (8 * r) w store-fits, s .total) };
+    accepted = c .accepted;
+  }
+
+  -- none yet
+  pub store-empty : Empty (take (8 * r) w)
+  store-empty = part-empty (8 * r) w w (c .clear) store-few (c .room)
+
+  -- zero again, it leaves the work space as it was
+  pub store-zeroed : (ys zs u : List ℕ) → length ys ≡ length (take (8 * r) w)
+      → zs ≡ replicate (length (take (8 * r) (ys ++ drop (8 * r) w))) 0
+      → w ≡ u → zs ++ drop (8 * r) (ys ++ drop (8 * r) w) ≡ u
+  store-zeroed ys zs u long z e =
+      part-zeroed (8 * r) w w ys zs (c .clear) store-few (c .room) (long ∙ length-take-le (8 * r) w store-fits) z
+      ∙ sym (c .clear)
+      ∙ e

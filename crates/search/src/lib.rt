@@ -22,7 +22,8 @@ mod tokens;
 mod turns;
 
 // Finds the n best words: answers 0 and puts them in tokens, best first, with no token after them; or answers the first
-// refusal that applies to decoding, and leaves tokens. Of the output, which decoding writes later, it looks at the length alone.
+// refusal that applies to decoding, and leaves tokens as they are. Of the output, which decoding writes later, it looks at
+// the length alone.
 pub fn search(
     voice: &[u8],
     lexicon: &[u8],
@@ -37,13 +38,13 @@ pub fn search(
     ensures { λ _. ⌜ now (tokens .exit) ≡ searchTokens (now (voice .entry)) (now (lexicon .entry)) (now (frames .entry)) n (now (work .entry)) (now (out .entry)) (now (tokens .entry)) ⌝ }
 {
     let mut vertices = [[0u32; 4]; 402];
-    let opened = open(voice, lexicon, work, &mut vertices);
-    let Answer::Value(_) = opened else {
-        return opened;
+    let mut answer = open(voice, lexicon, work, &mut vertices);
+    let Answer::Value(_) = answer else {
+        return answer;
     };
-    let judged = judge_call(voice, frames, n, out);
-    let Answer::Value(_) = judged else {
-        return judged;
+    answer = judge_call(voice, frames, n, out);
+    let Answer::Value(_) = answer else {
+        return answer;
     };
     let count = n as usize;
     let slots = find_slots(voice, lexicon, count, &mut vertices);
@@ -58,5 +59,5 @@ pub fn search(
         &mut work[..bytes],
     );
     zero(&mut work[..bytes]);
-    judged
+    answer
 }
