@@ -3,8 +3,9 @@
 ghost use mathlib.Core.Path.{_≡_};
 ghost use Prim.Native.Nat.{_+_, _-_, _*_, _/_};
 ghost use lib.Dec.{ltb, eqb};
-ghost use Rattle.decoder.specs.Token.{unit, codePart, sameCode};
+ghost use Rattle.decoder.specs.Token.{unit, codePart, sameCode, tokenBytes};
 use crate::score::Score;
+use endian::u32_bytes;
 
 // One point of score in a token.
 pub const UNIT: u64 = 4294967296;
@@ -54,5 +55,22 @@ impl Token {
         ensures { λ r. ⌜ r ≡ sameCode (self .0) (other .0) ⌝ }
     {
         self.0 % UNIT == other.0 % UNIT
+    }
+    // Its number in eight bytes, little-endian.
+    pub fn bytes(self) -> [u8; 8]
+        ensures { λ r. ⌜ r ≡ tokenBytes (self .0) ⌝ }
+    {
+        let low = u32_bytes((self.0 % UNIT) as u32);
+        let high = u32_bytes((self.0 / UNIT) as u32);
+        [
+            low[0],
+            low[1],
+            low[2],
+            low[3],
+            high[0],
+            high[1],
+            high[2],
+            high[3],
+        ]
     }
 }

@@ -1,5 +1,6 @@
 pub mod Told
 pub mod Slots
+pub mod Putting
 pub mod Entering
 pub mod Falling
 pub mod Moving

@@ -2,12 +2,10 @@
 ghost use mathlib.Core.Path.{_≡_};
 ghost use Prim.Native.Nat.{_+_, _-_, _*_, _≤_};
 ghost use lib.ListN.{length};
-ghost use lib.Seq.{sets};
-ghost use Rattle.endian.specs.Bytes.{u32, u32Bytes};
+ghost use Rattle.endian.specs.Bytes.{u32};
 ghost use Rattle.search.specs.Slots.{tokenAt, SlotPut, MoveFits};
 use decoder::token::Token;
 use decoder::token::UNIT;
-use endian::u32_bytes;
 use endian::u32_of;
 
 // A token after a move: `up` is the number of the move's score in units, `down` the bias and the increment. It stands
@@ -31,27 +29,22 @@ pub(crate) fn token_at(part: &[u8], k: usize) -> Token
     requires { ⌜ 8 * k + 8 ≤ length (now part) ⌝ }
     ensures { λ r. ⌜ r .0 ≡ tokenAt (now (part .entry)) k ⌝ }
 {
-    let low = u32_at(part, 8 * k);
-    let high = u32_at(part, 8 * k + 4);
+    let at = 8 * k;
+    let low = u32_at(part, at);
+    let high = u32_at(part, at + 4);
     Token(low as u64 + UNIT * (high as u64))
 }
 
-fn put_u32(part: &mut [u8], at: usize, v: u32)
-    requires { ⌜ at + 4 ≤ length (now part) ⌝ }
-    ensures { λ _. ⌜ now (part .exit) ≡ sets (now (part .entry)) at (u32Bytes v) ⌝ }
-{
-    let bytes = u32_bytes(v);
-    part[at] = bytes[0];
-    part[at + 1] = bytes[1];
-    part[at + 2] = bytes[2];
-    part[at + 3] = bytes[3];
-}
-
-// Puts a token into slot k.
+// Puts a token into slot k. LLVM makes one store of the loop.
 pub(crate) fn put_token(part: &mut [u8], k: usize, token: Token)
     requires { ⌜ 8 * k + 8 ≤ length (now part) ⌝ }
     ensures { λ _. ⌜ SlotPut (now (part .entry)) k (token .0) (now (part .exit)) ⌝ }
 {
-    put_u32(part, 8 * k, (token.0 % UNIT) as u32);
-    put_u32(part, 8 * k + 4, (token.0 / UNIT) as u32);
+    let bytes = token.bytes();
+    let at = 8 * k;
+    let mut i = 0;
+    while i < 8 {
+        part[at + i] = bytes[i];
+        i += 1;
+    }
 }
