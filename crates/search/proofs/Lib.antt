@@ -1,4 +1,5 @@
 pub mod Told
+pub mod Sums
 pub mod Slots
 pub mod Putting
 pub mod Entering

@@ -9,6 +9,7 @@ use Rattle.lexicon.specs.Lexicon.{nodeCount, sinkOf}
 use Rattle.graph.specs.Graph.{graphOf, pathCount}
 use Rattle.checking.proofs.Arcs.{ArcNext, has-entry, list-there}
 use Rattle.search.specs.Places.{arcsIn, pathsIn}
+use Rattle.search.proofs.Sums.{arc-fits, arc-less}
 use Rattle.search.proofs.Closing.{EndAhead, count-entry, ahead-start, ahead-arc, ahead-here, ahead-below, ahead-next, ahead-done}
 use Rattle.search.proofs.ends.last_increment.Statement.{statement}
 use Rattle.search.proofs.ends.last_increment.Tie as tie
@@ -127,7 +128,7 @@ last-increment-spec =
     (λ c. let h = leads (c .before) in search needs)
     (λ c. search needs)
     add-increment
-    (λ c. let h = size (c .before .before .before .before .before) in search needs)
-    (λ c. let h = c .before .before .before .loop-test .taken in omega arith)
+    (λ c. let l = c .before .before .before in arc-fits _ (next l .room) (size (l .before .before)))
+    (λ c. arc-less (c .before .before .before .loop-test .taken))
     loop-again
     returns-2)

@@ -1,11 +1,14 @@
 -- `offer_from` lets the tokens of the earlier place enter one after another, each by lending the part of this place. The measure is what is left
 -- of the tokens. Assumes nothing.
-use Prim.Native.Nat.{_+_, _-_, _*_, _<_}
+use Prim.Native.Nat.{_+_, _-_, _*_, _<_, _≤_}
 use mathlib.Core.Path.{_≡_, ap, _∙_}
 use native.Mathlib.Omega.{arith}
 use borrow.Author.Needs.{needs}
+use mir.Syntax.{w64}
+use mir.Val.{Fits}
 use borrow.Rule.Slice.PartMut.{same-len-mid, mid-len}
 use Rattle.search.specs.Slots.{tokenAt, enter, PlaceRoom}
+use Rattle.search.proofs.Sums.{next-fits, next-less, last-there}
 use Rattle.search.proofs.Told.{same-told, other-told, below-told}
 use Rattle.search.proofs.Lending.{part-size, part-slots, part-room, part-back, FromLeft, from-start, from-none}
 use Rattle.search.proofs.Lending.{from-fits, from-late, from-next, from-done}
@@ -94,6 +97,13 @@ returns-3 c =
     let p = c .before .before .before .pre in
     from-done (p .0) (p .1) (c .before .loop .inv) (c .loop-test .left)
 
+-- the end of the place
+end-fits : (s : tie.Start Inv-loop μ-loop) → Fits w64 (s .args .slot + s .args .n)
+end-fits s = let r = s .pre .1 .room in omega arith
+
+end-some : (s : tie.Start Inv-loop μ-loop) → 1 ≤ s .args .slot + s .args .n
+end-some s = omega (arith, s .pre .1 .room .one)
+
 pub offer-from-spec : {M : Type 1} → statement M
 offer-from-spec =
     tie.close
@@ -110,9 +120,9 @@ offer-from-spec =
     (λ c. c .before .before .before .before .before .loop .inv .long)
     returns
     moved-requires
-    (λ c. search needs)
-    (λ c. search needs)
-    (λ c κs. search needs)
+    (λ c. end-fits (c .before .before .before .before .before .before .before .before .before))
+    (λ c. end-some (c .before .before .before .before .before .before .before .before .before))
+    (λ c κs. let r = there (c .before .before .before .before .before .before) in last-there _ (r .one) (r .room))
     (λ c κs. search needs)
     (λ c. c .before .before .before .before .before .before .before .before .before .before .loop .inv .long)
     returns-2
@@ -120,8 +130,8 @@ offer-from-spec =
     (λ c. search needs)
     (λ c. search needs)
     insert-requires
-    (λ c. let e = c .before .before .before .before .before .before .before .before .before .before .before .before .before in omega (arith, e .loop-test .taken, start e .fits .n))
-    (λ c. let h = c .before .before .before .before .before .before .before .before .before .before .before .before .before .loop-test .taken in omega arith)
+    (λ c. let e = c .before .before .before .before .before .before .before .before .before .before .before .before .before in next-fits (e .loop-test .taken) (start e .fits .n))
+    (λ c. next-less (c .before .before .before .before .before .before .before .before .before .before .before .before .before .loop-test .taken))
     loop-again
     (λ c. c .before .loop .inv .long)
     returns-3)

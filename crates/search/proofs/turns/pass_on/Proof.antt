@@ -11,6 +11,7 @@ use Rattle.decoder.specs.Score.{numberOf}
 use Rattle.search.specs.Held.{lift}
 use Rattle.search.specs.Places.{arcsIn, pathsIn}
 use Rattle.search.specs.Stored.{source, PassingOn}
+use Rattle.search.proofs.Sums.{arc-fits, arc-less}
 use Rattle.search.proofs.Told.{same-told, other-told}
 use Rattle.search.proofs.Carrying.{node-first}
 use Rattle.search.proofs.PassingOn.{PassingLeft, source-room, vertex-few, list-of, passing-start, next-there}
@@ -97,7 +98,7 @@ add-at-2 : tie.Need-add-at-2 Inv-loop μ-loop
 add-at-2 c =
     let i = c .before .before .before .before .before .before in
     let l = i .before in
-    omega (arith, arc-next (l .loop .inv (start l .pre) .sums .arcs) (i .loop-test .taken) .room, small (l .before))
+    arc-fits _ (arc-next (l .loop .inv (start l .pre) .sums .arcs) (i .loop-test .taken) .room) (small (l .before))
 
 loop-again : tie.Need-loop-again Inv-loop μ-loop
 unfolding source
@@ -146,7 +147,7 @@ pass-on-spec =
     (λ c. let h = sum (c .before .before .before .before .before) in search needs)
     (λ c. let h = sum (c .before .before .before .before .before) in search needs)
     add-at-2
-    (λ c. let h = c .before .before .before .before .before .before .loop-test .taken in omega arith)
+    (λ c. arc-less (c .before .before .before .before .before .before .loop-test .taken))
     loop-again
     same-length-3
     returns-3)

@@ -120,17 +120,18 @@ renew-state-spec =
     (λ c. let h = entry-few (c .before .before .pre) in search needs)
     (λ c. let h = entry-few (c .before .before .pre) in search needs)
     stay-requires
-    (λ c. search needs)
+    (λ c. kept (c .before .before .before))
     returns
     (λ c. let h = entry-few (start c .pre) in search needs)
     (λ c. let h = entry-few (start c .pre) in search needs)
     (λ c. let h = entry-few (start c .pre) in search needs)
     (λ c κs. search needs)
-    (λ c. search needs)
+    (λ c. kept (c .before .before .before .before .before .before))
     returns-2
     (λ c. let e = c .before .before .before .before in let h = slot-covers (start e .pre) _ (later e) in search needs)
     (λ c. search needs)
     (λ c. search needs)
     offer-from-requires
-    (λ c. search needs)
+    (λ c. let h = c .before .before in h .offer-from .kept .0
+    ∙ kept (h .before .before .before .before .before .before .before .before .before))
     returns-3)
