@@ -56,6 +56,7 @@ impl Token {
     {
         self.0 % UNIT == other.0 % UNIT
     }
+
     // Its number in eight bytes, little-endian.
     pub fn bytes(self) -> [u8; 8]
         ensures { λ r. ⌜ r ≡ tokenBytes (self .0) ⌝ }

@@ -1,9 +1,8 @@
--- Sums that fit and measures that fall, each from few facts. `omega` reads all that is at hand, which is much in a proof about
--- a long function, so such a proof cites these. Assumes nothing.
+-- Sums that fit and measures that fall, each from few facts. `omega` reads all that is at hand, which is much in a
+-- proof about a long function, so such a proof cites these. Assumes nothing.
 use Prim.Native.Nat.{ℕ, _+_, _-_, _*_, _<_, _≤_}
-use mathlib.Core.Path.{_≡_}
 use native.Mathlib.Omega.{arith}
-use mir.Syntax.{w32, w64}
+use mir.Syntax.{w64}
 use mir.Val.{Fits}
 
 pub next-fits : {i n : ℕ} → i < n → Fits w64 n → Fits w64 (i + 1)
@@ -18,10 +17,6 @@ arc-fits at h f = omega arith
 
 pub arc-less : {at stop : ℕ} → at < stop → stop - (at + 2) < stop - at
 arc-less h = omega arith
-
--- a number of a score's size, in units
-pub units-fit : {x : ℕ} → Fits w32 x → Fits w64 (x * 4294967296)
-units-fit f = omega arith
 
 -- the last slot of a place
 pub last-there : (k : ℕ) {n long : ℕ} → 0 < n → 8 * k + 8 * n ≤ long → 8 * (k + n - 1) + 8 ≤ long
