@@ -1,6 +1,7 @@
 -- Sums that fit and measures that fall, each from few facts. `omega` reads all that is at hand, which is much in a
 -- proof about a long function, so such a proof cites these. Assumes nothing.
 use Prim.Native.Nat.{ℕ, _+_, _-_, _*_, _<_, _≤_}
+use mathlib.Core.Path.{_≡_}
 use native.Mathlib.Omega.{arith}
 use mir.Syntax.{w64}
 use mir.Val.{Fits}
@@ -17,6 +18,10 @@ arc-fits at h f = omega arith
 
 pub arc-less : {at stop : ℕ} → at < stop → stop - (at + 2) < stop - at
 arc-less h = omega arith
+
+-- a list of the same length has room for the same place
+pub room-kept : (n : ℕ) {old long : ℕ} → 8 * 0 + 8 * n ≤ old → long ≡ old → 8 * n ≤ long
+room-kept n h e = omega arith
 
 -- the last slot of a place
 pub last-there : (k : ℕ) {n long : ℕ} → 0 < n → 8 * k + 8 * n ≤ long → 8 * (k + n - 1) + 8 ≤ long

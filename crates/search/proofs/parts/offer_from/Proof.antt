@@ -2,6 +2,7 @@
 -- of the tokens. Assumes nothing.
 use Prim.Native.Nat.{_+_, _-_, _*_, _<_, _≤_}
 use mathlib.Core.Path.{_≡_, ap, _∙_}
+use native.Mathlib.Nat.{le-add-right}
 use native.Mathlib.Omega.{arith}
 use borrow.Author.Needs.{needs}
 use mir.Syntax.{w64}
@@ -126,9 +127,9 @@ offer-from-spec =
     (λ c κs. search needs)
     (λ c. c .before .before .before .before .before .before .before .before .before .before .loop .inv .long)
     returns-2
-    (λ c. search needs)
-    (λ c. search needs)
-    (λ c. search needs)
+    (λ c. le-add-right _ _)
+    (λ c. le-add-right _ _)
+    (λ c. there (c .before .before .before .before .before .before .before .before .before) .room)
     insert-requires
     (λ c. let e = c .before .before .before .before .before .before .before .before .before .before .before .before .before in next-fits (e .loop-test .taken) (start e .fits .n))
     (λ c. next-less (c .before .before .before .before .before .before .before .before .before .before .before .before .before .loop-test .taken))

@@ -8,6 +8,7 @@ use native.Mathlib.Omega.{arith}
 use borrow.Author.Needs.{needs}
 use lib.ListN.{length, getD, take, drop}
 use Rattle.search.specs.Slots.{tokenAt, slots, offered, Falling}
+use Rattle.search.proofs.Sums.{next-fits, next-less, room-kept}
 use Rattle.search.proofs.Told.{same-told, other-told, below-told}
 use Rattle.search.proofs.Slots.{slots-get}
 use Rattle.search.proofs.Falling.{falling-enter}
@@ -138,9 +139,10 @@ offer-spec =
     (λ c κs. search needs)
     (λ c. c .before .before .before .before .before .before .before .before .before .loop .inv .long)
     returns-2
-    (λ c κs. search needs)
-    (λ c. search needs)
-    (λ c. search needs)
+    (λ c κs. let l = c .before .before .before .before .before .before .before .before .before .before in room-kept _ (l .before .before .before .pre .1 .room .room) (l .loop .inv .long))
+    (λ c. let e = c .before .before .before .before .before .before .before .before .before .before .before .before in next-fits (e .loop-test .taken)
+    (e .before .before .before .before .fits .n))
+    (λ c. next-less (c .before .before .before .before .before .before .before .before .before .before .before .before .loop-test .taken))
     loop-again
     (λ c. c .before .loop .inv .long)
     returns-3)

@@ -4,7 +4,7 @@ use Prim.Native.Nat.{ℕ, _+_, _*_, _-_, _≤_}
 use mathlib.Core.Path.{_≡_, refl, ap, _∙_}
 use native.Mathlib.Omega.{arith}
 use borrow.Author.Needs.{needs}
-use borrow.Rule.Slice.PartMut.{mid-len}
+use borrow.Rule.Slice.PartMut.{mid-len, same-len-mid}
 use Rattle.lexicon.specs.Lexicon.{nodeCount}
 use Rattle.decoder.specs.Score.{bias, numberOf}
 use Rattle.search.specs.Slots.{enter, PlaceRoom}
@@ -57,6 +57,13 @@ insert-requires c κs =
     let size = part-size (firstIn (a .vertices .now) (a .t)) (a .n) in
     omega (arith, part-room (room s) _ size)
 
+same-length : tie.Need-same-length
+same-length c =
+    let w = c .before .before in
+    let a = start (w .before .before .before .before) .args in
+    let slot = firstIn (a .vertices .now) (a .t) in
+    same-len-mid (8 * slot) (8 * slot + 8 * a .n - 8 * slot) (a .store .now) (w .insert .last .0) (w .insert .kept .0)
+
 returns-2 : tie.Need-returns-2
 returns-2 c =
     let w = c .before .before in
@@ -96,5 +103,5 @@ enter-node-spec =
     (λ c. let r = room (start (c .before)) .room in search needs)
     (λ c κs. search needs)
     insert-requires
-    (λ c. search needs)
+    same-length
     returns-2)
