@@ -19,6 +19,16 @@ arc-fits at h f = omega arith
 pub arc-less : {at stop : ℕ} → at < stop → stop - (at + 2) < stop - at
 arc-less h = omega arith
 
+-- a place's bytes end within 64 bits, and so do its first slot, its first byte and its length
+pub slot-fits : (k n : ℕ) → Fits w64 (8 * k + 8 * n) → Fits w64 k
+slot-fits k n f = omega arith
+
+pub begin-fits : (k n : ℕ) → Fits w64 (8 * k + 8 * n) → Fits w64 (8 * k)
+begin-fits k n f = omega arith
+
+pub size-fits : (k n : ℕ) → Fits w64 (8 * k + 8 * n) → Fits w64 (8 * n)
+size-fits k n f = omega arith
+
 -- a list of the same length has room for the same place
 pub room-kept : (n : ℕ) {old long : ℕ} → 8 * 0 + 8 * n ≤ old → long ≡ old → 8 * n ≤ long
 room-kept n h e = omega arith

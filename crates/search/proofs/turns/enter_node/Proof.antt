@@ -2,7 +2,10 @@
 -- enters. Assumes nothing.
 use Prim.Native.Nat.{ℕ, _+_, _*_, _-_, _≤_}
 use mathlib.Core.Path.{_≡_, refl, ap, _∙_}
+use native.Mathlib.Nat.{le-add-right}
 use native.Mathlib.Omega.{arith}
+use mir.Syntax.{w64}
+use mir.Val.{Fits}
 use borrow.Author.Needs.{needs}
 use borrow.Rule.Slice.PartMut.{mid-len, same-len-mid}
 use Rattle.lexicon.specs.Lexicon.{nodeCount}
@@ -10,6 +13,7 @@ use Rattle.decoder.specs.Score.{bias, numberOf}
 use Rattle.search.specs.Slots.{enter, PlaceRoom}
 use Rattle.search.specs.Places.{firstIn, emissionIn}
 use Rattle.search.specs.Gains.{numberSum}
+use Rattle.search.proofs.Sums.{slot-fits, begin-fits, size-fits}
 use Rattle.search.proofs.Told.{same-told, other-told}
 use Rattle.search.proofs.Lending.{part-size, part-slots, part-room, part-back}
 use Rattle.search.proofs.Carrying.{pass-to-nothing, root-done}
@@ -49,6 +53,9 @@ possible c = other-told (c .before .is-impossible .ensures) (c .if1 .left)
 -- its place
 room : (c : tie.Start) → PlaceRoom (c .args .n) (firstIn (c .args .vertices .now) (c .args .t)) (c .args .store .now)
 room c = arc-offering (c .pre) (node c) (gain c) .room
+
+end-fits : (c : tie.Start) → Fits w64 (8 * firstIn (c .args .vertices .now) (c .args .t) + 8 * c .args .n)
+end-fits c = omega (arith, arc-slot (c .pre) (node c), room c .few)
 
 insert-requires : tie.Need-insert-requires
 insert-requires c κs =
@@ -94,13 +101,13 @@ enter-node-spec =
     (λ c. let h = arc-few (start c .pre) in search needs)
     (λ c. let h = arc-few (start c .pre) in search needs)
     (λ c. search needs)
-    (λ c. let s = start (c .before) in let h = arc-slot (s .pre) (node s) in search needs)
-    (λ c. let s = start (c .before) in let h = arc-slot (s .pre) (node s) in search needs)
-    (λ c. let s = start (c .before) in let h = arc-slot (s .pre) (node s) in let r = room s in search needs)
-    (λ c. let s = start (c .before) in let h = arc-slot (s .pre) (node s) in let r = room s in search needs)
-    (λ c. search needs)
-    (λ c. search needs)
-    (λ c. let r = room (start (c .before)) .room in search needs)
+    (λ c. slot-fits _ _ (end-fits (start (c .before))))
+    (λ c. begin-fits _ _ (end-fits (start (c .before))))
+    (λ c. size-fits _ _ (end-fits (start (c .before))))
+    (λ c. end-fits (start (c .before)))
+    (λ c. le-add-right _ _)
+    (λ c. le-add-right _ _)
+    (λ c. room (start (c .before)) .room)
     (λ c κs. search needs)
     insert-requires
     same-length
