@@ -3,7 +3,7 @@
 use Prim.Native.Nat.{ℕ, _+_, _-_, _*_, _<_, _≤_}
 use mathlib.Core.Path.{_≡_}
 use native.Mathlib.Omega.{arith}
-use mir.Syntax.{w64}
+use mir.Syntax.{w32, w64}
 use mir.Val.{Fits}
 
 pub next-fits : {i n : ℕ} → i < n → Fits w64 n → Fits w64 (i + 1)
@@ -18,6 +18,10 @@ arc-fits at h f = omega arith
 
 pub arc-less : {at stop : ℕ} → at < stop → stop - (at + 2) < stop - at
 arc-less h = omega arith
+
+-- a sum of path counts, which are within the limit of words
+pub counts-fit : (total : ℕ) {a b all : ℕ} → a ≡ b → total + b ≤ all → all ≤ 1048576 → Fits w32 (total + a)
+counts-fit total e h f = omega arith
 
 -- a place's bytes end within 64 bits, and so do its first slot, its first byte and its length
 pub slot-fits : (k n : ℕ) → Fits w64 (8 * k + 8 * n) → Fits w64 k

@@ -9,7 +9,7 @@ use Rattle.lexicon.specs.Lexicon.{nodeCount, sinkOf}
 use Rattle.graph.specs.Graph.{graphOf, pathCount}
 use Rattle.checking.proofs.Arcs.{ArcNext, has-entry, list-there}
 use Rattle.search.specs.Places.{arcsIn, pathsIn}
-use Rattle.search.proofs.Sums.{arc-fits, arc-less}
+use Rattle.search.proofs.Sums.{arc-fits, arc-less, counts-fit}
 use Rattle.search.proofs.Closing.{EndAhead, count-entry, ahead-start, ahead-arc, ahead-here, ahead-below, ahead-next, ahead-done}
 use Rattle.search.proofs.ends.last_increment.Statement.{statement}
 use Rattle.search.proofs.ends.last_increment.Tie as tie
@@ -82,10 +82,7 @@ add-increment c =
     let n = c .before .before in
     let l = n .before in
     let p = l .before .before .before .before .before .before .pre in
-    let k = count c in
-    let b = ahead-below (p .0) (p .1) (l .before .loop .inv) (l .loop-test .taken) in
-    let f = p .0 .few (p .1) in
-    search needs
+    counts-fit _ (count c) (ahead-below (p .0) (p .1) (l .before .loop .inv) (l .loop-test .taken)) (p .0 .few (p .1))
 
 loop-again : tie.Need-loop-again Inv-loop μ-loop
 loop-again c =
