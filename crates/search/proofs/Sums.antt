@@ -40,3 +40,7 @@ room-kept n h e = omega arith
 -- the last slot of a place
 pub last-there : (k : ℕ) {n long : ℕ} → 0 < n → 8 * k + 8 * n ≤ long → 8 * (k + n - 1) + 8 ≤ long
 last-there k h f = omega arith
+
+-- an order of equal numbers
+pub less-by : {a b c d : ℕ} → a ≡ c → b ≡ d → a < b → c < d
+less-by e f h = omega arith

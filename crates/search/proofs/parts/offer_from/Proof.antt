@@ -1,7 +1,7 @@
 -- `offer_from` lets the tokens of the earlier place enter one after another, each by lending the part of this place. The measure is what is left
 -- of the tokens. Assumes nothing.
 use Prim.Native.Nat.{_+_, _-_, _*_, _<_, _≤_}
-use mathlib.Core.Path.{_≡_, ap, _∙_}
+use mathlib.Core.Path.{_≡_, ap₂, _∙_}
 use native.Mathlib.Nat.{le-add-right}
 use native.Mathlib.Omega.{arith}
 use borrow.Author.Needs.{needs}
@@ -9,7 +9,7 @@ use mir.Syntax.{w64}
 use mir.Val.{Fits}
 use borrow.Rule.Slice.PartMut.{same-len-mid, mid-len}
 use Rattle.search.specs.Slots.{tokenAt, enter, PlaceRoom}
-use Rattle.search.proofs.Sums.{next-fits, next-less, last-there}
+use Rattle.search.proofs.Sums.{next-fits, next-less, last-there, less-by}
 use Rattle.search.proofs.Told.{same-told, other-told, below-told}
 use Rattle.search.proofs.Lending.{part-size, part-slots, part-room, part-back, FromLeft, from-start, from-none}
 use Rattle.search.proofs.Lending.{from-fits, from-late, from-next, from-done}
@@ -62,8 +62,7 @@ returns-2 c =
     let p = start e .pre in
     let a = start e .args in
     let late : t .token-at .result .0 + a .up - a .down < tokenAt (e .before .loop .store) (a .slot + a .n - 1) =
-    rw (m .moved .ensures, q .token-at2 .ensures) at (below-told {a = m .moved .result .0} {b = q .token-at2 .result .0}
-    (c .before .outranks .ensures) (c .if2 .taken)) in
+    less-by (m .moved .ensures) (q .token-at2 .ensures) (below-told (c .before .outranks .ensures) (c .if2 .taken)) in
     from-late (p .0) (p .1) (e .before .loop .inv) (e .loop-test .taken) (t .token-at .ensures) late
 
 insert-requires : tie.Need-insert-requires Inv-loop μ-loop
@@ -90,8 +89,7 @@ loop-again c =
     (same-len-mid (8 * a .slot) (8 * a .slot + 8 * a .n - 8 * a .slot) (l .store) (w .insert .last .0) long)
     (part-back (l .store) _ (a .slot) (a .n) _ _ size room
     (long ∙ mid-len (8 * a .slot) (8 * a .slot + 8 * a .n) (l .store) room)
-    (rw (m .moved .ensures) at (w .insert .ensures) ∙ ap (enter (t .token-at .result .0 + a .up - a .down))
-    (part-slots (l .store) (a .slot) (a .n) _ size)))
+    (w .insert .ensures ∙ ap₂ enter (m .moved .ensures) (part-slots (l .store) (a .slot) (a .n) _ size)))
 
 returns-3 : tie.Need-returns-3 Inv-loop μ-loop
 returns-3 c =

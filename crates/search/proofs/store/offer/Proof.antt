@@ -7,8 +7,8 @@ use mathlib.Core.List.{List}
 use native.Mathlib.Omega.{arith}
 use borrow.Author.Needs.{needs}
 use lib.ListN.{length, getD, take, drop}
-use Rattle.search.specs.Slots.{tokenAt, slots, offered, Falling}
-use Rattle.search.proofs.Sums.{next-fits, next-less, room-kept}
+use Rattle.search.specs.Slots.{tokenAt, slots, enter, offered, Falling}
+use Rattle.search.proofs.Sums.{next-fits, next-less, room-kept, less-by}
 use Rattle.search.proofs.Told.{same-told, other-told, below-told}
 use Rattle.search.proofs.Slots.{slots-get}
 use Rattle.search.proofs.Falling.{falling-enter}
@@ -85,8 +85,8 @@ returns-2 c =
     let s = start t in
     let a = s .args in
     let late : getD (tokens s) (l .i) 0 + a .up - a .down < tokenAt (l .list) (a .n - 1) =
-    rw (m .moved .ensures, read t, q .token-at2 .ensures) at (below-told {a = m .moved .result .0}
-    {b = q .token-at2 .result .0} (c .before .outranks .ensures) (c .if2 .taken)) in
+    less-by (m .moved .ensures ∙ ap (λ y. y + a .up - a .down) (read t)) (q .token-at2 .ensures)
+    (below-told (c .before .outranks .ensures) (c .if2 .taken)) in
     sym (offered-late (a .up) (a .down) (a .n) (l .i) 0 (a .n - 1) (tokens s) (l .list) (omega arith)
     (t .before .loop-test .taken) (s .pre .1 .long)
     (s .pre .1 .source) (l .inv .falling) late)
@@ -101,7 +101,8 @@ loop-again c =
     let l = t .before .before .loop in
     let s = start t in
     let a = s .args in
-    let entered = rw (m .moved .ensures, read t) at (w .insert .ensures) in
+    let entered = w .insert .ensures ∙ ap (λ x. enter x (slots (a .n) 0 (l .list)))
+    (m .moved .ensures ∙ ap (λ y. y + a .up - a .down) (read t)) in
     record {
       few = let h = t .before .loop-test .taken in omega arith;
       long = w .insert .kept .0 ∙ l .inv .long;

@@ -1,7 +1,7 @@
 -- `turns::enter_node` meets its contract: the root's token is moved to one of the emission and the increment, and that
 -- enters. Assumes nothing.
 use Prim.Native.Nat.{ℕ, _+_, _*_, _-_, _≤_}
-use mathlib.Core.Path.{_≡_, refl, ap, _∙_}
+use mathlib.Core.Path.{_≡_, refl, ap₂, _∙_}
 use native.Mathlib.Nat.{le-add-right}
 use native.Mathlib.Omega.{arith}
 use mir.Syntax.{w64}
@@ -86,8 +86,7 @@ returns-2 c =
     (root-increment (s .pre) (a .increment) refl)
     (part-back (a .store .now) _ slot (a .n) _ _ size r
     (w .insert .kept .0 ∙ mid-len (8 * slot) (8 * slot + 8 * a .n) (a .store .now) r)
-    (rw (o .of .ensures) at (w .insert .ensures) ∙ ap (enter (score s * 4294967296 + (4294967295 - a .increment)))
-    (part-slots (a .store .now) slot (a .n) _ size))))
+    (w .insert .ensures ∙ ap₂ enter (o .of .ensures) (part-slots (a .store .now) slot (a .n) _ size))))
 
 pub enter-node-spec : {M : Type 1} → statement M
 enter-node-spec =
