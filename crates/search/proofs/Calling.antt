@@ -124,12 +124,13 @@ module _ (v x work : List ℕ) where
 
 -- ---- the store
 
-module _ {v x frames : List ℕ} {n : ℕ} {t : List (List ℕ)} {w : List ℕ} (c : Called v x frames n t w) {t′ : List (List ℕ)}
-    {r : ℕ} (s : SlotsPut v x n t t′ r) where
+module _ {v x frames : List ℕ} {n : ℕ} {t : List (List ℕ)} {w : List ℕ} (c : Called v x frames n t w)
+    {t′ : List (List ℕ)} {r : ℕ} (s : SlotsPut v x n t t′ r) where
   -- it lies in the work space
   pub store-few : 8 * r ≤ 64000
   store-few =
-      let room : n * placeCount v (graphOf x) ≤ 8 * 1000 = mul-le-mul {n₂ = 8} {m₂ = 1000} (c .few) (places-limit (accepted (c .images))) in
+      let room : n * placeCount v (graphOf x) ≤ 8 * 1000 =
+      mul-le-mul {n₂ = 8} {m₂ = 1000} (c .few) (places-limit (accepted (c .images))) in
       omega (arith, room, s .total)
 
   pub store-fits : 8 * r ≤ length w

@@ -21,9 +21,9 @@ mod store;
 mod tokens;
 mod turns;
 
-// Finds the n best words: answers 0 and puts them in tokens, best first, with no token after them; or answers the first
-// refusal that applies to decoding, and leaves tokens as they are. Of the output, which decoding writes later, it looks at
-// the length alone.
+// Finds the n best words: answers 0 and puts them in tokens, best first, with no token after them; or answers the
+// first refusal that applies to decoding, and leaves tokens as they are. Of the output, which decoding writes later, it
+// looks at the length alone.
 pub fn search(
     voice: &[u8],
     lexicon: &[u8],
@@ -33,9 +33,12 @@ pub fn search(
     out: &[u8],
     tokens: &mut [u64; 8],
 ) -> Answer
-    ensures { λ r. ⌜ answerOf r ≡ searchAnswer (now (voice .entry)) (now (lexicon .entry)) (now (frames .entry)) n (now (work .entry)) (now (out .entry)) ⌝ }
-    ensures { λ _. ⌜ now (work .exit) ≡ decodeWork (now (voice .entry)) (now (lexicon .entry)) (now (frames .entry)) n (now (work .entry)) ⌝ }
-    ensures { λ _. ⌜ now (tokens .exit) ≡ searchTokens (now (voice .entry)) (now (lexicon .entry)) (now (frames .entry)) n (now (work .entry)) (now (out .entry)) (now (tokens .entry)) ⌝ }
+    ensures { λ r. ⌜ answerOf r ≡ searchAnswer (now (voice .entry)) (now (lexicon .entry)) (now (frames .entry)) n
+        (now (work .entry)) (now (out .entry)) ⌝ }
+    ensures { λ _. ⌜ now (work .exit) ≡ decodeWork (now (voice .entry)) (now (lexicon .entry)) (now (frames .entry)) n
+        (now (work .entry)) ⌝ }
+    ensures { λ _. ⌜ now (tokens .exit) ≡ searchTokens (now (voice .entry)) (now (lexicon .entry)) (now (frames .entry))
+        n (now (work .entry)) (now (out .entry)) (now (tokens .entry)) ⌝ }
 {
     let mut vertices = [[0u32; 4]; 402];
     let mut answer = open(voice, lexicon, work, &mut vertices);

@@ -1,4 +1,5 @@
--- `search` meets its contract: it answers as checking does where that refuses, then by its own rows, and else finds the hits. Assumes nothing.
+-- `search` meets its contract: it answers as checking does where that refuses, then by its own rows, and else finds the
+-- hits. Assumes nothing.
 use mathlib.Core.Path.{_≡_, sym, ap, _∙_}
 use borrow.Author.Needs.{needs}
 use lib.ListN.{length}
@@ -10,7 +11,8 @@ use Rattle.graph.proofs.Accepted.{accepted, Passed}
 use Rattle.checking.specs.Tables.{Vertices}
 use Rattle.checking.proofs.VertexRows.{opened-vertices}
 use Rattle.search.specs.Found.{searchAnswer}
-use Rattle.search.proofs.Calling.{search-refused, call-passed, call-judged, found-some, found-none, Called, call-clear, store-few, store-fits, store-run, store-empty, store-zeroed}
+use Rattle.search.proofs.Calling.{search-refused, call-passed, call-judged, found-some, found-none, Called}
+use Rattle.search.proofs.Calling.{call-clear, store-few, store-fits, store-run, store-empty, store-zeroed}
 use Rattle.search.proofs.search.Statement.{statement}
 use Rattle.search.proofs.search.Tie as tie
 
@@ -39,10 +41,13 @@ passes c =
 -- its own rows decide
 judged : (c : tie.After-judge-call) →
     let a = begin (c .before) .args in
-    searchAnswer (a .voice .now) (a .lexicon .now) (a .frames .now) (a .n) (a .work .now) (a .out .now) ≡ answerOf (c .judge-call .result)
+    searchAnswer (a .voice .now) (a .lexicon .now) (a .frames .now) (a .n) (a .work .now) (a .out .now)
+    ≡ answerOf (c .judge-call .result)
 judged c =
     let a = begin (c .before) .args in
-    call-judged (a .voice .now) (a .lexicon .now) (a .work .now) (a .frames .now) (a .n) (a .out .now) (passes (c .before)) (c .judge-call .ensures)
+    call-judged (a .voice .now) (a .lexicon .now) (a .work .now) (a .frames .now) (a .n) (a .out .now)
+    (passes (c .before))
+    (c .judge-call .ensures)
 
 returns-2 : tie.Need-returns-2
 returns-2 c =
@@ -68,13 +73,17 @@ called : (c : tie.After-enum-told3) →
     let k = c .before .before .before in
     let a = begin k .args in
     let o = k .before .before .before .before in
-    Called (a .voice .now) (a .lexicon .now) (a .frames .now) (a .n) (o .«open» .last .1 .1 .1 .0) (o .«open» .last .1 .1 .0)
+    Called (a .voice .now) (a .lexicon .now) (a .frames .now) (a .n)
+    (o .«open» .last .1 .1 .1 .0) (o .«open» .last .1 .1 .0)
 called c =
     let j = c .before .before in
     let k = j .before in
     let a = begin k .args in
     let o = k .before .before .before .before in
-    call-clear (a .voice .now) (a .lexicon .now) (a .work .now) (a .frames .now) (a .n) (a .out .now) (passes k) (table k) (o .«open» .ensures .1 .0)
+    call-clear (a .voice .now) (a .lexicon .now) (a .work .now) (a .frames .now) (a .n) (a .out .now)
+    (passes k)
+    (table k)
+    (o .«open» .ensures .1 .0)
     (j .judge-call .ensures)
     (ap answerOf (c .enum-told3 .given .1))
 
@@ -115,11 +124,13 @@ returns-3 c =
     let a = begin (j .before) .args in (
       sym (judged j),
       (
-        store-zeroed (called t) (f .find-slots .ensures) (b .best-words .last .1 .1 .1 .1 .1 .0) (z .zero .last .0) (cleared (a .work .now))
+        store-zeroed (called t) (f .find-slots .ensures) (b .best-words .last .1 .1 .1 .1 .1 .0) (z .zero .last .0)
+            (cleared (a .work .now))
             (b .best-words .kept .1 .1 .1 .1 .1 .0)
             (z .zero .ensures)
             (o .«open» .ensures .1 .0),
-        found-some (a .voice .now) (a .lexicon .now) (a .work .now) (a .frames .now) (a .n) (a .out .now) (a .tokens .now)
+        found-some (a .voice .now) (a .lexicon .now) (a .work .now) (a .frames .now) (a .n) (a .out .now)
+            (a .tokens .now)
             (b .best-words .ensures)
             (judged j ∙ ap answerOf (t .enum-told3 .given .1)),
       ),
