@@ -96,6 +96,9 @@ returns-3 c =
     let p = c .before .before .before .pre in
     from-done (p .0) (p .1) (c .before .loop .inv) (c .loop-test .left)
 
+abbrev turn : tie.After-slice-known2 Inv-loop μ-loop → tie.In-loop Inv-loop μ-loop
+turn c = c .before .before .before .before .before .before .before .before .before .before .before .before .before
+
 -- the end of the place
 end-fits : (s : tie.Start Inv-loop μ-loop) → Fits w64 (s .args .slot + s .args .n)
 end-fits s = let r = s .pre .1 .room in omega arith
@@ -129,8 +132,8 @@ offer-from-spec =
     (λ c. le-add-right _ _)
     (λ c. there (c .before .before .before .before .before .before .before .before .before) .room)
     insert-requires
-    (λ c. let e = c .before .before .before .before .before .before .before .before .before .before .before .before .before in next-fits (e .loop-test .taken) (start e .fits .n))
-    (λ c. next-less (c .before .before .before .before .before .before .before .before .before .before .before .before .before .loop-test .taken))
+    (λ c. next-fits (turn c .loop-test .taken) (start (turn c) .fits .n))
+    (λ c. next-less (turn c .loop-test .taken))
     loop-again
     (λ c. c .before .loop .inv .long)
     returns-3)

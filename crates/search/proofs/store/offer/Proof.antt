@@ -121,6 +121,9 @@ returns-3 c =
     sym (offered-done (a .up) (a .down) (a .n) (l .i) (tokens s) (slots (a .n) 0 (l .list)) (c .loop-test .left))
     ∙ l .inv .left
 
+abbrev turn : tie.After-slice-known2 Inv-loop μ-loop → tie.In-loop Inv-loop μ-loop
+turn c = c .before .before .before .before .before .before .before .before .before .before .before .before
+
 pub offer-spec : {M : Type 1} → statement M
 offer-spec =
     tie.close
@@ -140,10 +143,10 @@ offer-spec =
     (λ c κs. search needs)
     (λ c. c .before .before .before .before .before .before .before .before .before .loop .inv .long)
     returns-2
-    (λ c κs. let l = c .before .before .before .before .before .before .before .before .before .before in room-kept _ (l .before .before .before .pre .1 .room .room) (l .loop .inv .long))
-    (λ c. let e = c .before .before .before .before .before .before .before .before .before .before .before .before in next-fits (e .loop-test .taken)
-    (e .before .before .before .before .fits .n))
-    (λ c. next-less (c .before .before .before .before .before .before .before .before .before .before .before .before .loop-test .taken))
+    (λ c κs. let l = c .before .before .before .before .before .before .before .before .before .before in
+    room-kept _ (l .before .before .before .pre .1 .room .room) (l .loop .inv .long))
+    (λ c. next-fits (turn c .loop-test .taken) (turn c .before .before .before .before .fits .n))
+    (λ c. next-less (turn c .loop-test .taken))
     loop-again
     (λ c. c .before .loop .inv .long)
     returns-3)
