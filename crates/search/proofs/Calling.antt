@@ -5,7 +5,7 @@ use mathlib.Core.List.{List, [], _∷_, _++_, append-assoc}
 use native.Mathlib.Omega.{arith}
 use native.Mathlib.Nat.{mul-le-mul}
 use lib.Dec.{ltb}
-use lib.ListN.{length, take, drop, replicate, take-append-drop}
+use lib.ListN.{length, take, drop, replicate, length-append, take-append-drop}
 use lib.Seq.{drop-at, take-at, length-take-le}
 use borrow.Author.Tests.{ltb-false, not-false}
 use Rattle.endian.proofs.Ranges.{bounds}
@@ -155,6 +155,10 @@ module _ {v x frames : List ℕ} {n : ℕ} {t : List (List ℕ)} {w : List ℕ} 
   -- none yet
   pub store-empty : Empty (take (8 * r) w)
   store-empty = part-empty (8 * r) w w (c .clear) store-few (c .room)
+
+  -- it lies there as well where it has changed
+  pub store-there : (ys : List ℕ) → length ys ≡ length (take (8 * r) w) → 8 * r ≤ length (ys ++ drop (8 * r) w)
+  store-there ys long = omega (arith, long, length-take-le (8 * r) w store-fits, length-append ys (drop (8 * r) w))
 
   -- zero again, it leaves the work space as it was
   pub store-zeroed : (ys zs u : List ℕ) → length ys ≡ length (take (8 * r) w)

@@ -1,7 +1,7 @@
 -- `search` meets its contract: it answers as checking does where that refuses, then by its own rows, and else finds the
 -- hits. Assumes nothing.
 use mathlib.Core.Path.{_≡_, sym, ap, _∙_}
-use borrow.Author.Needs.{needs}
+use native.Mathlib.Omega.{arith}
 use lib.ListN.{length}
 use lib.Seq.{length-take-le}
 use Rattle.call.specs.Table.{answerOf}
@@ -12,7 +12,8 @@ use Rattle.checking.specs.Tables.{Vertices}
 use Rattle.checking.proofs.VertexRows.{opened-vertices}
 use Rattle.search.specs.Found.{searchAnswer}
 use Rattle.search.proofs.Calling.{search-refused, call-passed, call-judged, found-some, found-none, Called}
-use Rattle.search.proofs.Calling.{call-clear, store-few, store-fits, store-run, store-empty, store-zeroed}
+use Rattle.search.proofs.Calling.{store-there, store-zeroed}
+use Rattle.search.proofs.Calling.{call-clear, store-few, store-fits, store-run, store-empty}
 use Rattle.search.proofs.search.Statement.{statement}
 use Rattle.search.proofs.search.Tie as tie
 
@@ -99,7 +100,7 @@ abbrev told : tie.After-find-slots → tie.After-enum-told3
 told c = c .before .before
 
 mul-bytes : tie.Need-mul-bytes
-mul-bytes c = let h = store-few (called (told c)) (c .find-slots .ensures) in search needs
+mul-bytes c = omega (arith, store-few (called (told c)) (c .find-slots .ensures))
 
 part-best-words : tie.Need-slice-relend-prefix-best-words
 part-best-words c = let f = c .before in store-fits (called (told f)) (f .find-slots .ensures)
@@ -111,7 +112,11 @@ best-words-requires c κs =
     (store-run h (f .find-slots .ensures), store-empty h (f .find-slots .ensures))
 
 part-zero : tie.Need-slice-relend-prefix-zero
-part-zero c = let h = part-best-words (c .before .before .before .before) in search needs
+part-zero c =
+    let b = c .before .before in
+    let f = b .before .before .before in
+    store-there (called (told f)) (f .find-slots .ensures) (b .best-words .last .1 .1 .1 .1 .1 .0)
+    (b .best-words .kept .1 .1 .1 .1 .1 .0)
 
 returns-3 : tie.Need-returns-3
 returns-3 c =
@@ -140,7 +145,7 @@ pub search-spec : {M : Type 1} → statement M
 search-spec =
     tie.close
     (tie.spec
-    (λ c κs. search needs)
+    (λ c κs. tt)
     (λ c. c .match .keys1)
     (λ c. c .match .keys2)
     (λ c. c .before .before .before .before .«open» .kept .1 .1 .0)
@@ -157,6 +162,6 @@ search-spec =
     best-words-requires
     part-zero
     (λ c. sym (length-take-le _ _ (part-zero (c .before))))
-    (λ c κs. search needs)
+    (λ c κs. tt)
     (λ c. ap length (returns-3 c .1 .0) ∙ cleared-length _)
     returns-3)
