@@ -14,9 +14,9 @@ use Rattle.graph.specs.Graph.{graphOf}
 use Rattle.ranking.specs.Hits.{Hit, hitBytes}
 use Rattle.decoder.specs.Decoding.{row, hits, decodeRows, decodeAnswer, decodeOut}
 use Rattle.decoder.proofs.Listed.{AcceptedDecoding, answered, within-limits}
-use Rattle.search.specs.Held.{held}
+use Rattle.storing.specs.Held.{held}
+use Rattle.storing.proofs.Held.{length-held}
 use Rattle.search.specs.Found.{searchAnswer, found, searchTokens}
-use Rattle.search.proofs.Held.{length-held}
 use Rattle.decoding.specs.Listing.{hitsOf, Listable}
 use Rattle.decoding.proofs.Listing.{Within, hits-held}
 

@@ -19,7 +19,7 @@ use Rattle.ranking.proofs.Hits.{length-hitBytes}
 use Rattle.decoder.specs.StatePaths.{scoreLimit}
 use Rattle.decoder.specs.Score.{bias, raised, valueOf}
 use Rattle.decoder.proofs.Biased.{raised-is, value-back}
-use Rattle.search.specs.Held.{tokenOf, pad, held}
+use Rattle.storing.specs.Held.{tokenOf, pad, held}
 use Rattle.decoding.specs.Listing.{hitOf, hitsOf, Listable}
 
 -- ---- bytes

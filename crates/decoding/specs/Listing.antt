@@ -8,7 +8,7 @@ use lib.ListN.{length}
 use Rattle.ranking.specs.Hits.{Hit, hit}
 use Rattle.decoder.specs.Score.{valueOf}
 
--- the hit that a token says: it undoes `tokenOf` (search/specs/Held)
+-- the hit that a token says: it undoes `tokenOf` (storing/specs/Held)
 unfoldable pub hitOf : ℕ → Hit
 hitOf token = hit (valueOf (token / 4294967296)) (4294967295 - token % 4294967296)
 

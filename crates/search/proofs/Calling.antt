@@ -25,10 +25,10 @@ use Rattle.checking.specs.Tables.{Vertices}
 use Rattle.checking.proofs.Tables.{entry}
 use Rattle.checking.proofs.Columns.{column-at}
 use Rattle.decoder.specs.Decoding.{AcceptedFrames, frameRows, hits, decodeRows}
-use Rattle.search.specs.Held.{held}
+use Rattle.storing.specs.Held.{held}
+use Rattle.storing.specs.Places.{SlotsPut}
 use Rattle.search.specs.Found.{searchAnswer, found, searchTokens}
 use Rattle.search.specs.Calling.{callRows}
-use Rattle.search.specs.Places.{SlotsPut}
 use Rattle.search.specs.Running.{Empty, Run}
 use Rattle.search.proofs.Whole.{zeros-empty}
 

@@ -32,16 +32,16 @@ use Rattle.ranking.specs.Hits.{Hit}
 use Rattle.decoder.specs.Score.{raised}
 use Rattle.passing.specs.Best.{shift}
 use Rattle.passing.specs.Tokens.{bestTokens, lastState, finalScore, carried, ending}
-use Rattle.search.specs.Slots.{slots, offered, PlaceRoom, Offer}
-use Rattle.search.specs.Held.{held, Storable, upOf, lift, downOf}
-use Rattle.search.specs.Places.{firstPlace, arcsIn, pathsIn, firstIn}
-use Rattle.search.specs.Stored.{VertexTable, StoreRoom, Place}
+use Rattle.storing.specs.Slots.{slots, offered, PlaceRoom, Offer}
+use Rattle.storing.specs.Held.{held, Storable, upOf, lift, downOf}
+use Rattle.storing.specs.Places.{firstPlace, arcsIn, pathsIn, firstIn}
+use Rattle.storing.specs.Stored.{VertexTable, StoreRoom, Place}
+use Rattle.storing.proofs.Slots.{length-slots}
+use Rattle.storing.proofs.Lending.{take-slots}
+use Rattle.storing.proofs.Held.{Moves}
+use Rattle.storing.proofs.Kept.{offered-best, offer-ready}
+use Rattle.storing.proofs.PassingOn.{LastPlace, last-place}
 use Rattle.search.specs.Running.{Arcs, LastArc, Ending, Ended}
-use Rattle.search.proofs.Slots.{length-slots}
-use Rattle.search.proofs.Lending.{take-slots}
-use Rattle.search.proofs.Held.{Moves}
-use Rattle.search.proofs.Kept.{offered-best, offer-ready}
-use Rattle.search.proofs.PassingOn.{LastPlace, last-place}
 
 -- ---- the arc to the sink
 

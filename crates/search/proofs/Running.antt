@@ -30,17 +30,17 @@ use Rattle.passing.specs.Tokens.{Store, bestTokens, tokens, initialScore}
 use Rattle.passing.specs.InPlace.{passNode, passDown, passRoot}
 use Rattle.passing.proofs.InPlace.{first-frame, next-frame}
 use Rattle.passing.proofs.Bounds.{token-bounded}
-use Rattle.search.specs.Slots.{slots}
+use Rattle.storing.specs.Slots.{slots}
+use Rattle.storing.specs.Gains.{GainsRoom, Gained, MoveGains, KnownSymbol}
+use Rattle.storing.specs.Places.{NodesRead, EmissionsPut}
+use Rattle.storing.specs.Stored.{VertexTable, NodeEmissions, StoreRoom, Bound, Stored, Within, source, PassingOn}
+use Rattle.storing.specs.Stored.{passedOn, PassedOn, Turn, turned, TurnDone}
+use Rattle.storing.proofs.Held.{held-none}
+use Rattle.storing.proofs.Filling.{gains-room, entry-gains}
+use Rattle.storing.proofs.Storing.{stored-ext}
+use Rattle.storing.proofs.PassingOn.{lexicon-formed, letter-few}
 use Rattle.search.specs.declared.frames.Numbers.{Numbers}
-use Rattle.search.specs.Gains.{GainsRoom, Gained, MoveGains, KnownSymbol}
-use Rattle.search.specs.Places.{NodesRead, EmissionsPut}
-use Rattle.search.specs.Stored.{VertexTable, NodeEmissions, StoreRoom, Bound, Stored, Within, source, PassingOn, passedOn, PassedOn, Turn}
-use Rattle.search.specs.Stored.{turned, TurnDone}
 use Rattle.search.specs.Running.{Empty, Run, StoredAt, CallNumbers, FrameTables, FrameHeld, FramesDone}
-use Rattle.search.proofs.Held.{held-none}
-use Rattle.search.proofs.Filling.{gains-room, entry-gains}
-use Rattle.search.proofs.Storing.{stored-ext}
-use Rattle.search.proofs.PassingOn.{lexicon-formed, letter-few}
 
 -- ---- stores
 

@@ -16,12 +16,12 @@ use Rattle.decoder.specs.Decoding.{row, hits}
 use Rattle.passing.specs.Tokens.{bestTokens, downFrom, tokens, ending, arrived, decoded}
 use Rattle.passing.proofs.Bounds.{token-bounded}
 use Rattle.passing.proofs.Decoded.{decoded-hits}
-use Rattle.search.specs.Slots.{tokenAt, slots, PlaceRoom, Falling}
-use Rattle.search.specs.Held.{held, Storable}
-use Rattle.search.specs.Stored.{Bound, Place}
+use Rattle.storing.specs.Slots.{tokenAt, slots, PlaceRoom, Falling}
+use Rattle.storing.specs.Held.{held, Storable}
+use Rattle.storing.specs.Stored.{Bound, Place}
+use Rattle.storing.proofs.Held.{held-none, held-longer}
+use Rattle.storing.proofs.Kept.{best-falling}
 use Rattle.search.specs.Running.{Empty, Run, StoredAt, Ending, Ended}
-use Rattle.search.proofs.Held.{held-none, held-longer}
-use Rattle.search.proofs.Kept.{best-falling}
 use Rattle.search.proofs.Running.{empty-slots, none-best, frame-count, sound-run}
 use Rattle.search.proofs.Closing.{end-storable}
 

@@ -6,7 +6,7 @@ use Rattle.call.specs.Table.{Answer, value, refused, unless}
 use Rattle.graph.specs.Graph.{graphOf}
 use Rattle.ranking.specs.Hits.{Hit}
 use Rattle.decoder.specs.Decoding.{hits, decodeRows}
-use Rattle.search.specs.Held.{held}
+use Rattle.storing.specs.Held.{held}
 
 -- 0, or the first refusal that applies to decoding
 unfoldable pub searchAnswer : List ℕ → List ℕ → List ℕ → ℕ → List ℕ → List ℕ → Answer ℕ

@@ -1,9 +1,3 @@
-pub mod Slots
-pub mod Held
 pub mod Found
-pub mod Places
-pub mod Gains
 pub mod Calling
-pub mod Stored
-pub mod Carrying
 pub mod Running

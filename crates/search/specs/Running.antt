@@ -14,12 +14,12 @@ use Rattle.ranking.specs.Hits.{Hit}
 use Rattle.decoder.specs.Score.{reach, numberOf, possible}
 use Rattle.decoder.specs.Decoding.{AcceptedFrames}
 use Rattle.passing.specs.Tokens.{Store, bestTokens, tokens, ending}
-use Rattle.search.specs.Slots.{tokenAt, slots}
-use Rattle.search.specs.Held.{held, Storable}
+use Rattle.storing.specs.Slots.{tokenAt, slots}
+use Rattle.storing.specs.Held.{held, Storable}
+use Rattle.storing.specs.Gains.{NodeLetters, GainsRoom, Gained}
+use Rattle.storing.specs.Places.{arcsIn, pathsIn}
+use Rattle.storing.specs.Stored.{VertexTable, NodeEmissions, StoreRoom, Bound, Place, Stored}
 use Rattle.search.specs.declared.frames.Numbers.{Numbers}
-use Rattle.search.specs.Gains.{NodeLetters, GainsRoom, Gained}
-use Rattle.search.specs.Places.{arcsIn, pathsIn}
-use Rattle.search.specs.Stored.{VertexTable, NodeEmissions, StoreRoom, Bound, Place, Stored}
 
 -- no slot holds a token
 abbrev pub Empty : List ℕ → Type 0

@@ -5,7 +5,7 @@ ghost use Prim.Native.Nat.{_≤_};
 ghost use Rattle.lexicon.specs.Lexicon.{nodeCount};
 ghost use Rattle.graph.specs.Graph.{graphOf};
 ghost use Rattle.decoder.specs.Decoding.{hits};
-ghost use Rattle.search.specs.Held.{held};
+ghost use Rattle.storing.specs.Held.{held};
 ghost use Rattle.search.specs.Running.{Arcs, LastArc, Ending, Ended, Run, Empty};
 use crate::frames::all_frames;
 use crate::store::copy_place;

@@ -2,8 +2,8 @@
 // to the first.
 ghost use Prim.Native.Nat.{_-_, _<_};
 ghost use lib.ListN.{length, getD};
-ghost use Rattle.search.specs.Gains.{GainsRoom, KnownSymbol};
-ghost use Rattle.search.specs.Stored.{VertexTable};
+ghost use Rattle.storing.specs.Gains.{GainsRoom, KnownSymbol};
+ghost use Rattle.storing.specs.Stored.{VertexTable};
 ghost use Rattle.search.specs.Running.{Empty, Run, StoredAt, CallNumbers, FrameTables, FrameHeld, FramesDone};
 use crate::gains::frame_gains;
 use crate::gains::put_emissions;

@@ -1,7 +1,7 @@
 // A place within the store, or within a node's part of it, by the slot that it begins at: its part is lent on, and
 // nothing else changes.
 ghost use Prim.Native.Nat.{_+_, _≤_};
-ghost use Rattle.search.specs.Slots.{slots, offered, Offer, Changed};
+ghost use Rattle.storing.specs.Slots.{slots, offered, Offer, Changed};
 use crate::store::insert;
 use crate::tokens::moved;
 use crate::tokens::token_at;

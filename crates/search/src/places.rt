@@ -4,7 +4,7 @@ ghost use Prim.Native.Nat.{_≤_};
 ghost use Rattle.voice.specs.Fields.{wellFormed};
 ghost use Rattle.voice.specs.Voice.{letterCount, voiceVerdict};
 ghost use Rattle.lexicon.specs.Lexicon.{lexiconVerdict};
-ghost use Rattle.search.specs.Places.{VertexRows, SlotsPut};
+ghost use Rattle.storing.specs.Places.{VertexRows, SlotsPut};
 use checking::EMISSION;
 use checking::FIRST_SLOT;
 use decoder::score::Score;

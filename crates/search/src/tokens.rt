@@ -3,7 +3,7 @@ ghost use mathlib.Core.Path.{_≡_};
 ghost use Prim.Native.Nat.{_+_, _-_, _*_, _≤_};
 ghost use lib.ListN.{length};
 ghost use Rattle.endian.specs.Bytes.{u32};
-ghost use Rattle.search.specs.Slots.{tokenAt, SlotPut, MoveFits};
+ghost use Rattle.storing.specs.Slots.{tokenAt, SlotPut, MoveFits};
 use decoder::token::Token;
 use decoder::token::UNIT;
 use endian::u32_of;

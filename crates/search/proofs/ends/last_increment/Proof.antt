@@ -8,7 +8,7 @@ use Rattle.endian.specs.Bytes.{u16}
 use Rattle.lexicon.specs.Lexicon.{nodeCount, sinkOf}
 use Rattle.graph.specs.Graph.{graphOf, pathCount}
 use Rattle.checking.proofs.Arcs.{ArcNext, has-entry, list-there}
-use Rattle.search.specs.Places.{arcsIn, pathsIn}
+use Rattle.storing.specs.Places.{arcsIn, pathsIn}
 use Rattle.search.proofs.Sums.{arc-fits, arc-less, counts-fit}
 use Rattle.search.proofs.Closing.{EndAhead, count-entry, ahead-start, ahead-arc, ahead-here, ahead-below, ahead-next, ahead-done}
 use Rattle.search.proofs.ends.last_increment.Statement.{statement}

@@ -2,7 +2,7 @@
 -- state holds. Assumes nothing.
 use native.Mathlib.Omega.{arith}
 use borrow.Author.Needs.{needs}
-use Rattle.search.proofs.PassingOn.{LastPlace}
+use Rattle.storing.proofs.PassingOn.{LastPlace}
 use Rattle.search.proofs.Closing.{arcs-of, end-at, end-none, end-there, end-nothing, end-offer, end-offered}
 use Rattle.search.proofs.ends.offer_end.Statement.{statement}
 use Rattle.search.proofs.ends.offer_end.Tie as tie

@@ -10,9 +10,9 @@ use lib.ListN.{length, replicate, getD-replicate}
 use Rattle.lexicon.specs.Lexicon.{nodeCount}
 use Rattle.graph.proofs.Accepted.{AcceptedImages, accepted}
 use Rattle.decoder.specs.Score.{numberOf, possible}
-use Rattle.search.specs.Gains.{GainsRoom}
+use Rattle.storing.specs.Gains.{GainsRoom}
+use Rattle.storing.proofs.Gaining.{back}
 use Rattle.search.specs.Running.{CallNumbers, FramesDone}
-use Rattle.search.proofs.Gaining.{back}
 use Rattle.search.proofs.Running.{frame-count, run-with, frames-start, frames-next, frames-end}
 use Rattle.search.proofs.frames.all_frames.Statement.{statement}
 use Rattle.search.proofs.frames.all_frames.Tie as tie

@@ -5,10 +5,10 @@ use mathlib.Core.Path.{refl, sym}
 use native.Mathlib.Omega.{arith}
 use borrow.Author.Needs.{needs}
 use lib.ListN.{length, getD}
-use Rattle.search.specs.Gains.{MoveGains}
-use Rattle.search.specs.Stored.{NodeEmissions}
+use Rattle.storing.specs.Gains.{MoveGains}
+use Rattle.storing.specs.Stored.{NodeEmissions}
+use Rattle.storing.proofs.Filling.{move-gains}
 use Rattle.search.specs.Running.{Run, FrameTables}
-use Rattle.search.proofs.Filling.{move-gains}
 use Rattle.search.proofs.Running.{run-with, known-symbol, root-passing, root-stored, before-is, tables-same}
 use Rattle.search.proofs.Running.{TurnsLeft, turns-start, turn-next, turns-next, turns-done, stored-same}
 use Rattle.search.proofs.frames.frame.Statement.{statement}

@@ -3,7 +3,7 @@ use mathlib.Core.Path.{ap, _∙_}
 use borrow.Author.Needs.{needs}
 use lib.IntN.{ℤ}
 use Rattle.decoder.specs.Score.{numberOf, possible}
-use Rattle.search.proofs.Gaining.{back}
+use Rattle.storing.proofs.Gaining.{back}
 use Rattle.search.proofs.gains.emission_at.Statement.{statement}
 use Rattle.search.proofs.gains.emission_at.Tie as tie
 

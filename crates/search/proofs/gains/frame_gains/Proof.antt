@@ -5,9 +5,9 @@ use mathlib.Core.List.{[]}
 use native.Mathlib.Omega.{arith}
 use borrow.Author.Needs.{needs}
 use lib.ListN.{getD}
-use Rattle.search.specs.Gains.{Gained, LetterRow, letterAt}
-use Rattle.search.proofs.Gaining.{letter-small}
-use Rattle.search.proofs.Filling.{gained-start, gained-next, gained-done, row-letter}
+use Rattle.storing.specs.Gains.{Gained, LetterRow, letterAt}
+use Rattle.storing.proofs.Gaining.{letter-small}
+use Rattle.storing.proofs.Filling.{gained-start, gained-next, gained-done, row-letter}
 use Rattle.search.proofs.gains.frame_gains.Statement.{statement}
 use Rattle.search.proofs.gains.frame_gains.Tie as tie
 

@@ -6,8 +6,8 @@ use native.Mathlib.Omega.{arith}
 use native.Mathlib.Nat.{pos-of-ne-zero}
 use borrow.Author.Needs.{needs}
 use Rattle.decoder.specs.Score.{numberOf}
+use Rattle.storing.proofs.Gaining.{sum-first, sum-second, sum-some}
 use Rattle.search.proofs.Told.{same-told, other-told}
-use Rattle.search.proofs.Gaining.{sum-first, sum-second, sum-some}
 use Rattle.search.proofs.gains.gain.Statement.{statement}
 use Rattle.search.proofs.gains.gain.Tie as tie
 

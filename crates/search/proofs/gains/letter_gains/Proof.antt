@@ -11,10 +11,10 @@ use Rattle.voice.specs.Voice.{states, firstState, symbolsAt, symbolCount, emiss
 use Rattle.voice.proofs.Letters.{states-range}
 use Rattle.voice.proofs.Scores.{symbols-there, symbols-few}
 use Rattle.decoder.specs.Score.{numberOf, possible}
-use Rattle.search.specs.Gains.{loopGain, stepGain, entryNumber, AtLetter}
-use Rattle.search.proofs.Gaining.{letter-small, letter-few, letter-byte, letter-there, first-small}
-use Rattle.search.proofs.Filling.{Filling, fill-done, loop-near, step-near, first-gained, next-gained}
-use Rattle.search.proofs.Filling.{emitted-is, emission-inside, emission-near, emission-next, row-letter}
+use Rattle.storing.specs.Gains.{loopGain, stepGain, entryNumber, AtLetter}
+use Rattle.storing.proofs.Gaining.{letter-small, letter-few, letter-byte, letter-there, first-small}
+use Rattle.storing.proofs.Filling.{Filling, fill-done, loop-near, step-near, first-gained, next-gained}
+use Rattle.storing.proofs.Filling.{emitted-is, emission-inside, emission-near, emission-next, row-letter}
 use Rattle.search.proofs.gains.letter_gains.Statement.{statement}
 use Rattle.search.proofs.gains.letter_gains.Tie as tie
 

@@ -6,7 +6,7 @@ use borrow.Author.Needs.{needs}
 use lib.ListN.{length, getD}
 use Rattle.lexicon.specs.Lexicon.{nodeCount, nodeLetter}
 use Rattle.checking.proofs.Arcs.{shape-of, nodes-there}
-use Rattle.search.proofs.Numbering.{EmissionsFound, emissions-start, emissions-next, emissions-done}
+use Rattle.storing.proofs.Numbering.{EmissionsFound, emissions-start, emissions-next, emissions-done}
 use Rattle.search.proofs.gains.put_emissions.Statement.{statement}
 use Rattle.search.proofs.gains.put_emissions.Tie as tie
 

@@ -3,7 +3,7 @@ use Prim.Native.Nat.{_+_}
 use mathlib.Core.Path.{_≡_}
 use native.Mathlib.Omega.{arith}
 use borrow.Author.Needs.{needs}
-use Rattle.search.proofs.Filling.{put-both}
+use Rattle.storing.proofs.Filling.{put-both}
 use Rattle.search.proofs.gains.state_gains.Statement.{statement}
 use Rattle.search.proofs.gains.state_gains.Tie as tie
 

@@ -6,7 +6,7 @@ use borrow.Author.Tests.{ltb-true}
 use lib.ListN.{length, getD}
 use Rattle.voice.specs.Voice.{statesAt, linksAt}
 use Rattle.voice.proofs.Scores.{letters-few, symbols-at, symbols-there, pair-there}
-use Rattle.search.proofs.Gaining.{pairs-read}
+use Rattle.storing.proofs.Gaining.{pairs-read}
 use Rattle.search.proofs.letters.letter_pairs.Statement.{statement}
 use Rattle.search.proofs.letters.letter_pairs.Tie as tie
 

@@ -7,10 +7,9 @@ use native.Mathlib.Omega.{arith}
 use borrow.Author.Needs.{needs}
 use lib.ListN.{getD}
 use Rattle.voice.specs.Voice.{states}
-use Rattle.search.specs.Gains.{loopNumber, stepNumber}
-use Rattle.search.proofs.Gaining.{letter-small, letter-few, letter-byte, letter-there, letter-inside}
-use Rattle.search.proofs.Gaining.{pairs-stored}
-use Rattle.search.proofs.Filling.{Filling, fill-start, fill-done, scores-next, letter-scored}
+use Rattle.storing.specs.Gains.{loopNumber, stepNumber}
+use Rattle.storing.proofs.Gaining.{letter-small, letter-few, letter-byte, letter-there, letter-inside, pairs-stored}
+use Rattle.storing.proofs.Filling.{Filling, fill-start, fill-done, scores-next, letter-scored}
 use Rattle.search.proofs.letters.letter_row.Statement.{statement}
 use Rattle.search.proofs.letters.letter_row.Tie as tie
 

@@ -8,9 +8,9 @@ use borrow.Author.Needs.{needs}
 use Rattle.voice.specs.Voice.{states}
 use Rattle.voice.proofs.Scores.{letters-few, symbols-there}
 use Rattle.lexicon.proofs.WellFormed.{letter-known}
-use Rattle.search.specs.Gains.{AtLetter}
-use Rattle.search.proofs.Gaining.{at-letter, letter-small, letter-byte, letter-there}
-use Rattle.search.proofs.Filling.{marks-start, Tabling, tabling-start, tabling-take, tabling-skip, tabling-done}
+use Rattle.storing.specs.Gains.{AtLetter}
+use Rattle.storing.proofs.Gaining.{at-letter, letter-small, letter-byte, letter-there}
+use Rattle.storing.proofs.Filling.{marks-start, Tabling, tabling-start, tabling-take, tabling-skip, tabling-done}
 use Rattle.search.proofs.letters.letter_table.Statement.{statement}
 use Rattle.search.proofs.letters.letter_table.Tie as tie
 

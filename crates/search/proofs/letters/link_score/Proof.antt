@@ -6,7 +6,7 @@ use borrow.Author.Needs.{needs}
 use Rattle.endian.specs.Bytes.{i16}
 use Rattle.voice.specs.Voice.{linksAt, linkScore}
 use Rattle.voice.proofs.Scores.{symbols-at, symbols-there}
-use Rattle.search.proofs.Gaining.{back}
+use Rattle.storing.proofs.Gaining.{back}
 use Rattle.search.proofs.letters.link_score.Statement.{statement}
 use Rattle.search.proofs.letters.link_score.Tie as tie
 

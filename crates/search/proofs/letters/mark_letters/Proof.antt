@@ -7,8 +7,8 @@ use borrow.Author.Needs.{needs}
 use lib.ListN.{length, getD}
 use Rattle.lexicon.specs.Lexicon.{nodeCount, nodeLetter}
 use Rattle.checking.proofs.Arcs.{shape-of, nodes-there}
-use Rattle.search.specs.Gains.{LettersMarked}
-use Rattle.search.proofs.Filling.{marks-next}
+use Rattle.storing.specs.Gains.{LettersMarked}
+use Rattle.storing.proofs.Filling.{marks-next}
 use Rattle.search.proofs.letters.mark_letters.Statement.{statement}
 use Rattle.search.proofs.letters.mark_letters.Tie as tie
 

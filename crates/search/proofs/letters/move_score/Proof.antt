@@ -3,8 +3,8 @@ use mathlib.Core.List.{[]}
 use borrow.Author.Needs.{needs}
 use lib.IntN.{pos}
 use lib.ListN.{getD}
-use Rattle.search.specs.Gains.{pairScore}
-use Rattle.search.proofs.Gaining.{back}
+use Rattle.storing.specs.Gains.{pairScore}
+use Rattle.storing.proofs.Gaining.{back}
 use Rattle.search.proofs.letters.move_score.Statement.{statement}
 use Rattle.search.proofs.letters.move_score.Tie as tie
 

@@ -7,7 +7,7 @@ use borrow.Author.Needs.{needs}
 use lib.IntN.{ℤ}
 use lib.ListN.{length}
 use Rattle.voice.specs.Voice.{impossible}
-use Rattle.search.proofs.Gaining.{back}
+use Rattle.storing.proofs.Gaining.{back}
 use Rattle.search.proofs.letters.pair_at.Statement.{statement}
 use Rattle.search.proofs.letters.pair_at.Tie as tie
 

@@ -2,7 +2,7 @@
 use mathlib.Core.Path.{_∙_}
 use borrow.Author.Needs.{needs}
 use Rattle.endian.specs.Bytes.{u16, i16}
-use Rattle.search.proofs.Gaining.{back}
+use Rattle.storing.proofs.Gaining.{back}
 use Rattle.search.proofs.letters.score_at.Statement.{statement}
 use Rattle.search.proofs.letters.score_at.Tie as tie
 

@@ -8,11 +8,11 @@ use borrow.Author.Needs.{needs}
 use mir.Syntax.{w64}
 use mir.Val.{Fits}
 use borrow.Rule.Slice.PartMut.{same-len-mid, mid-len}
-use Rattle.search.specs.Slots.{tokenAt, enter, PlaceRoom}
+use Rattle.storing.specs.Slots.{tokenAt, enter, PlaceRoom}
+use Rattle.storing.proofs.Lending.{part-size, part-slots, part-room, part-back, FromLeft, from-start, from-none}
+use Rattle.storing.proofs.Lending.{from-fits, from-late, from-next, from-done}
 use Rattle.search.proofs.Sums.{next-fits, next-less, last-there, less-by}
 use Rattle.search.proofs.Told.{same-told, other-told, below-told}
-use Rattle.search.proofs.Lending.{part-size, part-slots, part-room, part-back, FromLeft, from-start, from-none}
-use Rattle.search.proofs.Lending.{from-fits, from-late, from-next, from-done}
 use Rattle.search.proofs.parts.offer_from.Statement.{statement}
 use Rattle.search.proofs.parts.offer_from.Tie as tie
 

@@ -8,7 +8,7 @@ use borrow.Author.Needs.{needs}
 use Rattle.lexicon.specs.Lexicon.{nodeCount, sinkOf}
 use Rattle.checking.proofs.Arcs.{shape-of}
 use Rattle.checking.proofs.Counting.{Images, well-formed, NodeRead, node-read}
-use Rattle.search.proofs.Numbering.{cellPut, SlotsFound, slots-start, slots-next, slots-done}
+use Rattle.storing.proofs.Numbering.{cellPut, SlotsFound, slots-start, slots-next, slots-done}
 use Rattle.search.proofs.places.find_slots.Statement.{statement}
 use Rattle.search.proofs.places.find_slots.Tie as tie
 

@@ -6,8 +6,8 @@ use mathlib.Core.Logic.{inr}
 use native.Mathlib.Omega.{arith}
 use borrow.Author.Needs.{needs}
 use lib.ListN.{length, replicate, replicate-append-replicate}
-use Rattle.search.specs.Slots.{slots}
-use Rattle.search.proofs.Slots.{slots-snoc, put-apart}
+use Rattle.storing.specs.Slots.{slots}
+use Rattle.storing.proofs.Slots.{slots-snoc, put-apart}
 use Rattle.search.proofs.store.clear_place.Statement.{statement}
 use Rattle.search.proofs.store.clear_place.Tie as tie
 

@@ -7,10 +7,10 @@ use native.Mathlib.Omega.{arith}
 use borrow.Author.Needs.{needs}
 use lib.ListN.{set, replicate}
 use lib.Seq.{set-at, append-snoc}
-use Rattle.search.specs.Slots.{tokenAt, slots}
-use Rattle.search.proofs.Slots.{length-slots, slots-snoc}
+use Rattle.storing.specs.Slots.{tokenAt, slots}
+use Rattle.storing.proofs.Slots.{length-slots, slots-snoc}
+use Rattle.storing.proofs.Lending.{copied-early}
 use Rattle.search.proofs.Told.{same-told}
-use Rattle.search.proofs.Lending.{copied-early}
 use Rattle.search.proofs.store.copy_place.Statement.{statement}
 use Rattle.search.proofs.store.copy_place.Tie as tie
 

@@ -2,9 +2,9 @@
 use mathlib.Core.Path.{_∙_}
 use native.Mathlib.Omega.{arith}
 use borrow.Author.Needs.{needs}
-use Rattle.search.specs.Slots.{slots}
-use Rattle.search.proofs.Slots.{length-slots}
-use Rattle.search.proofs.Entering.{position-within, enter-at}
+use Rattle.storing.specs.Slots.{slots}
+use Rattle.storing.proofs.Slots.{length-slots}
+use Rattle.storing.proofs.Entering.{position-within, enter-at}
 use Rattle.search.proofs.store.insert.Statement.{statement}
 use Rattle.search.proofs.store.insert.Tie as tie
 

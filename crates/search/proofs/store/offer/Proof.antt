@@ -7,13 +7,13 @@ use mathlib.Core.List.{List}
 use native.Mathlib.Omega.{arith}
 use borrow.Author.Needs.{needs}
 use lib.ListN.{length, getD, take, drop}
-use Rattle.search.specs.Slots.{tokenAt, slots, enter, offered, Falling}
+use Rattle.storing.specs.Slots.{tokenAt, slots, enter, offered, Falling}
+use Rattle.storing.proofs.Slots.{slots-get}
+use Rattle.storing.proofs.Falling.{falling-enter}
+use Rattle.storing.proofs.Lending.{take-slots}
+use Rattle.storing.proofs.Moving.{from-holds, offered-ends, offered-goes, offered-late, offered-done}
 use Rattle.search.proofs.Sums.{next-fits, next-less, room-kept, less-by}
 use Rattle.search.proofs.Told.{same-told, other-told, below-told}
-use Rattle.search.proofs.Slots.{slots-get}
-use Rattle.search.proofs.Falling.{falling-enter}
-use Rattle.search.proofs.Lending.{take-slots}
-use Rattle.search.proofs.Moving.{from-holds, offered-ends, offered-goes, offered-late, offered-done}
 use Rattle.search.proofs.store.offer.Statement.{statement}
 use Rattle.search.proofs.store.offer.Tie as tie
 

@@ -4,9 +4,9 @@ use mathlib.Core.Path.{_≡_, ap, sym, _∙_}
 use native.Mathlib.Omega.{arith}
 use borrow.Author.Needs.{needs}
 use Rattle.decoder.specs.Token.{sameCode}
-use Rattle.search.specs.Slots.{tokenAt, slots, position}
+use Rattle.storing.specs.Slots.{tokenAt, slots, position}
+use Rattle.storing.proofs.Entering.{at-start, passed-all, found, beaten, passed}
 use Rattle.search.proofs.Told.{below-told, not-below-told}
-use Rattle.search.proofs.Entering.{at-start, passed-all, found, beaten, passed}
 use Rattle.search.proofs.store.position.Statement.{statement}
 use Rattle.search.proofs.store.position.Tie as tie
 

@@ -8,9 +8,9 @@ use native.Mathlib.Omega.{arith}
 use borrow.Author.Needs.{needs}
 use lib.ListN.{length}
 use Rattle.decoder.specs.Token.{codePart}
-use Rattle.search.specs.Slots.{tokenAt, slots, push}
+use Rattle.storing.specs.Slots.{tokenAt, slots, push}
+use Rattle.storing.proofs.Entering.{stops, ends, goes, all-pushed, stop-none, stop-test}
 use Rattle.search.proofs.Told.{same-told, other-told}
-use Rattle.search.proofs.Entering.{stops, ends, goes, all-pushed, stop-none, stop-test}
 use Rattle.search.proofs.store.push_down.Statement.{statement}
 use Rattle.search.proofs.store.push_down.Tie as tie
 

@@ -6,9 +6,9 @@ use mathlib.Core.List.{_++_}
 use native.Mathlib.Omega.{arith}
 use borrow.Author.Needs.{needs}
 use lib.ListN.{length}
-use Rattle.search.specs.Slots.{tokenAt, slots, shifted}
+use Rattle.storing.specs.Slots.{tokenAt, slots, shifted}
+use Rattle.storing.proofs.Moving.{slots-hold, shifted-start, shifted-ends, shifted-goes, shifted-done}
 use Rattle.search.proofs.Told.{same-told, other-told}
-use Rattle.search.proofs.Moving.{slots-hold, shifted-start, shifted-ends, shifted-goes, shifted-done}
 use Rattle.search.proofs.store.shift.Statement.{statement}
 use Rattle.search.proofs.store.shift.Tie as tie
 

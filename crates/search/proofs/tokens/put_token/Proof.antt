@@ -2,7 +2,7 @@
 use Prim.Native.Nat.{_-_, _*_}
 use native.Mathlib.Omega.{arith}
 use borrow.Author.Needs.{needs}
-use Rattle.search.proofs.Putting.{PutLeft, put-long, put-start, put-next, put-done}
+use Rattle.storing.proofs.Putting.{PutLeft, put-long, put-start, put-next, put-done}
 use Rattle.search.proofs.tokens.put_token.Statement.{statement}
 use Rattle.search.proofs.tokens.put_token.Tie as tie
 

@@ -2,7 +2,7 @@
 use mathlib.Core.Path.{ap₂}
 use Prim.Native.Nat.{_+_, _*_}
 use borrow.Author.Needs.{needs}
-use Rattle.search.specs.Slots.{tokenAt}
+use Rattle.storing.specs.Slots.{tokenAt}
 use Rattle.search.proofs.tokens.token_at.Statement.{statement}
 use Rattle.search.proofs.tokens.token_at.Tie as tie
 

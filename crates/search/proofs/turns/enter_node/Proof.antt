@@ -10,15 +10,15 @@ use borrow.Author.Needs.{needs}
 use borrow.Rule.Slice.PartMut.{mid-len, same-len-mid}
 use Rattle.lexicon.specs.Lexicon.{nodeCount}
 use Rattle.decoder.specs.Score.{bias, numberOf}
-use Rattle.search.specs.Slots.{enter, PlaceRoom}
-use Rattle.search.specs.Places.{firstIn, emissionIn}
-use Rattle.search.specs.Gains.{numberSum}
+use Rattle.storing.specs.Slots.{enter, PlaceRoom}
+use Rattle.storing.specs.Places.{firstIn, emissionIn}
+use Rattle.storing.specs.Gains.{numberSum}
+use Rattle.storing.proofs.Lending.{part-size, part-slots, part-room, part-back}
+use Rattle.storing.proofs.Carrying.{pass-to-nothing, root-done}
+use Rattle.storing.proofs.PassingOn.{ArcRead, arc-few, arc-read, arc-slot, arc-offering, arc-done, root-node}
+use Rattle.storing.proofs.PassingOn.{root-increment, root-sum}
 use Rattle.search.proofs.Sums.{slot-fits, begin-fits, size-fits}
 use Rattle.search.proofs.Told.{same-told, other-told}
-use Rattle.search.proofs.Lending.{part-size, part-slots, part-room, part-back}
-use Rattle.search.proofs.Carrying.{pass-to-nothing, root-done}
-use Rattle.search.proofs.PassingOn.{ArcRead, arc-few, arc-read, arc-slot, arc-offering, arc-done, root-node}
-use Rattle.search.proofs.PassingOn.{root-increment, root-sum}
 use Rattle.search.proofs.turns.enter_node.Statement.{statement}
 use Rattle.search.proofs.turns.enter_node.Tie as tie
 

@@ -7,12 +7,12 @@ use native.Mathlib.Omega.{arith}
 use borrow.Author.Needs.{needs}
 use Rattle.checking.proofs.Arcs.{arc-next}
 use Rattle.decoder.specs.Score.{bias}
-use Rattle.search.specs.Held.{lift}
-use Rattle.search.specs.Places.{arcsIn, pathsIn}
-use Rattle.search.specs.Stored.{source, PassingOn}
+use Rattle.storing.specs.Held.{lift}
+use Rattle.storing.specs.Places.{arcsIn, pathsIn}
+use Rattle.storing.specs.Stored.{source, PassingOn}
+use Rattle.storing.proofs.PassingOn.{PassingLeft, list-of, passing-start, next-there, left-arc, successor-few}
+use Rattle.storing.proofs.PassingOn.{root-few, passing-next, passing-done}
 use Rattle.search.proofs.Sums.{arc-fits, arc-less}
-use Rattle.search.proofs.PassingOn.{PassingLeft, list-of, passing-start, next-there, left-arc, successor-few}
-use Rattle.search.proofs.PassingOn.{root-few, passing-next, passing-done}
 use Rattle.search.proofs.turns.enter_nodes.Statement.{statement}
 use Rattle.search.proofs.turns.enter_nodes.Tie as tie
 

@@ -8,15 +8,15 @@ use borrow.Author.Needs.{needs}
 use lib.ListN.{getD}
 use Rattle.checking.proofs.Arcs.{arc-next}
 use Rattle.decoder.specs.Score.{numberOf}
-use Rattle.search.specs.Held.{lift}
-use Rattle.search.specs.Places.{arcsIn, pathsIn}
-use Rattle.search.specs.Stored.{source, PassingOn}
+use Rattle.storing.specs.Held.{lift}
+use Rattle.storing.specs.Places.{arcsIn, pathsIn}
+use Rattle.storing.specs.Stored.{source, PassingOn}
+use Rattle.storing.proofs.Carrying.{node-first}
+use Rattle.storing.proofs.PassingOn.{PassingLeft, source-room, vertex-few, list-of, passing-start, next-there}
+use Rattle.storing.proofs.PassingOn.{left-arc, successor-few, down-few, passing-next, passing-done}
+use Rattle.storing.proofs.PassingOn.{passing-nothing, passing-closed}
 use Rattle.search.proofs.Sums.{arc-fits, arc-less}
 use Rattle.search.proofs.Told.{same-told, other-told}
-use Rattle.search.proofs.Carrying.{node-first}
-use Rattle.search.proofs.PassingOn.{PassingLeft, source-room, vertex-few, list-of, passing-start, next-there}
-use Rattle.search.proofs.PassingOn.{left-arc, successor-few, down-few, passing-next, passing-done}
-use Rattle.search.proofs.PassingOn.{passing-nothing, passing-closed}
 use Rattle.search.proofs.turns.pass_on.Statement.{statement}
 use Rattle.search.proofs.turns.pass_on.Tie as tie
 

@@ -5,13 +5,13 @@ use native.Mathlib.Omega.{arith}
 use borrow.Author.Needs.{needs}
 use Rattle.lexicon.specs.Lexicon.{nodeCount}
 use Rattle.decoder.specs.Score.{bias, numberOf}
-use Rattle.search.specs.Places.{emissionIn}
-use Rattle.search.specs.Stored.{source}
-use Rattle.search.specs.Gains.{numberSum}
+use Rattle.storing.specs.Places.{emissionIn}
+use Rattle.storing.specs.Stored.{source}
+use Rattle.storing.specs.Gains.{numberSum}
+use Rattle.storing.proofs.Carrying.{node-ready, node-done}
+use Rattle.storing.proofs.PassingOn.{ArcRead, arc-few, arc-read, arc-gain, arc-slot, arc-offering, arc-apart}
+use Rattle.storing.proofs.PassingOn.{arc-source, arc-done, arc-node, arc-closed}
 use Rattle.search.proofs.Told.{same-told, other-told}
-use Rattle.search.proofs.Carrying.{node-ready, node-done}
-use Rattle.search.proofs.PassingOn.{ArcRead, arc-few, arc-read, arc-gain, arc-slot, arc-offering, arc-apart}
-use Rattle.search.proofs.PassingOn.{arc-source, arc-done, arc-node, arc-closed}
 use Rattle.search.proofs.turns.pass_over.Statement.{statement}
 use Rattle.search.proofs.turns.pass_over.Tie as tie
 

@@ -4,8 +4,8 @@ use Prim.Native.Nat.{suc, _-_}
 use mathlib.Core.Path.{_≡_}
 use native.Mathlib.Omega.{arith}
 use borrow.Author.Needs.{needs}
-use Rattle.search.specs.Carrying.{Renewing}
-use Rattle.search.proofs.Renewing.{RenewLeft, renew-start, left-renewing, renew-next, renew-done}
+use Rattle.storing.specs.Carrying.{Renewing}
+use Rattle.storing.proofs.Renewing.{RenewLeft, renew-start, left-renewing, renew-next, renew-done}
 use Rattle.search.proofs.turns.renew.Statement.{statement}
 use Rattle.search.proofs.turns.renew.Tie as tie
 

@@ -3,8 +3,8 @@ use Prim.Native.Nat.{_+_, _*_}
 use mathlib.Core.Path.{_∙_}
 use borrow.Author.Needs.{needs}
 use borrow.Rule.Slice.PartMut.{mid-len}
-use Rattle.search.proofs.Lending.{part-size}
-use Rattle.search.proofs.Stretch.{start-few, stretch-few, stretch-there, part-renewing, stretch-back}
+use Rattle.storing.proofs.Lending.{part-size}
+use Rattle.storing.proofs.Stretch.{start-few, stretch-few, stretch-there, part-renewing, stretch-back}
 use Rattle.search.proofs.turns.renew_node.Statement.{statement}
 use Rattle.search.proofs.turns.renew_node.Tie as tie
 

@@ -7,13 +7,13 @@ use borrow.Author.Needs.{needs}
 use borrow.Rule.Slice.PartMut.{putMid, mid-len, same-len-mid}
 use lib.ListN.{length, getD, take, drop}
 use Rattle.decoder.specs.Score.{numberOf}
-use Rattle.search.specs.Slots.{Changed, PlaceRoom}
-use Rattle.search.specs.Held.{held}
-use Rattle.search.specs.Carrying.{Renewing, stayed}
+use Rattle.storing.specs.Slots.{Changed, PlaceRoom}
+use Rattle.storing.specs.Held.{held}
+use Rattle.storing.specs.Carrying.{Renewing, stayed}
+use Rattle.storing.proofs.Lending.{part-size, part-slots, part-room, part-back}
+use Rattle.storing.proofs.Renewing.{entry-few, slot-few, staying, lent-staying, lent-stayed, first-done}
+use Rattle.storing.proofs.Renewing.{loop-done, step-few, slot-covers, step-ready, step-done}
 use Rattle.search.proofs.Told.{same-told, other-told}
-use Rattle.search.proofs.Lending.{part-size, part-slots, part-room, part-back}
-use Rattle.search.proofs.Renewing.{entry-few, slot-few, staying, lent-staying, lent-stayed, first-done}
-use Rattle.search.proofs.Renewing.{loop-done, step-few, slot-covers, step-ready, step-done}
 use Rattle.search.proofs.turns.renew_state.Statement.{statement}
 use Rattle.search.proofs.turns.renew_state.Tie as tie
 

@@ -2,8 +2,8 @@
 use native.Mathlib.Omega.{arith}
 use borrow.Author.Needs.{needs}
 use Rattle.decoder.specs.Score.{numberOf}
+use Rattle.storing.proofs.Carrying.{stay-cleared, stay-few, stay-ready, stay-done}
 use Rattle.search.proofs.Told.{same-told, other-told}
-use Rattle.search.proofs.Carrying.{stay-cleared, stay-few, stay-ready, stay-done}
 use Rattle.search.proofs.turns.stay.Statement.{statement}
 use Rattle.search.proofs.turns.stay.Tie as tie
 

@@ -2,8 +2,8 @@
 -- nothing.
 use mathlib.Core.Path.{_∙_}
 use borrow.Author.Needs.{needs}
-use Rattle.search.proofs.Turning.{node-there, node-few, letter-small, letter-there, count-range, first-few}
-use Rattle.search.proofs.Turning.{at-end, renewing, passing-on, turn-done}
+use Rattle.storing.proofs.Turning.{node-there, node-few, letter-small, letter-there, count-range, first-few}
+use Rattle.storing.proofs.Turning.{at-end, renewing, passing-on, turn-done}
 use Rattle.search.proofs.turns.take_turn.Statement.{statement}
 use Rattle.search.proofs.turns.take_turn.Tie as tie
 

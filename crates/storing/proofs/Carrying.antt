@@ -21,14 +21,14 @@ use Rattle.ranking.specs.Hits.{Hit, hit}
 use Rattle.decoder.specs.Score.{bias, frameLimit, raised, numberOf, possible, plus}
 use Rattle.passing.specs.Best.{rowOf, best, byCode, shift}
 use Rattle.passing.specs.Tokens.{carried}
-use Rattle.search.specs.Slots.{tokenAt, slots, enter, offered, shifted, Movable, Offer, Changed}
-use Rattle.search.specs.Held.{tokenOf, held, pad, upOf, lift, downOf}
-use Rattle.search.specs.Stored.{source}
-use Rattle.search.specs.Carrying.{Worth, Movers, Staying, Offering, stayed, joined}
-use Rattle.search.proofs.Gaining.{mag-size}
-use Rattle.search.proofs.Held.{held-none, length-held, Moves, held-movable}
-use Rattle.search.proofs.Lending.{take-slots}
-use Rattle.search.proofs.Kept.{shifted-best, offered-best, offer-ready}
+use Rattle.storing.specs.Slots.{tokenAt, slots, enter, offered, shifted, Movable, Offer, Changed}
+use Rattle.storing.specs.Held.{tokenOf, held, pad, upOf, lift, downOf}
+use Rattle.storing.specs.Stored.{source}
+use Rattle.storing.specs.Carrying.{Worth, Movers, Staying, Offering, stayed, joined}
+use Rattle.storing.proofs.Gaining.{mag-size}
+use Rattle.storing.proofs.Held.{held-none, length-held, Moves, held-movable}
+use Rattle.storing.proofs.Lending.{take-slots}
+use Rattle.storing.proofs.Kept.{shifted-best, offered-best, offer-ready}
 
 -- ---- gains
 

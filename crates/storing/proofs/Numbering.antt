@@ -18,8 +18,8 @@ use Rattle.graph.specs.Graph.{Graph, graphOf, sink}
 use Rattle.graph.specs.Conditions.{placeCount}
 use Rattle.checking.proofs.Arcs.{shape-of}
 use Rattle.checking.proofs.Counting.{Images, well-formed, node-read}
-use Rattle.search.specs.Places.{firstPlace, firstSlot, arcsIn, pathsIn, firstIn, emissionIn, VertexRows}
-use Rattle.search.specs.Places.{SlotsPut, NodesRead, EmissionsPut}
+use Rattle.storing.specs.Places.{firstPlace, firstSlot, arcsIn, pathsIn, firstIn, emissionIn, VertexRows}
+use Rattle.storing.specs.Places.{SlotsPut, NodesRead, EmissionsPut}
 
 module _ (v : List ℕ) (g : Graph) where
   -- after a node's places come those of the next

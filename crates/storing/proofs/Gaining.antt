@@ -27,8 +27,8 @@ use Rattle.voice.proofs.Letters.{states-range, states-there}
 use Rattle.voice.proofs.Scores.{letters-few, state-known, pair-there}
 use Rattle.decoder.specs.Score.{bias, raised, numberOf, possible, plus}
 use Rattle.decoder.proofs.Biased.{raised-is}
-use Rattle.search.specs.Gains.{NearBias, numberSum, letterPairs, pairOf, pairScore, StoredPairs, loopNumber}
-use Rattle.search.specs.Gains.{stepNumber, AtLetter}
+use Rattle.storing.specs.Gains.{NearBias, numberSum, letterPairs, pairOf, pairScore, StoredPairs, loopNumber}
+use Rattle.storing.specs.Gains.{stepNumber, AtLetter}
 
 -- ---- numbers of scores
 

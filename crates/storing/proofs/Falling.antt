@@ -11,7 +11,7 @@ use lib.Dec.{ltb, eqb}
 use lib.ListN.{length, getD, drop, replicate}
 use Rattle.endian.proofs.Booleans.{cond-cases}
 use Rattle.decoder.specs.Token.{codePart, sameCode}
-use Rattle.search.specs.Slots.{push, enter, offered, Falling, none, next}
+use Rattle.storing.specs.Slots.{push, enter, offered, Falling, none, next}
 
 infix 50 _∈_
 abbrev _∈_ : ℕ → List ℕ → Type 0

@@ -10,7 +10,7 @@ use lib.ListN.{length, getD, set, take, drop}
 use lib.Seq.{sets, sets-eq, length-sets, getD-set-other, length-take-le}
 use Rattle.endian.specs.Bytes.{u16, u32, u32Bytes}
 use Rattle.endian.proofs.Bytes.{u32-written}
-use Rattle.search.specs.Slots.{tokenAt, slots, SlotPut}
+use Rattle.storing.specs.Slots.{tokenAt, slots, SlotPut}
 
 -- ---- a number written
 

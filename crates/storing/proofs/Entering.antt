@@ -11,8 +11,8 @@ use borrow.Author.Tests.{lt-ltb, le-ltb, ne-eqb}
 use lib.Dec.{ltb, eqb}
 use lib.ListN.{length}
 use Rattle.decoder.specs.Token.{codePart, sameCode}
-use Rattle.search.specs.Slots.{tokenAt, slots, SlotPut, position, push, enter}
-use Rattle.search.proofs.Slots.{length-slots, slots-cut, slots-step, slots-snoc, slots-none, put-apart}
+use Rattle.storing.specs.Slots.{tokenAt, slots, SlotPut, position, push, enter}
+use Rattle.storing.proofs.Slots.{length-slots, slots-cut, slots-step, slots-snoc, slots-none, put-apart}
 
 -- ---- the search: what is before k is passed
 

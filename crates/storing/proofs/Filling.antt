@@ -22,13 +22,13 @@ use Rattle.voice.proofs.Letters.{states-range}
 use Rattle.voice.proofs.Scores.{letters-few, emission-there}
 use Rattle.lexicon.specs.Lexicon.{nodeCount, nodeLetter}
 use Rattle.decoder.specs.Score.{numberOf, possible}
-use Rattle.search.specs.Gains.{NearBias, numberSum, letterPairs, pairScore, loopNumber, stepNumber, loopGain}
-use Rattle.search.specs.Gains.{stepGain, LettersMarked, LetterEntries, letterIn, LetterRow, letterAt, HasRow}
-use Rattle.search.specs.Gains.{NodeLetters, GainRow, GainsRoom, Gained, MoveGains, EntryGains, KnownSymbol}
-use Rattle.search.specs.Gains.{AtLetter, StatePut, FirstPut}
-use Rattle.search.proofs.Gaining.{number-near, sum-both, letter-small, letter-few, state-there, loop-score}
-use Rattle.search.proofs.Gaining.{step-score, LettersPassed, letters-start, letters-next}
-use Rattle.search.proofs.Carrying.{emission-range}
+use Rattle.storing.specs.Gains.{NearBias, numberSum, letterPairs, pairScore, loopNumber, stepNumber, loopGain}
+use Rattle.storing.specs.Gains.{stepGain, LettersMarked, LetterEntries, letterIn, LetterRow, letterAt, HasRow}
+use Rattle.storing.specs.Gains.{NodeLetters, GainRow, GainsRoom, Gained, MoveGains, EntryGains, KnownSymbol}
+use Rattle.storing.specs.Gains.{AtLetter, StatePut, FirstPut}
+use Rattle.storing.proofs.Gaining.{number-near, sum-both, letter-small, letter-few, state-there, loop-score}
+use Rattle.storing.proofs.Gaining.{step-score, LettersPassed, letters-start, letters-next}
+use Rattle.storing.proofs.Carrying.{emission-range}
 
 -- ---- the letters in use
 

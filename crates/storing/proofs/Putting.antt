@@ -8,8 +8,8 @@ use lib.ListN.{length, getD, set, drop, drop-of-length-le}
 use lib.Seq.{sets, length-sets, drop-cons}
 use Rattle.endian.specs.Bytes.{u32Bytes}
 use Rattle.decoder.specs.Token.{tokenBytes}
-use Rattle.search.specs.Slots.{SlotPut}
-use Rattle.search.proofs.Slots.{put-halves}
+use Rattle.storing.specs.Slots.{SlotPut}
+use Rattle.storing.proofs.Slots.{put-halves}
 
 -- to store the bytes that are left, those from byte i on, makes what it is to store all of them
 pub record PutLeft (b : List ℕ) (at : ℕ) (bytes : List ℕ) (i : ℕ) (b′ : List ℕ) : Type 0 where

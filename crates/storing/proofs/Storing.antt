@@ -20,13 +20,13 @@ use Rattle.passing.specs.Best.{shift}
 use Rattle.passing.specs.Tokens.{Store, bestTokens, carried, symbolScore}
 use Rattle.passing.specs.InPlace.{put, passOn}
 use Rattle.passing.proofs.InPlace.{put-here, put-node, put-state}
-use Rattle.search.specs.Slots.{slots, PlaceRoom, Changed}
-use Rattle.search.specs.Held.{held, Storable}
-use Rattle.search.specs.Places.{firstPlace}
-use Rattle.search.specs.Stored.{StoreRoom, Bound, Place, Stored}
-use Rattle.search.specs.Carrying.{Movers}
-use Rattle.search.proofs.Lending.{changed-apart}
-use Rattle.search.proofs.Numbering.{place-below, place-once}
+use Rattle.storing.specs.Slots.{slots, PlaceRoom, Changed}
+use Rattle.storing.specs.Held.{held, Storable}
+use Rattle.storing.specs.Places.{firstPlace}
+use Rattle.storing.specs.Stored.{StoreRoom, Bound, Place, Stored}
+use Rattle.storing.specs.Carrying.{Movers}
+use Rattle.storing.proofs.Lending.{changed-apart}
+use Rattle.storing.proofs.Numbering.{place-below, place-once}
 
 -- ---- one place is changed
 

@@ -25,14 +25,16 @@ use Rattle.passing.specs.InPlace.{put, renewDown}
 use Rattle.passing.proofs.Order.{hits-strict}
 use Rattle.passing.proofs.Best.{best-from, best-best, best-left}
 use Rattle.passing.proofs.InPlace.{put-state}
-use Rattle.search.specs.Slots.{slots, offered, PlaceRoom, Offer, Changed}
-use Rattle.search.specs.Held.{held, lift, downOf}
-use Rattle.search.specs.Gains.{loopGain, stepGain}
-use Rattle.search.specs.Carrying.{Worth, Staying, Offering, stayed, joined, Own, Renewing, renewedOne, renewedAll}
-use Rattle.search.proofs.Slots.{length-slots}
-use Rattle.search.proofs.Lending.{changed-apart, take-slots}
-use Rattle.search.proofs.Storing.{PutAt, same, other, put-at, block, words-few, carried-bound, bound-storable, movers}
-use Rattle.search.proofs.Carrying.{emission-range, worth-of, worth-none, worth-few, pass-to-ready, pass-to-done}
+use Rattle.storing.specs.Slots.{slots, offered, PlaceRoom, Offer, Changed}
+use Rattle.storing.specs.Held.{held, lift, downOf}
+use Rattle.storing.specs.Gains.{loopGain, stepGain}
+use Rattle.storing.specs.Carrying.{Worth, Staying, Offering, stayed, joined, Own, Renewing, renewedOne}
+use Rattle.storing.specs.Carrying.{renewedAll}
+use Rattle.storing.proofs.Slots.{length-slots}
+use Rattle.storing.proofs.Lending.{changed-apart, take-slots}
+use Rattle.storing.proofs.Storing.{PutAt, same, other, put-at, block, words-few, carried-bound, bound-storable}
+use Rattle.storing.proofs.Storing.{movers}
+use Rattle.storing.proofs.Carrying.{emission-range, worth-of, worth-none, worth-few, pass-to-ready, pass-to-done}
 
 mul-next : (n a : ℕ) → n * suc a ≡ n * a + n
 mul-next n a = mul-comm n (suc a) ∙ suc-mul a n ∙ ap (λ (m : ℕ). m + n) (mul-comm a n)

@@ -16,11 +16,11 @@ use Rattle.decoder.specs.Score.{frameLimit, reach, numberOf}
 use Rattle.passing.specs.Best.{shift}
 use Rattle.passing.specs.Tokens.{Store, bestTokens, carried, overArc, renewed}
 use Rattle.passing.specs.InPlace.{put, renewDown}
-use Rattle.search.specs.Slots.{slots, PlaceRoom}
-use Rattle.search.specs.Held.{held, downOf, Storable}
-use Rattle.search.specs.Places.{firstSlot}
-use Rattle.search.specs.Gains.{MoveRow}
-use Rattle.search.specs.Stored.{StoreRoom, Bound, Stored, PassingOn}
+use Rattle.storing.specs.Slots.{slots, PlaceRoom}
+use Rattle.storing.specs.Held.{held, downOf, Storable}
+use Rattle.storing.specs.Places.{firstSlot}
+use Rattle.storing.specs.Gains.{MoveRow}
+use Rattle.storing.specs.Stored.{StoreRoom, Bound, Stored, PassingOn}
 
 -- ---- one place
 

@@ -19,9 +19,9 @@ use Rattle.passing.proofs.Order.{_∈_, hits-strict}
 use Rattle.passing.proofs.Insertion.{Removed, nothing, found, kept, Inserted, alone, above, held as beaten, below, inserted, Ranked}
 use Rattle.passing.proofs.Best.{best-next, best-from}
 use Rattle.decoder.specs.Token.{codePart}
-use Rattle.search.specs.Slots.{push, enter, offered, shifted, Movable, Falling, none, next}
-use Rattle.search.specs.Held.{tokenOf, pad, held, Storable, upOf, downOf}
-use Rattle.search.proofs.Numbers.{token-some, number-order, rank-test, code-test, token-moved, token-fits}
+use Rattle.storing.specs.Slots.{push, enter, offered, shifted, Movable, Falling, none, next}
+use Rattle.storing.specs.Held.{tokenOf, pad, held, Storable, upOf, downOf}
+use Rattle.storing.proofs.Numbers.{token-some, number-order, rank-test, code-test, token-moved, token-fits}
 
 abbrev pub AllStorable : List Hit → Type 0
 AllStorable l = (h : Hit) → h ∈ l → Storable h

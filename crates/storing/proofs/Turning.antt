@@ -24,16 +24,17 @@ use Rattle.passing.specs.InPlace.{passNode}
 use Rattle.passing.proofs.Order.{hits-strict}
 use Rattle.passing.proofs.Best.{best-from}
 use Rattle.passing.proofs.InPlace.{renew-apart, pass-other, node-own, node-other}
-use Rattle.search.specs.Slots.{slots}
-use Rattle.search.specs.Held.{held}
-use Rattle.search.specs.Places.{firstSlot, firstIn}
-use Rattle.search.specs.Stored.{Bound, Place, Stored, source, PassingOn, PassedOn, passedOn, Turn, TurnDone, turned}
-use Rattle.search.specs.Carrying.{Renewal, renewal}
-use Rattle.search.proofs.Numbering.{place-end}
-use Rattle.search.proofs.Storing.{block, place-there, slot-small, carried-bound}
-use Rattle.search.proofs.Carrying.{emission-range, move-small}
-use Rattle.search.proofs.PassingOn.{lexicon-formed, known, letter-few, state-range, place-of, LastPlace}
-use Rattle.search.proofs.PassingOn.{last-place}
+use Rattle.storing.specs.Slots.{slots}
+use Rattle.storing.specs.Held.{held}
+use Rattle.storing.specs.Places.{firstSlot, firstIn}
+use Rattle.storing.specs.Stored.{Bound, Place, Stored, source, PassingOn, PassedOn, passedOn, Turn, TurnDone}
+use Rattle.storing.specs.Stored.{turned}
+use Rattle.storing.specs.Carrying.{Renewal, renewal}
+use Rattle.storing.proofs.Numbering.{place-end}
+use Rattle.storing.proofs.Storing.{block, place-there, slot-small, carried-bound}
+use Rattle.storing.proofs.Carrying.{emission-range, move-small}
+use Rattle.storing.proofs.PassingOn.{lexicon-formed, known, letter-few, state-range, place-of, LastPlace}
+use Rattle.storing.proofs.PassingOn.{last-place}
 
 -- ---- bounds of a renewed state
 

@@ -8,10 +8,10 @@ use native.Mathlib.Omega.{arith}
 use lib.ListN.{length, getD, take, drop, replicate, length-append, length-replicate, length-take, length-drop, replicate-append-replicate, List·getD-append}
 use lib.Seq.{getD-take, getD-drop, getD-append-add, length-take-le, take-at, take-all, drop-append-seam}
 use borrow.Rule.Slice.PartMut.{putMid}
-use Rattle.search.specs.Slots.{tokenAt, slots, Changed, enter, offered, PlaceRoom, MoveFits, Falling, Offer}
-use Rattle.search.proofs.Slots.{u32-ext, slots-ext, length-slots, slots-cut, slots-step, slots-get}
-use Rattle.search.proofs.Falling.{falling-enter, falling-drop, falling-none}
-use Rattle.search.proofs.Moving.{from-holds, offered-ends, offered-goes, offered-done, offered-late}
+use Rattle.storing.specs.Slots.{tokenAt, slots, Changed, enter, offered, PlaceRoom, MoveFits, Falling, Offer}
+use Rattle.storing.proofs.Slots.{u32-ext, slots-ext, length-slots, slots-cut, slots-step, slots-get}
+use Rattle.storing.proofs.Falling.{falling-enter, falling-drop, falling-none}
+use Rattle.storing.proofs.Moving.{from-holds, offered-ends, offered-goes, offered-done, offered-late}
 
 -- ---- a copy
 

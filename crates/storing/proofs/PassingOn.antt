@@ -31,20 +31,21 @@ use Rattle.passing.specs.InPlace.{passOn}
 use Rattle.passing.proofs.Order.{hits-strict}
 use Rattle.passing.proofs.Best.{best-from, best-best}
 use Rattle.passing.proofs.InPlace.{put-node}
-use Rattle.search.specs.Slots.{PlaceRoom, Changed}
-use Rattle.search.specs.Held.{held, pad, lift, downOf}
-use Rattle.search.specs.Gains.{NearBias, numberSum, entryNumber}
-use Rattle.search.specs.Places.{firstPlace, firstSlot, arcsIn, pathsIn, firstIn, emissionIn}
-use Rattle.search.specs.Stored.{VertexTable, StoreRoom, Bound, Place, Stored, source, PassingOn, PassedOn, passedOn}
-use Rattle.search.specs.Carrying.{Worth, Offering, joined, Arc, overOne}
-use Rattle.search.proofs.Numbers.{token-some}
-use Rattle.search.proofs.Lending.{changed-apart}
-use Rattle.search.proofs.Numbering.{slot-last}
-use Rattle.search.proofs.Storing.{PutAt, same, other, put-at, stored-put, stored-ext, pass-nothing, pass-closed}
-use Rattle.search.proofs.Storing.{words-few, place-there, place-room, slot-small, carried-bound, bound-storable}
-use Rattle.search.proofs.Storing.{movers}
-use Rattle.search.proofs.Gaining.{number-near, number-none, sum-second, sum-some, sum-both}
-use Rattle.search.proofs.Carrying.{emission-range, worth-by, passed-long, passed-take, pass-to-nothing}
+use Rattle.storing.specs.Slots.{PlaceRoom, Changed}
+use Rattle.storing.specs.Held.{held, pad, lift, downOf}
+use Rattle.storing.specs.Gains.{NearBias, numberSum, entryNumber}
+use Rattle.storing.specs.Places.{firstPlace, firstSlot, arcsIn, pathsIn, firstIn, emissionIn}
+use Rattle.storing.specs.Stored.{VertexTable, StoreRoom, Bound, Place, Stored, source, PassingOn, PassedOn}
+use Rattle.storing.specs.Stored.{passedOn}
+use Rattle.storing.specs.Carrying.{Worth, Offering, joined, Arc, overOne}
+use Rattle.storing.proofs.Numbers.{token-some}
+use Rattle.storing.proofs.Lending.{changed-apart}
+use Rattle.storing.proofs.Numbering.{slot-last}
+use Rattle.storing.proofs.Storing.{PutAt, same, other, put-at, stored-put, stored-ext, pass-nothing, pass-closed}
+use Rattle.storing.proofs.Storing.{words-few, place-there, place-room, slot-small, carried-bound, bound-storable}
+use Rattle.storing.proofs.Storing.{movers}
+use Rattle.storing.proofs.Gaining.{number-near, number-none, sum-second, sum-some, sum-both}
+use Rattle.storing.proofs.Carrying.{emission-range, worth-by, passed-long, passed-take, pass-to-nothing}
 
 -- ---- what is accepted
 

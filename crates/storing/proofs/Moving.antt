@@ -9,9 +9,10 @@ use borrow.Author.Tests.{eq-eqb, ne-eqb}
 use lib.ListN.{length, getD, take, drop, length-take, drop-of-length-le}
 use lib.Seq.{drop-cons, getD-take}
 use Rattle.endian.proofs.Lists.{mem-getD}
-use Rattle.search.specs.Slots.{tokenAt, slots, SlotPut, enter, offered, shifted, Falling}
-use Rattle.search.proofs.Slots.{length-slots, slots-cut, slots-step, slots-snoc, slots-none, slots-get, put-apart}
-use Rattle.search.proofs.Falling.{falling-drop, early-exit}
+use Rattle.storing.specs.Slots.{tokenAt, slots, SlotPut, enter, offered, shifted, Falling}
+use Rattle.storing.proofs.Slots.{length-slots, slots-cut, slots-step, slots-snoc, slots-none, slots-get}
+use Rattle.storing.proofs.Slots.{put-apart}
+use Rattle.storing.proofs.Falling.{falling-drop, early-exit}
 
 pub slots-hold : (n k : ℕ) (b : List ℕ) → k < n → List·Memᴰ (tokenAt b k) (slots n 0 b)
 slots-hold n k b h =

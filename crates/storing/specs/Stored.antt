@@ -17,10 +17,10 @@ use Rattle.ranking.specs.Hits.{Hit, hit}
 use Rattle.decoder.specs.Score.{frameLimit, reach, numberOf, possible}
 use Rattle.passing.specs.Tokens.{Store, bestTokens}
 use Rattle.passing.specs.InPlace.{passOn, passNode}
-use Rattle.search.specs.Slots.{slots, PlaceRoom}
-use Rattle.search.specs.Held.{held}
-use Rattle.search.specs.Places.{firstPlace, firstSlot, arcsIn, pathsIn, firstIn, emissionIn, VertexRows}
-use Rattle.search.specs.Gains.{MoveGains, entryNumber}
+use Rattle.storing.specs.Slots.{slots, PlaceRoom}
+use Rattle.storing.specs.Held.{held}
+use Rattle.storing.specs.Places.{firstPlace, firstSlot, arcsIn, pathsIn, firstIn, emissionIn, VertexRows}
+use Rattle.storing.specs.Gains.{MoveGains, entryNumber}
 
 -- accepted images, and the table of their vertices, as far as it stays for the whole call; the first slots are those of
 -- n tokens a place, and the sink is never entered

@@ -16,8 +16,8 @@ use Rattle.decoder.specs.Score.{bias, frameLimit, raised}
 use Rattle.decoder.proofs.Biased.{raised-is}
 use Rattle.passing.specs.Best.{shift}
 use Rattle.decoder.specs.Token.{codePart, sameCode}
-use Rattle.search.specs.Slots.{MoveFits}
-use Rattle.search.specs.Held.{tokenOf, Storable, upOf, downOf}
+use Rattle.storing.specs.Slots.{MoveFits}
+use Rattle.storing.specs.Held.{tokenOf, Storable, upOf, downOf}
 
 biased-is : (h : Hit) → Storable h → raised bias (h .score) + down (h .score) ≡ bias + up (h .score)
 biased-is h s = raised-is bias (h .score) (omega (arith, s .score))

@@ -11,9 +11,9 @@ use Rattle.passing.specs.Best.{rowOf, best, byCode, shift}
 use Rattle.passing.proofs.Order.{hits-strict}
 use Rattle.passing.proofs.Best.{best-from, best-ranked, best-right}
 use Rattle.passing.proofs.Shifting.{best-shift}
-use Rattle.search.specs.Slots.{slots, offered, shifted, PlaceRoom, Falling, Offer}
-use Rattle.search.specs.Held.{held, upOf, downOf}
-use Rattle.search.proofs.Held.{AllStorable, Moves, shifted-held, offered-held, held-movable, held-falling}
+use Rattle.storing.specs.Slots.{slots, offered, shifted, PlaceRoom, Falling, Offer}
+use Rattle.storing.specs.Held.{held, upOf, downOf}
+use Rattle.storing.proofs.Held.{AllStorable, Moves, shifted-held, offered-held, held-movable, held-falling}
 
 best-storable : (n : ℕ) (l : List Hit) → AllStorable l → AllStorable (best byCode n l)
 best-storable n l s h i = s h (best-from hits-strict n l h i)

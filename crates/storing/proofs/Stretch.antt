@@ -17,15 +17,15 @@ use Rattle.graph.specs.Conditions.{placeCount}
 use Rattle.graph.proofs.Accepted.{AcceptedImages, accepted}
 use Rattle.passing.specs.Tokens.{bestTokens}
 use Rattle.passing.proofs.InPlace.{renew-apart}
-use Rattle.search.specs.Slots.{tokenAt, slots, Changed}
-use Rattle.search.specs.Held.{held}
-use Rattle.search.specs.Places.{firstPlace}
-use Rattle.search.specs.Stored.{Place, Stored}
-use Rattle.search.specs.Carrying.{Own, Renewing, renewedAll, Renewal, renewal}
-use Rattle.search.proofs.Slots.{slots-ext, slots-get}
-use Rattle.search.proofs.Lending.{part-slots, part-back, changed-apart}
-use Rattle.search.proofs.Numbering.{places-all, place-end}
-use Rattle.search.proofs.Storing.{block, places-few}
+use Rattle.storing.specs.Slots.{tokenAt, slots, Changed}
+use Rattle.storing.specs.Held.{held}
+use Rattle.storing.specs.Places.{firstPlace}
+use Rattle.storing.specs.Stored.{Place, Stored}
+use Rattle.storing.specs.Carrying.{Own, Renewing, renewedAll, Renewal, renewal}
+use Rattle.storing.proofs.Slots.{slots-ext, slots-get}
+use Rattle.storing.proofs.Lending.{part-slots, part-back, changed-apart}
+use Rattle.storing.proofs.Numbering.{places-all, place-end}
+use Rattle.storing.proofs.Storing.{block, places-few}
 
 -- ---- slots within slots
 
