@@ -222,7 +222,8 @@ before-is h = omega (arith, h)
 module _ {v x frames : List ℕ} {n : ℕ} {vertices : List (List ℕ)} {b₀ : List ℕ} (r : Run v x frames n vertices b₀)
     {i j : ℕ} (e : i ≡ j) where
   pub tables-same : {c : Numbers} {letters gains tables : List (List ℕ)}
-      → FrameTables v x (getD frames i 0) c letters gains tables → FrameTables v x (getD frames j 0) c letters gains tables
+      → FrameTables v x (getD frames i 0) c letters gains tables
+      → FrameTables v x (getD frames j 0) c letters gains tables
   tables-same g = rw e at g
 
   pub stored-same : {b : List ℕ} → StoredAt v x frames n i b → StoredAt v x frames n j b

@@ -10,8 +10,8 @@ use checking::FIRST_SLOT;
 use decoder::score::Score;
 use endian::u16_at;
 
-// Puts the first slot of each node and of the sink into the table of vertices. A place has n slots, so a node's first is
-// n times the number of states of the nodes below it. Answers the number of all slots.
+// Puts the first slot of each node and of the sink into the table of vertices. A place has n slots, so a node's first
+// is n times the number of states of the nodes below it. Answers the number of all slots.
 pub(crate) fn find_slots(
     voice: &[u8],
     lexicon: &[u8],

@@ -1,6 +1,6 @@
--- The numbers of the places: each node's stretch begins where that of the node below it ends, so that no two places have the same number and
--- all are below their count. And the table of vertices while its first slots, and at a frame its emissions, are filled,
--- node by node. Assumes nothing.
+-- The numbers of the places: each node's stretch begins where that of the node below it ends, so that no two places
+-- have the same number and all are below their count. And the table of vertices while its first slots, and at a frame
+-- its emissions, are filled, node by node. Assumes nothing.
 use mathlib.Core.Path.{_≡_, refl, sym, ap, _∙_}
 use mathlib.Core.List.{List, [], _∷_, map, map-append}
 use Prim.Native.Nat.{ℕ, zero, suc, _+_, _-_, _*_, _≤_, _<_}
@@ -27,7 +27,8 @@ module _ (v : List ℕ) (g : Graph) where
   unfolding firstPlace
   place-next m =
       rw (← add-one m, from-add 1 m 1, map-append, sum-append)
-      (unfold from sum in rw add-zero (ap (λ n. sum (map (λ n. states v (g .letter n)) (from 1 m)) + states v (g .letter n)) (omega arith)))
+      (unfold from sum in rw add-zero
+      (ap (λ n. sum (map (λ n. states v (g .letter n)) (from 1 m)) + states v (g .letter n)) (omega arith)))
 
   pub places-all : firstPlace v g (sink g) ≡ placeCount v g
   unfolding firstPlace placeCount sink
@@ -56,7 +57,8 @@ module _ (v : List ℕ) (g : Graph) where
       ap (λ (a : ℕ). n * a) e ∙ mul-add n (p + (c - 1)) 1 ∙ ap (λ (a : ℕ). n * (p + (c - 1)) + a) (mul-one n)
 
   -- a state of a node has a number below the count of places
-  pub place-below : {u s : ℕ} → 1 ≤ u → u ≤ g .nodes → s < states v (g .letter u) → firstPlace v g u + s < placeCount v g
+  pub place-below : {u s : ℕ} → 1 ≤ u → u ≤ g .nodes → s < states v (g .letter u)
+      → firstPlace v g u + s < placeCount v g
   unfolding sink
   place-below {u} {s} h k l = omega (arith, place-end {u = u} {w = sink g} h (omega arith), places-all)
 
@@ -67,7 +69,9 @@ module _ (v : List ℕ) (g : Graph) where
     | yes n ↦ absurd (omega (arith, place-end {u = u} {w = w} h n))
     | no n ↦ elim (decLt w u) [
       | yes q ↦ absurd (omega (arith, place-end {u = w} {w = u} k q))
-      | no q ↦ let same : u ≡ w = omega arith in (same, let f : firstPlace v g u ≡ firstPlace v g w = ap (firstPlace v g) same in omega arith)
+      | no q ↦
+          let same : u ≡ w = omega arith in
+          (same, let f : firstPlace v g u ≡ firstPlace v g w = ap (firstPlace v g) same in omega arith)
     ]
   ]
 

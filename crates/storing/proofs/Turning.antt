@@ -104,7 +104,8 @@ module _ {v x : List ℕ} {n : ℕ} {vertices gains : List (List ℕ)} {link w :
   at-end = last-place (t .ready) (t .roomy) (t .low) (t .high)
 
   pub first-few : firstIn vertices w ≤ 8000
-  first-few = rw first-is (slot-small v x (t .ready .accepted) (t .roomy) (omega (arith, place-there v x (at-end .place))))
+  first-few = rw first-is
+      (slot-small v x (t .ready .accepted) (t .roomy) (omega (arith, place-there v x (at-end .place))))
 
   -- ---- passing on
 
@@ -120,7 +121,8 @@ module _ {v x : List ℕ} {n : ℕ} {vertices gains : List (List ℕ)} {link w :
 
   -- a node's places end before those of a later one begin
   last-apart : {u : ℕ} → w < u → u ≤ nodeCount x → firstIn vertices (w + 1) - n + n ≤ firstSlot v g n u
-  last-apart {u} l h = rw (at-end .slot) (block n (omega (arith, at-end .place .state, place-end v g {u = w} {w = u} (t .low) l)))
+  last-apart {u} l h = rw (at-end .slot)
+      (block n (omega (arith, at-end .place .state, place-end v g {u = w} {w = u} (t .low) l)))
 
   pub passing-on : PassingOn x n vertices link w false (firstIn vertices (w + 1) - n) b
   unfolding linkScore source

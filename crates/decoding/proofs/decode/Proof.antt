@@ -40,7 +40,8 @@ returns-2 c =
     let t = p .before .before .before in
     let a = begin t .args in
     let s = t .before .before .before .before .search .ensures in
-    let e = says-hits (a .voice .now) (a .lexicon .now) (a .frames .now) (a .work .now) (a .out .now) (a .n) (passes t) _ (s .1 .1) in
+    let e = says-hits (a .voice .now) (a .lexicon .now) (a .frames .now) (a .work .now) (a .out .now) (a .n)
+    (passes t) _ (s .1 .1) in
     let answer = ap value (p .put-hits .ensures .1 ∙ ap length e) ∙ sym (call-answer _ _ _ _ _ _ (passes t)) in
     let out =
     p .put-hits .ensures .0 ∙ ap (λ (l : List Hit). hitBytes l ++ drop (length (hitBytes l)) (a .out .now)) e

@@ -19,10 +19,12 @@ use Rattle.search.proofs.frames.all_frames.Tie as tie
 
 abbrev Inv-loop : tie.InvT-loop
 Inv-loop voice lexicon frames n vertices₀ store₀ letters used nodes numbers gains₀ t₀ vertices store gains t =
-    FramesDone voice lexicon frames t numbers letters gains vertices store × (t ≤ length frames) × (length store ≡ length store₀)
+    FramesDone voice lexicon frames t numbers letters gains vertices store × (t ≤ length frames)
+    × (length store ≡ length store₀)
 
 abbrev μ-loop : tie.MeasureT-loop
-μ-loop voice lexicon frames n vertices₀ store₀ letters used nodes numbers gains₀ t₀ vertices store gains t = length frames - t
+μ-loop voice lexicon frames n vertices₀ store₀ letters used nodes numbers gains₀ t₀ vertices store gains t =
+    length frames - t
 
 images : (c : tie.Start Inv-loop μ-loop) → AcceptedImages (c .args .voice .now) (c .args .lexicon .now)
 images c = accepted (c .pre .0 .ready .accepted)

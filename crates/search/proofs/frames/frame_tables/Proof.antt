@@ -1,5 +1,5 @@
--- `frames::frame_tables` meets its contract: by the tests, the symbol is the one before, or its gains are found, and the
--- emissions from them. Assumes nothing.
+-- `frames::frame_tables` meets its contract: by the tests, the symbol is the one before, or its gains are found, and
+-- the emissions from them. Assumes nothing.
 use borrow.Author.Needs.{needs}
 use Rattle.voice.proofs.Scores.{symbols-few}
 use Rattle.search.proofs.Running.{nodes-read, tables-put}

@@ -15,7 +15,8 @@ use Rattle.search.proofs.judge.has_bad_frames.Statement.{statement}
 use Rattle.search.proofs.judge.has_bad_frames.Tie as tie
 
 abbrev Inv-loop : tie.InvT-loop
-Inv-loop symbols frames i₀ i = (i ≤ length frames) × (any (λ k. leb symbols k) frames ≡ any (λ k. leb symbols k) (drop i frames))
+Inv-loop symbols frames i₀ i = (i ≤ length frames)
+    × (any (λ k. leb symbols k) frames ≡ any (λ k. leb symbols k) (drop i frames))
 
 abbrev μ-loop : tie.MeasureT-loop
 μ-loop symbols frames i₀ i = length frames - i
@@ -41,8 +42,10 @@ returns-2 c =
 loop-again : tie.Need-loop-again Inv-loop μ-loop
 loop-again c =
     let a = c .before .before .before .before .before .before .before .args in
-    let l = c .before .before .before .loop in
-    (search needs, l .inv .1 ∙ any-next (λ k. leb (a .symbols) k) (a .frames .now) (l .i) (search needs) (lt-leb _ _ (c .if2 .left)))
+    let l = c .before .before .before .loop in (
+      search needs,
+      l .inv .1 ∙ any-next (λ k. leb (a .symbols) k) (a .frames .now) (l .i) (search needs) (lt-leb _ _ (c .if2 .left)),
+    )
 
 returns-3 : tie.Need-returns-3 Inv-loop μ-loop
 returns-3 c =
