@@ -10,7 +10,8 @@ use endian::u32_bytes;
 // One point of score in a token.
 pub const UNIT: u64 = 4294967296;
 
-// The bias in a token: what a gain holds above the score that it adds, since it is a `Score`'s number too.
+// The bias in a token, BIAS * UNIT. A move adds a `Score`'s number in units, so the bias once too often, and takes this
+// off again; a move that adds it and takes it off scores 0.
 pub const LIFT: u64 = 576460752303423488;
 
 pub struct Token(pub u64);
@@ -19,6 +20,7 @@ impl Token {
     // No token: `Score::IMPOSSIBLE`, with nothing below it.
     pub const NONE: Token = Token(0);
 
+    // A candidate's: its score is possible.
     pub fn of(score: Score, code: u32) -> Token
         ensures { λ r. ⌜ r .0 ≡ (score .0) * unit + (unit - 1 - code) ⌝ }
     {

@@ -95,7 +95,7 @@ fn frame(
     }
 }
 
-// All frames, of which there is at least one, once what is read once a call is read.
+// All frames, of which there is at least one, after what is read once a call.
 pub(crate) fn all_frames(
     voice: &[u8],
     lexicon: &[u8],

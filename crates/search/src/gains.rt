@@ -1,7 +1,8 @@
 // The gains of one frame's moves. A gain is what a move and the emission after it add to a token: the score of both, as
 // a `Score`'s number, impossible where one of them is. The table of a frame has a row for each letter that some node
-// has: the gain of each state's loop, and of the step into each state after the first. For the first state, which is
-// entered over an arc, it has the emission alone.
+// has: the gain of each state's loop, and of the step into each state after the first. The first is entered over an
+// arc, whose score is added there, so in the place of a step into it the row has its emission alone. Columns are those
+// of letters.rt.
 ghost use mathlib.Core.Path.{_≡_};
 ghost use Prim.Native.Nat.{_+_, _≤_, _<_};
 ghost use lib.ListN.{length, getD};
@@ -20,7 +21,7 @@ use checking::EMISSION;
 use decoder::score::BIAS;
 use decoder::score::Score;
 
-// The column of the first state's emission: that of the step into it.
+// The column of the first state's emission, where a step into it would stand: STEP + 0.
 pub(crate) const ENTRY: usize = 4;
 
 // The score of a move and of the emission after it; impossible where one of them is.

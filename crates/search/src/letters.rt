@@ -1,5 +1,6 @@
 // What is read once a call: a table of the letters that some node has, a row each, with the scores of the letter's
-// moves as `Score`s' numbers, its index, and the number of its first state.
+// moves as `Score`s' numbers, its index, and the number of its first state. Document 01 has a letter's scores handled
+// as four pairs of loop and step; the step of its last state is never taken, since a word goes on by the link or ends.
 ghost use mathlib.Core.Path.{_≡_};
 ghost use mathlib.Core.Bool.{true, cond};
 ghost use mathlib.Core.List.{[], _∷_};

@@ -1,4 +1,8 @@
 // The search: the token store in bytes, the turns of a frame, and the call that finds the best words as tokens.
+//
+// What is read of the images in more than one place (docs/FORMAT.md): voice[2 + 2 * letter] is a letter's number of
+// states, 1 to 4, and lexicon[1 + node] the letter of a node; nodes have the numbers from 1 on. A table of vertices has
+// 402 rows: for 400 nodes, the root, which is 0, and the sink, which comes after the last node.
 ghost use mathlib.Core.Path.{_≡_};
 ghost use Rattle.call.specs.Table.{answerOf};
 ghost use Rattle.decoder.specs.Decoding.{decodeWork};
@@ -51,7 +55,8 @@ pub fn search(
     };
     let count = n as usize;
     let slots = find_slots(voice, lexicon, count, &mut vertices);
-    // a store of n tokens a place; checking left the work space clear, so nothing else has to be cleared again
+    // a store of n tokens a place, so of at most 8 * 8 * 1,000 bytes, which the work space has; checking left it clear,
+    // so nothing else has to be cleared again
     let bytes = 8 * slots;
     *tokens = best_words(
         voice,

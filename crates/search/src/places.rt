@@ -11,7 +11,8 @@ use decoder::score::Score;
 use endian::u16_at;
 
 // Puts the first slot of each node and of the sink into the table of vertices. A place has n slots, so a node's first
-// is n times the number of states of the nodes below it. Answers the number of all slots.
+// is n times the number of states of the nodes with lower numbers. The sink, where words end and no state is, gets an
+// impossible emission. Answers the number of all slots.
 pub(crate) fn find_slots(
     voice: &[u8],
     lexicon: &[u8],
@@ -33,7 +34,7 @@ pub(crate) fn find_slots(
         node += 1;
     }
     vertices[node][FIRST_SLOT] = slot as u32;
-    // the sink is never entered
+    // so that no token is passed on to it
     let none = Score::IMPOSSIBLE;
     vertices[node][EMISSION] = none.0;
     slot

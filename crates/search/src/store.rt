@@ -118,8 +118,8 @@ pub(crate) fn clear_place(part: &mut [u8], n: usize)
     }
 }
 
-// Copies the numbers of a list's tokens to a lent list of no tokens, since one that is returned would be copied again.
-// Behind the first empty slot are only empty ones, so that the copy ends there.
+// Copies the numbers of a list's tokens to a lent list of no tokens. Behind the first empty slot are only empty ones,
+// so that the copy ends there.
 pub(crate) fn copy_place(part: &[u8], n: usize, tokens: &mut [u64; 8])
     requires { ⌜ PlaceRoom n 0 (now part) × Falling (slots n 0 (now part)) ⌝ }
     requires { ⌜ now tokens ≡ replicate 8 0 ⌝ }

@@ -8,8 +8,9 @@ use decoder::token::Token;
 use decoder::token::UNIT;
 use endian::u32_of;
 
-// A token after a move: `up` is the number of the move's score in units, `down` the bias and the increment. It stands
-// here, and not with the type, since it asks that the sum fits.
+// A token after a move: `up` is the number of the move's score in units, `down` the bias in units and the increment of
+// the code. It stands here, and not with the type, since it asks that the sum fits, and a public function asks for
+// nothing.
 pub(crate) fn moved(token: Token, up: u64, down: u64) -> Token
     requires { ⌜ MoveFits up down (token .0) ⌝ }
     ensures { λ r. ⌜ r .0 ≡ (token .0) + up - down ⌝ }
@@ -35,7 +36,7 @@ pub(crate) fn token_at(part: &[u8], k: usize) -> Token
     Token(low as u64 + UNIT * (high as u64))
 }
 
-// Puts a token into slot k. LLVM makes one store of the loop.
+// Puts a token into slot k. The compiler makes one store of eight bytes of the loop.
 pub(crate) fn put_token(part: &mut [u8], k: usize, token: Token)
     requires { ⌜ 8 * k + 8 ≤ length (now part) ⌝ }
     ensures { λ _. ⌜ SlotPut (now (part .entry)) k (token .0) (now (part .exit)) ⌝ }

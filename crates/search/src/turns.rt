@@ -1,5 +1,7 @@
 // A node's turn at a frame: what its last state holds is passed on to its successors, and then its own states are
-// renewed. At the first frame the root's token is passed on instead, which has no place in the store.
+// renewed. At the first frame the root's token is passed on instead, which has no place in the store: in a contract the
+// root is vertex 0 (`true`), its slot 0 means nothing, and what its arcs score is `bias`, the number of the score 0. A
+// contract that begins with ((t : ..) → ..) speaks of what is known before the call by the record t.
 ghost use mathlib.Core.Path.{_≡_};
 ghost use mathlib.Core.Bool.{true, false};
 ghost use Prim.Native.Nat.{suc, _+_, _*_, _≤_, _<_};
@@ -56,7 +58,7 @@ fn pass_over(
     ensures { λ _. ⌜ slots n from (now (store .exit)) ≡ slots n from (now (store .entry)) ⌝ }
 {
     let emission = Score(vertices[t][EMISSION]);
-    // as at the sink, which has none
+    // impossible at this frame; always so at the sink, which has no letter
     if emission.is_impossible() {
         return;
     }
@@ -131,7 +133,7 @@ pub(crate) fn enter_nodes(lexicon: &[u8], n: usize, vertices: &[[u32; 4]; 402], 
     }
 }
 
-// The tokens of a place move by its loop.
+// The tokens of a place move by its loop; the score is the gain of that move.
 fn stay(place: &mut [u8], n: usize, score: Score)
     requires { ⌜ Staying n 0 (score .0) (now place) ⌝ }
     ensures { λ _. ⌜ ((t : Staying n 0 (score .0) (now (place .entry))) → slots n 0 (now (place .exit))
@@ -145,7 +147,7 @@ fn stay(place: &mut [u8], n: usize, score: Score)
 }
 
 // Renews state s in a node's part of the store: by its loop, and by the step from the state before, whose tokens are
-// still old.
+// still old. The row has the gains of the node's letter at this frame.
 fn renew_state(part: &mut [u8], n: usize, s: usize, row: &[u32; 8])
     requires { ⌜ Renewing n (suc s) (now row) (now part) ⌝ }
     ensures { λ _. ⌜ ((t : Renewing n (suc s) (now (row .entry)) (now (part .entry)))

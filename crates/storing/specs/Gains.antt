@@ -142,8 +142,7 @@ EntryGains v x k gains = (u : ℕ) → 1 ≤ u → u ≤ nodeCount x
 
 -- ---- what calls ask
 
--- the loop of state s and the move into it are put into a row; the move is left out for the first state, or put there
--- too
+-- the loop of state s and the move into it are put into a row; of the first state the move may be left out
 pub record StatePut (row : List ℕ) (s a b : ℕ) (row′ : List ℕ) : Type 0 where
   pub long : length row′ ≡ length row
   pub loop : getD row′ s 0 ≡ a

@@ -36,7 +36,7 @@ firstIn t u = getD (getD t u []) 2 0
 abbrev pub emissionIn : List (List ℕ) → ℕ → ℕ
 emissionIn t u = getD (getD t u []) 3 0
 
--- 402 rows of four numbers
+-- 402 rows of four numbers: enough for 400 nodes, the root and the sink
 pub record VertexRows (t : List (List ℕ)) : Type 0 where
   pub long : length t ≡ 402
   pub wide : {u : ℕ} → u < 402 → length (getD t u []) ≡ 4
@@ -59,7 +59,8 @@ pub record NodesRead (x : List ℕ) (nodes : ℕ) : Type 0 where
   pub all : nodes ≡ nodeCount x
   pub letter : {u : ℕ} → 1 ≤ u → u ≤ nodeCount x → nodeLetter x u < 64
 
--- the emission of each node's letter, from column 4 of its row, is put into the table t, and nothing else
+-- the emission of each node's letter, from column 4 of its row, is put into the table t; the sink's and the other
+-- columns stay
 pub record EmissionsPut (x : List ℕ) (gains t t′ : List (List ℕ)) : Type 0 where
   pub rows : VertexRows t′
   pub emission : {u : ℕ} → 1 ≤ u → u ≤ nodeCount x → emissionIn t′ u ≡ getD (getD gains (nodeLetter x u) []) 4 0
