@@ -1,4 +1,5 @@
--- The call: it answers as checking does where that refuses, and else by its own rows; then the hits are found. Assumes nothing.
+-- The call: it answers as checking does where that refuses, and else by its own rows; then the hits are found. Assumes
+-- nothing.
 use Prim.Native.Nat.{ℕ, zero, suc, _*_, _≤_}
 use mathlib.Core.Path.{_≡_, refl, sym, ap, _∙_}
 use mathlib.Core.List.{List, [], _∷_, _++_, append-assoc}

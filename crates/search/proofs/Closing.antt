@@ -1,9 +1,10 @@
--- After the last frame. The search for the arc to the sink: its increment is what the successors before it add up to. And the list of hits while the
--- tokens of each node's last state are offered to it. Assumes nothing.
+-- After the last frame. The search for the arc to the sink: its increment is what the successors before it add up to.
+-- And the list of hits while the tokens of each node's last state are offered to it. Assumes nothing.
 use Prim.Native.Nat.{ℕ, suc, _+_, _-_, _*_, _≤_, _<_}
 use mathlib.Core.Path.{_≡_, refl, sym, ap, _∙_}
 use mathlib.Core.Bool.{Bool, true, false, _||_, true≢false}
-use mathlib.Core.List.{List, [], _∷_, _++_, map, append-nil, List·Memᴰ, List·Memᴰ·head as here, Memᴰ·append-right as in-right, Memᴰ·of-map, List·Memᴰ·not-nil as not-nil}
+use mathlib.Core.List.{List, [], _∷_, _++_, map, append-nil, List·Memᴰ, List·Memᴰ·head as here}
+use mathlib.Core.List.{Memᴰ·append-right as in-right, Memᴰ·of-map, List·Memᴰ·not-nil as not-nil}
 use native.Mathlib.Omega.{arith}
 use native.Mathlib.Nat.{mul-add}
 use borrow.Author.Tests.{ne-eqb}
@@ -26,7 +27,8 @@ use Rattle.graph.proofs.Accepted.{AcceptedImages, accepted, sound-images, words
 use Rattle.graph.proofs.Codes.{pathCount-sink, pathCount-below, arc-count}
 use Rattle.checking.specs.Tables.{WellFormed}
 use Rattle.checking.proofs.Arcs.{shape-of, sound-of, nodes-there, ArcNext, arc-next, arcs-done}
-use Rattle.checking.proofs.Increments.{CountsPassed, counts-start, split-here, increment-here, counts-below, counts-next}
+use Rattle.checking.proofs.Increments.{CountsPassed, counts-start, split-here, increment-here, counts-below}
+use Rattle.checking.proofs.Increments.{counts-next}
 use Rattle.checking.proofs.Reached.{count-within-words}
 use Rattle.ranking.specs.Hits.{Hit}
 use Rattle.decoder.specs.Score.{raised}

@@ -1,5 +1,5 @@
--- Frame by frame: what the places hold after the root's token is passed on, while the nodes take their turns, and when all have had theirs.
--- By the theorems of token passing in one store. Assumes nothing.
+-- Frame by frame: what the places hold after the root's token is passed on, while the nodes take their turns, and when
+-- all have had theirs. By the theorems of token passing in one store. Assumes nothing.
 use Prim.Native.Nat.{ℕ, zero, suc, _+_, _-_, _*_, _≤_, _<_}
 use mathlib.Core.Path.{_≡_, refl, sym, ap, _∙_}
 use mathlib.Core.Bool.{true, false, true≢false}

@@ -1,9 +1,10 @@
--- The whole search: from the empty store to the list of hits. The ends that are left give what all give, and that is the list of hits by the
--- theorem of token passing. Assumes nothing.
+-- The whole search: from the empty store to the list of hits. The ends that are left give what all give, and that is
+-- the list of hits by the theorem of token passing. Assumes nothing.
 use Prim.Native.Nat.{ℕ, zero, suc, _+_, _-_, _≤_}
 use mathlib.Core.Path.{_≡_, refl, sym, ap, _∙_}
 use mathlib.Core.Logic.{⊎-elim}
-use mathlib.Core.List.{List, [], _∷_, _++_, flatMap, append-nil, append-assoc, List·Memᴰ, List·Memᴰ·not-nil as not-nil, List·Memᴰ·append-cases as append-cases}
+use mathlib.Core.List.{List, [], _∷_, _++_, flatMap, append-nil, append-assoc, List·Memᴰ, List·Memᴰ·not-nil as not-nil}
+use mathlib.Core.List.{List·Memᴰ·append-cases as append-cases}
 use native.Mathlib.Omega.{arith}
 use lib.ListN.{length, replicate, length-take}
 use Rattle.endian.specs.Bytes.{u16, u32}

@@ -1,5 +1,5 @@
--- What the private functions of the search test once the images are accepted: rows 11, 12 and 16. No public contract cites this.
--- Assumes nothing.
+-- What the private functions of the search test once the images are accepted: rows 11, 12 and 16. No public contract
+-- cites this. Assumes nothing.
 use Prim.Native.Nat.{ℕ, _*_}
 use mathlib.Core.List.{List, [], _∷_, _++_}
 use lib.Dec.{ltb}

@@ -1,5 +1,6 @@
--- What the search answers, and what it finds: the hits of decoding as tokens (document 01, State paths and hits). The definitions of the list
--- and of the table are decoding's own (decoder/specs/Decoding); a token is a candidate as one number (Held). Assumes nothing.
+-- What the search answers, and what it finds: the hits of decoding as tokens (document 01, State paths and hits). The
+-- definitions of the list and of the table are decoding's own (decoder/specs/Decoding); a token is a candidate as one
+-- number (Held). Assumes nothing.
 use Prim.Native.Nat.{ℕ}
 use mathlib.Core.List.{List}
 use Rattle.call.specs.Table.{Answer, value, refused, unless}

@@ -1,5 +1,5 @@
--- What the functions over all frames ask and leave: frame by frame, and at the end node by node. No public contract cites this.
--- Assumes nothing.
+-- What the functions over all frames ask and leave: frame by frame, and at the end node by node. No public contract
+-- cites this. Assumes nothing.
 use Prim.Native.Nat.{ℕ, _-_, _≤_, _<_}
 use mathlib.Core.Path.{_≡_}
 use mathlib.Core.Bool.{true, false}

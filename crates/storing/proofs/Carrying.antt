@@ -1,5 +1,5 @@
--- A place whose tokens move by a loop, and one to which tokens are offered, as candidates: what the calls ask and leave. And what a gain read
--- from a table is worth. By the laws of the n best. Assumes nothing.
+-- A place whose tokens move by a loop, and one to which tokens are offered, as candidates: what the calls ask and
+-- leave. And what a gain read from a table is worth. By the laws of the n best. Assumes nothing.
 use Prim.Native.Nat.{ℕ, zero, suc, _+_, _-_, _*_, _≤_, _<_}
 use mathlib.Core.Path.{_≡_, refl, sym, ap, ap₂, _∙_}
 use mathlib.Core.Bool.{Bool, true, false, cond}

@@ -1,5 +1,5 @@
--- The turns of the search for a position and of the push, and that the two together are `enter`: by the tests on the token in a slot.
--- Assumes nothing.
+-- The turns of the search for a position and of the push, and that the two together are `enter`: by the tests on the
+-- token in a slot. Assumes nothing.
 use Prim.Native.Nat.{ℕ, zero, suc, _+_, _-_, _<_, _≤_}
 use mathlib.Core.Path.{_≡_, refl, sym, ap, _∙_}
 use mathlib.Core.Bool.{Bool, true, false, _||_}

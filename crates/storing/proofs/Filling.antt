@@ -1,5 +1,5 @@
--- The tables of a call and of a frame while they are filled: state by state, letter by letter; and what they say of the letters of nodes.
--- Assumes nothing.
+-- The tables of a call and of a frame while they are filled: state by state, letter by letter; and what they say of the
+-- letters of nodes. Assumes nothing.
 use Prim.Native.Nat.{ℕ, suc, _+_, _-_, _*_, _≤_, _<_}
 use mathlib.Core.Path.{_≡_, refl, sym, ap, _∙_}
 use mathlib.Core.Bool.{Bool, true, false, false≢true}
@@ -17,7 +17,8 @@ use Rattle.endian.specs.Integers.{eqZ}
 use Rattle.endian.specs.Bytes.{i16}
 use Rattle.endian.proofs.Bytes.{i16-range}
 use Rattle.voice.specs.Fields.{wellFormed}
-use Rattle.voice.specs.Voice.{letterCount, states, firstState, loopScore, stepScore, linkScore, symbolsAt, symbolCount, impossible, emission, voiceVerdict}
+use Rattle.voice.specs.Voice.{letterCount, states, firstState, loopScore, stepScore, linkScore, symbolsAt, symbolCount}
+use Rattle.voice.specs.Voice.{impossible, emission, voiceVerdict}
 use Rattle.voice.proofs.Letters.{states-range}
 use Rattle.voice.proofs.Scores.{letters-few, emission-there}
 use Rattle.lexicon.specs.Lexicon.{nodeCount, nodeLetter}

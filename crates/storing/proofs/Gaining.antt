@@ -21,7 +21,8 @@ use Rattle.endian.specs.Lists.{from, sum}
 use Rattle.endian.proofs.Integers.{up, down, size, size-sum, sum as parts}
 use Rattle.endian.proofs.Bytes.{i16-range}
 use Rattle.voice.specs.Fields.{wellFormed}
-use Rattle.voice.specs.Voice.{letterCount, states, firstState, loopScore, stepScore, stateCount, statesAt, impossible, voiceVerdict}
+use Rattle.voice.specs.Voice.{letterCount, states, firstState, loopScore, stepScore, stateCount, statesAt, impossible}
+use Rattle.voice.specs.Voice.{voiceVerdict}
 use Rattle.voice.proofs.Tiling.{firstState-suc}
 use Rattle.voice.proofs.Letters.{states-range, states-there}
 use Rattle.voice.proofs.Scores.{letters-few, state-known, pair-there}

@@ -1,10 +1,12 @@
--- What is done to the numbers in the slots of a place is what is done to the list of candidates that it holds: one enters, those of another
--- place are offered, all move. By the rules of insertion, a case each. Assumes nothing.
+-- What is done to the numbers in the slots of a place is what is done to the list of candidates that it holds: one
+-- enters, those of another place are offered, all move. By the rules of insertion, a case each. Assumes nothing.
 use Prim.Native.Nat.{ℕ, zero, suc, _+_, _-_, _≤_}
 use mathlib.Core.Path.{_≡_, refl, sym, ap, _∙_}
 use mathlib.Core.Bool.{false}
 use mathlib.Core.Logic.{⊎-elim}
-use mathlib.Core.List.{List, [], _∷_, _++_, map, append-nil, append-assoc, List·Memᴰ, List·Memᴰ·head as here, List·Memᴰ·tail as there, List·Memᴰ·cases-cons as cases, List·Memᴰ·not-nil as not-nil, List·Memᴰ·append-cases as append-cases, List·Memᴰ·eq-of-singleton as only}
+use mathlib.Core.List.{List, [], _∷_, _++_, map, append-nil, append-assoc, List·Memᴰ, List·Memᴰ·head as here}
+use mathlib.Core.List.{List·Memᴰ·tail as there, List·Memᴰ·cases-cons as cases, List·Memᴰ·not-nil as not-nil}
+use mathlib.Core.List.{List·Memᴰ·append-cases as append-cases, List·Memᴰ·eq-of-singleton as only}
 use native.Mathlib.Omega.{arith}
 use borrow.Author.Tests.{eq-eqb, ne-eqb, lt-ltb}
 use lib.Dec.{eqb}
@@ -16,7 +18,8 @@ use Rattle.ranking.proofs.Hits.{outranks-is}
 use Rattle.decoder.specs.Score.{frameLimit}
 use Rattle.passing.specs.Best.{insert, best, byCode, shift}
 use Rattle.passing.proofs.Order.{_∈_, hits-strict}
-use Rattle.passing.proofs.Insertion.{Removed, nothing, found, kept, Inserted, alone, above, held as beaten, below, inserted, Ranked}
+use Rattle.passing.proofs.Insertion.{Removed, nothing, found, kept, Inserted, alone, above, held as beaten, below}
+use Rattle.passing.proofs.Insertion.{inserted, Ranked}
 use Rattle.passing.proofs.Best.{best-next, best-from}
 use Rattle.decoder.specs.Token.{codePart}
 use Rattle.storing.specs.Slots.{push, enter, offered, shifted, Movable, Falling, none, next}

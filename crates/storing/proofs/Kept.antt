@@ -1,5 +1,6 @@
--- Places that hold the n best of candidates: what they hold after their tokens moved and after those of another were offered, what `offer` asks of
--- them, and that tokens within the bounds of 1,000 frames can be stored. By the laws of the n best. Assumes nothing.
+-- Places that hold the n best of candidates: what they hold after their tokens moved and after those of another were
+-- offered, what `offer` asks of them, and that tokens within the bounds of 1,000 frames can be stored. By the laws of
+-- the n best. Assumes nothing.
 use Prim.Native.Nat.{ℕ, _≤_}
 use mathlib.Core.Path.{_≡_, sym, ap, _∙_}
 use mathlib.Core.List.{List, _++_, map}

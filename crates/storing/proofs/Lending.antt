@@ -1,11 +1,12 @@
--- A part of the store that is lent as a place and comes back, and a place that is copied: what their slots are. By the bytes. And the turns of the
--- loop that offers a place the tokens of an earlier one. Assumes nothing.
+-- A part of the store that is lent as a place and comes back, and a place that is copied: what their slots are. By the
+-- bytes. And the turns of the loop that offers a place the tokens of an earlier one. Assumes nothing.
 use Prim.Native.Nat.{ℕ, suc, _+_, _-_, _*_, _<_, _≤_}
 use mathlib.Core.Path.{_≡_, refl, sym, ap, ap₂, _∙_}
 use mathlib.Core.Logic.{_⊎_, inl, inr, ⊎-elim}
 use mathlib.Core.List.{List, _++_, append-assoc}
 use native.Mathlib.Omega.{arith}
-use lib.ListN.{length, getD, take, drop, replicate, length-append, length-replicate, length-take, length-drop, replicate-append-replicate, List·getD-append}
+use lib.ListN.{length, getD, take, drop, replicate, length-append, length-replicate, length-take, length-drop}
+use lib.ListN.{replicate-append-replicate, List·getD-append}
 use lib.Seq.{getD-take, getD-drop, getD-append-add, length-take-le, take-at, take-all, drop-append-seam}
 use borrow.Rule.Slice.PartMut.{putMid}
 use Rattle.storing.specs.Slots.{tokenAt, slots, Changed, enter, offered, PlaceRoom, MoveFits, Falling, Offer}

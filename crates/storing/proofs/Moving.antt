@@ -1,4 +1,5 @@
--- The turns of the loops that move tokens: where they stand, and to another place. By the test for no token. Assumes nothing.
+-- The turns of the loops that move tokens: where they stand, and to another place. By the test for no token. Assumes
+-- nothing.
 use Prim.Native.Nat.{ℕ, _+_, _-_, _<_, _≤_}
 use mathlib.Core.Path.{_≡_, sym, ap, _∙_}
 use mathlib.Core.List.{List, [], _∷_, _++_, append-assoc, List·Memᴰ}

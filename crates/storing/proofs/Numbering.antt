@@ -92,14 +92,14 @@ module _ (t : List (List ℕ)) (w j a : ℕ) (r : VertexRows t) (h : w < 402) wh
   cell-here k = rw (own-row refl) (getD-set-same (getD t w []) j a 0 (omega (arith, r .wide h)))
 
   -- in another row
-  pub cell-below : {u : ℕ} (i : ℕ) → ¬ (u ≡ w) → getD (getD (cellPut t w j a) u []) i 0 ≡ getD (getD t u []) i 0
-  cell-below i d = rw (other-row d)
+  pub cell-apart : {u : ℕ} (i : ℕ) → ¬ (u ≡ w) → getD (getD (cellPut t w j a) u []) i 0 ≡ getD (getD t u []) i 0
+  cell-apart i d = rw (other-row d)
 
   -- in another column
   pub cell-beside : (u : ℕ) {i : ℕ} → ¬ (i ≡ j) → getD (getD (cellPut t w j a) u []) i 0 ≡ getD (getD t u []) i 0
   cell-beside u {i} d = elim (ℕ-discrete u w) [
     | yes e ↦ rw (own-row e, e) (getD-set-other (getD t w []) j i a 0 d)
-    | no f ↦ cell-below i f
+    | no f ↦ cell-apart i f
   ]
 
   pub cell-rows : VertexRows (cellPut t w j a)
@@ -140,7 +140,7 @@ slot-found : {v x : List ℕ} {n node slot : ℕ} {t t′ : List (List ℕ)} →
     → {u : ℕ} → 1 ≤ u → u ≤ node → firstIn (cellPut t′ node 2 slot) u ≡ firstSlot v (graphOf x) n u
 slot-found {node = node} {slot} {t′ = t′} p h {u} l k = elim (ℕ-discrete u node) [
   | yes q ↦ rw q (cell-here t′ node 2 slot (p .rows) h (omega arith) ∙ p .here)
-  | no d ↦ cell-below t′ node 2 slot (p .rows) h 2 d ∙ p .first l (omega (arith, d))
+  | no d ↦ cell-apart t′ node 2 slot (p .rows) h 2 d ∙ p .first l (omega (arith, d))
 ]
 
 pub slots-next : {v x : List ℕ} {n node slot : ℕ} {t t′ : List (List ℕ)} → Images v x → n ≤ 8
@@ -231,9 +231,9 @@ emissions-next {x} {gains} {node} {t = t} {t′ = t′} i p h = rw add-one (reco
   rows = cell-rows t′ node 3 own (p .rows) room;
   emission = λ {u} l k. elim (ℕ-discrete u node) [
     | yes q ↦ rw q (cell-here t′ node 3 own (p .rows) room (omega arith))
-    | no d ↦ cell-below t′ node 3 own (p .rows) room 3 d ∙ p .emission l (omega (arith, d))
+    | no d ↦ cell-apart t′ node 3 own (p .rows) room 3 d ∙ p .emission l (omega (arith, d))
   ];
-  sink = cell-below t′ node 3 own (p .rows) room 3 (λ q. omega arith) ∙ p .sink;
+  sink = cell-apart t′ node 3 own (p .rows) room 3 (λ q. omega arith) ∙ p .sink;
   others = λ u d. cell-beside t′ node 3 own (p .rows) room u d ∙ p .others u d;
   low = omega arith;
   high = omega arith;

@@ -1,5 +1,6 @@
--- A candidate and its number: the number is greater exactly if the candidate ranks higher, its lower half tells the code, and a move of the
--- candidate is a sum and a difference of the number. By linear arithmetic on the two halves. Assumes nothing.
+-- A candidate and its number: the number is greater exactly if the candidate ranks higher, its lower half tells the
+-- code, and a move of the candidate is a sum and a difference of the number. By linear arithmetic on the two halves.
+-- Assumes nothing.
 use Prim.Native.Nat.{ℕ, _+_, _-_, _<_, _≤_}
 use mathlib.Core.Path.{_≡_, refl, sym, ap, _∙_}
 use mathlib.Core.Bool.{Bool, true, false}

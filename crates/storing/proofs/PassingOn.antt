@@ -1,10 +1,12 @@
--- Tokens passed on along the arcs of a vertex: one arc, and the loop over all. What is left to pass on from the store so far is what was to be
--- passed on from the store at the beginning; the increment of the next arc is the sum of the counts before it. Assumes nothing.
+-- Tokens passed on along the arcs of a vertex: one arc, and the loop over all. What is left to pass on from the store
+-- so far is what was to be passed on from the store at the beginning; the increment of the next arc is the sum of the
+-- counts before it. Assumes nothing.
 use Prim.Native.Nat.{ℕ, zero, suc, _+_, _-_, _*_, _^_, _≤_, _<_}
 use mathlib.Core.Path.{_≡_, refl, sym, ap, ap₂, _∙_, subst}
 use mathlib.Core.Bool.{Bool, true, false}
 use mathlib.Core.Logic.{inl, ⊎-elim}
-use mathlib.Core.List.{List, [], _∷_, _++_, Memᴰ·append-right, List·Memᴰ, List·Memᴰ·head as here, List·Memᴰ·tail as there, List·Memᴰ·append-cases as append-cases}
+use mathlib.Core.List.{List, [], _∷_, _++_, Memᴰ·append-right, List·Memᴰ, List·Memᴰ·head as here}
+use mathlib.Core.List.{List·Memᴰ·tail as there, List·Memᴰ·append-cases as append-cases}
 use mathlib.Core.Option.{none}
 use native.Mathlib.Omega.{arith}
 use native.Mathlib.Nat.{add-zero, pos-of-ne-zero}
@@ -23,7 +25,8 @@ use Rattle.graph.proofs.Accepted.{AcceptedImages, accepted}
 use Rattle.checking.specs.Tables.{WellFormed}
 use Rattle.checking.proofs.Arcs.{shape-of, sound-of, nodes-there, has-entry, ListThere, list-there, ArcNext, arc-next}
 use Rattle.checking.proofs.Arcs.{arcs-done}
-use Rattle.checking.proofs.Increments.{CountsPassed, counts-start, split-here, increment-here, counts-below, counts-next}
+use Rattle.checking.proofs.Increments.{CountsPassed, counts-start, split-here, increment-here, counts-below}
+use Rattle.checking.proofs.Increments.{counts-next}
 use Rattle.ranking.specs.Hits.{Hit}
 use Rattle.decoder.specs.Score.{bias, frameLimit, numberOf, possible, plus}
 use Rattle.passing.specs.Tokens.{Store, bestTokens, stateOf, symbolScore, lastState, overArc}
@@ -286,36 +289,36 @@ module _ {n : ℕ} {vertices : List (List ℕ)} {link : ℕ} {root : Bool} {from
 -- ---- an arc of the root
 
 module _ {n : ℕ} {vertices : List (List ℕ)} {u down : ℕ} {b : List ℕ} (t : Arc n vertices bias true 0 u down b) where
-  abbrev y : List ℕ
-  y = t .x
+  abbrev image : List ℕ
+  image = t .x
 
-  abbrev p : PassingOn y n vertices bias (t .w) true 0 b
+  abbrev p : PassingOn image n vertices bias (t .w) true 0 b
   p = t .passing-on
 
-  from-root : List·Memᴰ u (successors y 0)
+  from-root : List·Memᴰ u (successors image 0)
   from-root = rw (p .root-is refl) at (t .arc)
 
-  low : 0 < sink (graphOf y)
+  low : 0 < sink (graphOf image)
   unfolding sink
   low = omega arith
 
   -- the root does not lead to the sink
-  pub root-node : u ≤ nodeCount y
+  pub root-node : u ≤ nodeCount image
   unfolding sink
   root-node =
       let s = sound-of (lexicon-formed (p .ready)) in
-      let r : u ≤ suc (nodeCount y) = s .rises low from-root .1 in
-      elim (ℕ-discrete u (suc (nodeCount y))) [
-        | yes e ↦ absurd (s .worded (subst (λ z. List·Memᴰ z (successors y 0)) e from-root))
+      let r : u ≤ suc (nodeCount image) = s .rises low from-root .1 in
+      elim (ℕ-discrete u (suc (nodeCount image))) [
+        | yes e ↦ absurd (s .worded (subst (λ z. List·Memᴰ z (successors image 0)) e from-root))
         | no d ↦ omega (arith, r, d)
       ]
 
   pub root-increment : (d : ℕ) → down ≡ lift + d → d < 4294967296
   unfolding downOf wordCount
   root-increment d e =
-      let q : down ≡ lift + increment (graphOf y) 0 u = rw (p .root-is refl) at (t .down-is) in
+      let q : down ≡ lift + increment (graphOf image) 0 u = rw (p .root-is refl) at (t .down-is) in
       let c = arc-count (sound-of (lexicon-formed (p .ready))) low from-root in
-      omega (arith, e, q, c, words-few (p .v) y (p .ready .accepted))
+      omega (arith, e, q, c, words-few (p .v) image (p .ready .accepted))
 
 pub root-sum : {e : ℕ} → NearBias e → e ≡ numberSum bias e
 unfolding numberSum

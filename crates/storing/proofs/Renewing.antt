@@ -1,5 +1,5 @@
--- The states of a node renewed, from the last to the first: each by its loop, then by the step from the state before, which is still old.
--- Assumes nothing.
+-- The states of a node renewed, from the last to the first: each by its loop, then by the step from the state before,
+-- which is still old. Assumes nothing.
 use Prim.Native.Nat.{ℕ, zero, suc, _+_, _-_, _*_, _^_, _≤_, _<_}
 use mathlib.Core.Path.{_≡_, refl, ap, _∙_}
 use mathlib.Core.Logic.{_⊎_, inl, inr}

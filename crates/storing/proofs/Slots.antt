@@ -1,4 +1,5 @@
--- Laws of tokens in bytes: a token written is read and no other is touched; slots taken apart. Each from what the bytes are. Assumes nothing.
+-- Laws of tokens in bytes: a token written is read and no other is touched; slots taken apart. Each from what the bytes
+-- are. Assumes nothing.
 use Prim.Native.Nat.{ℕ, zero, suc, _+_, _-_, _*_, _/_, _%_, _^_, _<_, _≤_}
 use mathlib.Core.Path.{_≡_, refl, ap, ap₂, _∙_}
 use mathlib.Core.Logic.{_⊎_, inl, inr, ⊎-elim}

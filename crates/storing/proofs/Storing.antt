@@ -1,5 +1,5 @@
--- The store by node and state: one place is changed, or none; where the places lie in it; and the bounds of tokens that move. By the numbers of
--- the places, which differ. Assumes nothing.
+-- The store by node and state: one place is changed, or none; where the places lie in it; and the bounds of tokens that
+-- move. By the numbers of the places, which differ. Assumes nothing.
 use Prim.Native.Nat.{ℕ, _+_, _*_, _^_, _≤_, _<_}
 use mathlib.Core.Path.{_≡_, refl, _∙_}
 use mathlib.Core.Logic.{_⊎_, inl, inr}

@@ -1,5 +1,5 @@
--- A node's stretch of the store, lent on to the token update and back: its states hold there what they hold in the whole store, and no place of
--- another node changes. By the numbers of the places. Assumes nothing.
+-- A node's stretch of the store, lent on to the token update and back: its states hold there what they hold in the
+-- whole store, and no place of another node changes. By the numbers of the places. Assumes nothing.
 use Prim.Native.Nat.{ℕ, _+_, _*_, _≤_, _<_}
 use mathlib.Core.Path.{_≡_, refl, sym, ap, _∙_}
 use mathlib.Core.Logic.{_⊎_, inl, inr}

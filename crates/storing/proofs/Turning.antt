@@ -1,5 +1,5 @@
--- A node's turn: its last tokens are passed on, and then its states are renewed. What each call asks, and what is left. Bounds are
--- those of the definitions: renewed tokens moved once, and nodes below hold what they held. Assumes nothing.
+-- A node's turn: its last tokens are passed on, and then its states are renewed. What each call asks, and what is left.
+-- Bounds are those of the definitions: renewed tokens moved once, and nodes below hold what they held. Assumes nothing.
 use Prim.Native.Nat.{ℕ, zero, suc, _+_, _-_, _*_, _≤_, _<_}
 use mathlib.Core.Path.{_≡_, refl, sym, ap, _∙_}
 use mathlib.Core.Bool.{false, false≢true}

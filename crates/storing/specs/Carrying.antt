@@ -1,5 +1,5 @@
--- What the functions inside a node's turn ask and leave: one place whose tokens move, or to which tokens are offered, as candidates; and one
--- arc or state in the store. No public contract cites this. Assumes nothing.
+-- What the functions inside a node's turn ask and leave: one place whose tokens move, or to which tokens are offered,
+-- as candidates; and one arc or state in the store. No public contract cites this. Assumes nothing.
 use Prim.Native.Nat.{ℕ, suc, _+_, _*_, _≤_, _<_}
 use mathlib.Core.Path.{_≡_}
 use mathlib.Core.Bool.{Bool}
@@ -113,7 +113,8 @@ pub record Renewing (n s : ℕ) (row part : List ℕ) : Type 0 where
 
 -- the store once state s is renewed, and once all states below s are
 unfoldable pub renewedOne : {n s : ℕ} {row part : List ℕ} → Renewing n (suc s) row part → Store
-renewedOne {n} {s = s} t = put (t .P) (t .node) s (bestTokens n (renewed (t .v) (graphOf (t .x)) (t .P) (t .k) (t .node) s))
+renewedOne {n} {s = s} t =
+    put (t .P) (t .node) s (bestTokens n (renewed (t .v) (graphOf (t .x)) (t .P) (t .k) (t .node) s))
 
 unfoldable pub renewedAll : {n s : ℕ} {row part : List ℕ} → Renewing n s row part → Store
 renewedAll {n} {s = s} t = renewDown (t .v) (graphOf (t .x)) n (t .k) (t .node) s (t .P)

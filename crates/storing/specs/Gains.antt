@@ -10,7 +10,8 @@ use lib.Signed.{mag}
 use lib.ListN.{length, getD}
 use lib.Dec.{ltb}
 use Rattle.voice.specs.Fields.{wellFormed}
-use Rattle.voice.specs.Voice.{letterCount, states, firstState, loopScore, stepScore, symbolCount, impossible, emission, voiceVerdict}
+use Rattle.voice.specs.Voice.{letterCount, states, firstState, loopScore, stepScore, symbolCount, impossible, emission}
+use Rattle.voice.specs.Voice.{voiceVerdict}
 use Rattle.lexicon.specs.Lexicon.{nodeCount, nodeLetter}
 use Rattle.decoder.specs.Score.{bias, numberOf, possible, plus}
 
@@ -33,7 +34,8 @@ pairOf v s there = cond there (loopScore v s ∷ stepScore v s ∷ []) (impossib
 
 -- the pairs of a letter of n states that begin with number s
 unfoldable pub letterPairs : List ℕ → ℕ → ℕ → List (List ℤ)
-letterPairs v s n = pairOf v s (ltb 0 n) ∷ pairOf v (s + 1) (ltb 1 n) ∷ pairOf v (s + 2) (ltb 2 n) ∷ pairOf v (s + 3) (ltb 3 n) ∷ []
+letterPairs v s n =
+    pairOf v s (ltb 0 n) ∷ pairOf v (s + 1) (ltb 1 n) ∷ pairOf v (s + 2) (ltb 2 n) ∷ pairOf v (s + 3) (ltb 3 n) ∷ []
 
 -- the number of the letter's loop (0) or step (1) of state s
 unfoldable pub pairScore : List (List ℤ) → ℕ → ℕ → ℕ

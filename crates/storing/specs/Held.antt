@@ -1,5 +1,5 @@
--- Candidates as tokens: the number of a candidate, what n slots hold where a list of candidates is kept in them, and what a move adds and takes.
--- Of these the contract of `search` cites `held`. Assumes nothing.
+-- Candidates as tokens: the number of a candidate, what n slots hold where a list of candidates is kept in them, and
+-- what a move adds and takes. Of these the contract of `search` cites `held`. Assumes nothing.
 use Prim.Native.Nat.{ℕ, zero, suc, _+_, _-_, _*_, _^_, _<_, _≤_}
 use mathlib.Core.List.{List, [], _∷_, map}
 use lib.IntN.{ℤ, natAbs}

@@ -1,5 +1,5 @@
--- Tokens in bytes, as numbers: what slots hold, and what is done to the list of a place's n tokens. What they mean as candidates is said in
--- Held.antt. No public contract cites these. Assumes nothing.
+-- Tokens in bytes, as numbers: what slots hold, and what is done to the list of a place's n tokens. What they mean as
+-- candidates is said in Held.antt. No public contract cites these. Assumes nothing.
 use Prim.Native.Nat.{ℕ, zero, suc, _+_, _-_, _*_, _^_, _<_, _≤_}
 use mathlib.Core.Path.{_≡_}
 use mathlib.Core.Logic.{_⊎_}

@@ -1,5 +1,5 @@
--- What the store holds at a node's turn, by node and state, and what the functions of a frame ask and leave. No public contract cites this.
--- Assumes nothing.
+-- What the store holds at a node's turn, by node and state, and what the functions of a frame ask and leave. No public
+-- contract cites this. Assumes nothing.
 use Prim.Native.Nat.{ℕ, suc, _+_, _-_, _*_, _≤_, _<_}
 use mathlib.Core.Path.{_≡_}
 use mathlib.Core.Bool.{Bool, true, false}
@@ -59,7 +59,8 @@ pub record Stored (v : List ℕ) (g : Graph) (n : ℕ) (P : Store) (b : List ℕ
   pub holds : {u s : ℕ} → Place v g u s → slots n (n * (firstPlace v g u + s)) b ≡ held n (P u s)
   pub kept : {u s : ℕ} → Place v g u s → bestTokens n (P u s) ≡ P u s
 
--- nodes up to m hold tokens of the frame before, within M; those above m hold tokens of this frame, within one move more
+-- nodes up to m hold tokens of the frame before, within M; those above m hold tokens of this frame, within one move
+-- more
 pub record Within (v : List ℕ) (g : Graph) (m M : ℕ) (P : Store) : Type 0 where
   pub old : {u s : ℕ} {h : Hit} → Place v g u s → u ≤ m → List·Memᴰ h (P u s) → Bound g M u h
   pub new : {u s : ℕ} {h : Hit} → Place v g u s → m < u → List·Memᴰ h (P u s) → Bound g (M + frameLimit) u h

@@ -1,5 +1,5 @@
--- `ends::best_words` meets its contract: after all frames, the ends that are left give what all give. The measure is the nodes left.
--- Assumes nothing.
+-- `ends::best_words` meets its contract: after all frames, the ends that are left give what all give. The measure is
+-- the nodes left. Assumes nothing.
 use mathlib.Core.Path.{refl}
 use native.Mathlib.Omega.{arith}
 use borrow.Author.Needs.{needs}

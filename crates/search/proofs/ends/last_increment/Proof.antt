@@ -1,5 +1,5 @@
--- `ends::last_increment` meets its contract: no successor that was passed is the sink, and their path counts are added up. The measure is what is
--- left of the list. Assumes nothing.
+-- `ends::last_increment` meets its contract: no successor that was passed is the sink, and their path counts are added
+-- up. The measure is what is left of the list. Assumes nothing.
 use Prim.Native.Nat.{_+_, _-_, _*_, _≤_, _<_}
 use mathlib.Core.Path.{_≡_, sym, _∙_}
 use native.Mathlib.Omega.{arith}
@@ -10,7 +10,8 @@ use Rattle.graph.specs.Graph.{graphOf, pathCount}
 use Rattle.checking.proofs.Arcs.{ArcNext, has-entry, list-there}
 use Rattle.storing.specs.Places.{arcsIn, pathsIn}
 use Rattle.search.proofs.Sums.{arc-fits, arc-less, counts-fit}
-use Rattle.search.proofs.Closing.{EndAhead, count-entry, ahead-start, ahead-arc, ahead-here, ahead-below, ahead-next, ahead-done}
+use Rattle.search.proofs.Closing.{EndAhead, count-entry, ahead-start, ahead-arc, ahead-here, ahead-below}
+use Rattle.search.proofs.Closing.{ahead-next, ahead-done}
 use Rattle.search.proofs.ends.last_increment.Statement.{statement}
 use Rattle.search.proofs.ends.last_increment.Tie as tie
 

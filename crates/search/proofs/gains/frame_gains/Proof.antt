@@ -1,5 +1,5 @@
--- `gains::frame_gains` meets its contract: before each turn the entries of the letters before this one are filled. The measure is the letters
--- left. Assumes nothing.
+-- `gains::frame_gains` meets its contract: before each turn the entries of the letters before this one are filled. The
+-- measure is the letters left. Assumes nothing.
 use Prim.Native.Nat.{_-_, _<_}
 use mathlib.Core.List.{[]}
 use native.Mathlib.Omega.{arith}

@@ -1,5 +1,5 @@
--- `gains::letter_gains` meets its contract: before each later state the entries of those before it are filled, and the offset is that of the
--- emission of the state before it. The measure is the states left. Assumes nothing.
+-- `gains::letter_gains` meets its contract: before each later state the entries of those before it are filled, and the
+-- offset is that of the emission of the state before it. The measure is the states left. Assumes nothing.
 use Prim.Native.Nat.{ℕ, suc, _+_, _-_, _*_, _≤_, _<_}
 use mathlib.Core.Path.{_≡_, refl, sym, ap, _∙_}
 use mathlib.Core.List.{List}

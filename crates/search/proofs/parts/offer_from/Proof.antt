@@ -1,5 +1,5 @@
--- `offer_from` lets the tokens of the earlier place enter one after another, each by lending the part of this place. The measure is what is left
--- of the tokens. Assumes nothing.
+-- `offer_from` lets the tokens of the earlier place enter one after another, each by lending the part of this place.
+-- The measure is what is left of the tokens. Assumes nothing.
 use Prim.Native.Nat.{_+_, _-_, _*_, _<_, _≤_}
 use mathlib.Core.Path.{_≡_, ap₂, _∙_}
 use native.Mathlib.Nat.{le-add-right}

@@ -1,5 +1,5 @@
--- `places::find_slots` meets its contract: before each node the entries of those below it are there. The measure is the nodes left.
--- Assumes nothing.
+-- `places::find_slots` meets its contract: before each node the entries of those below it are there. The measure is the
+-- nodes left. Assumes nothing.
 use Prim.Native.Nat.{_+_, _-_, _*_, _≤_, _<_}
 use mathlib.Core.Path.{_≡_}
 use native.Mathlib.Omega.{arith}

@@ -1,4 +1,5 @@
--- `clear_place` empties one slot after another: those before k are empty. The measure is what is left of them. Assumes nothing.
+-- `clear_place` empties one slot after another: those before k are empty. The measure is what is left of them. Assumes
+-- nothing.
 use Prim.Native.Nat.{_-_, _≤_}
 use mathlib.Core.Path.{_≡_, refl, ap₂, _∙_}
 use mathlib.Core.List.{[], _∷_, _++_}

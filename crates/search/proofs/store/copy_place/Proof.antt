@@ -1,5 +1,5 @@
--- `copy_place` copies one slot after another: those before k are copied, and no token follows. The first empty slot ends it, since those behind
--- are empty too. The measure is what is left of them. Assumes nothing.
+-- `copy_place` copies one slot after another: those before k are copied, and no token follows. The first empty slot
+-- ends it, since those behind are empty too. The measure is what is left of them. Assumes nothing.
 use Prim.Native.Nat.{ℕ, suc, _+_, _-_, _≤_}
 use mathlib.Core.Path.{_≡_, ap, sym, _∙_}
 use mathlib.Core.List.{_∷_, _++_}

@@ -1,4 +1,5 @@
--- `position` finds where a candidate enters: the slots before k are passed. The measure is what is left of them. Assumes nothing.
+-- `position` finds where a candidate enters: the slots before k are passed. The measure is what is left of them.
+-- Assumes nothing.
 use Prim.Native.Nat.{_+_, _-_, _<_, _≤_}
 use mathlib.Core.Path.{_≡_, ap, sym, _∙_}
 use native.Mathlib.Omega.{arith}

@@ -1,5 +1,5 @@
--- `push_down` carries the tokens down: before each slot, what is done and the push of what is carried make the whole push. The measure is what
--- is left of the slots. Assumes nothing.
+-- `push_down` carries the tokens down: before each slot, what is done and the push of what is carried make the whole
+-- push. The measure is what is left of the slots. Assumes nothing.
 use Prim.Native.Nat.{_+_, _-_, _≤_}
 use mathlib.Core.Path.{_≡_, refl, ap, sym, _∙_}
 use mathlib.Core.List.{_++_}

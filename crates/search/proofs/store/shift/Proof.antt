@@ -1,5 +1,5 @@
--- `shift` moves one token after another: before slot k, what is done and the move of what is left make the whole move. The measure is what is
--- left of the slots. Assumes nothing.
+-- `shift` moves one token after another: before slot k, what is done and the move of what is left make the whole move.
+-- The measure is what is left of the slots. Assumes nothing.
 use Prim.Native.Nat.{ℕ, _-_, _≤_}
 use mathlib.Core.Path.{_≡_, refl, sym, _∙_}
 use mathlib.Core.List.{_++_}

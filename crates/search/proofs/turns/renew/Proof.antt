@@ -1,5 +1,5 @@
--- `turns::renew` meets its contract: what is left to renew from the store so far is what was to be renewed. The measure is the states left.
--- Assumes nothing.
+-- `turns::renew` meets its contract: what is left to renew from the store so far is what was to be renewed. The measure
+-- is the states left. Assumes nothing.
 use Prim.Native.Nat.{suc, _-_}
 use mathlib.Core.Path.{_≡_}
 use native.Mathlib.Omega.{arith}
