@@ -23,7 +23,7 @@ mod reference;
 mod sketch;
 mod work;
 
-use std::process::ExitCode;
+use std::process::{Command, ExitCode, Stdio};
 use std::time::Instant;
 
 const SEED: u64 = 20_240_501;
@@ -41,20 +41,48 @@ const PARTS: &[(&str, Part)] = &[
 ];
 
 fn main() -> ExitCode {
-    let given = std::env::args().nth(1).and_then(|word| word.parse().ok());
-    let seed = given.unwrap_or(SEED);
-    println!("seed {seed}");
-    let mut faults = 0;
-    for (name, run) in PARTS {
-        println!("\n{name}");
-        let begun = Instant::now();
-        faults += run(seed);
-        println!("{name}: {:.1} s", begun.elapsed().as_secs_f64());
+    let mut words = std::env::args().skip(1);
+    let seed = words.next().and_then(|word| word.parse().ok()).unwrap_or(SEED);
+    match words.next() {
+        Some(part) => run_part(seed, &part),
+        None => run_all(seed),
     }
+}
+
+/// Runs each part as a process of its own, side by side, and prints what they say in the order of the list.
+fn run_all(seed: u64) -> ExitCode {
+    println!("seed {seed}");
+    let program = std::env::current_exe().expect("the program's own path");
+    let start = |(name, _): &(&str, Part)| {
+        let mut command = Command::new(&program);
+        command.args([&seed.to_string(), *name]).stdout(Stdio::piped());
+        command.spawn().expect("a process")
+    };
+    let running: Vec<_> = PARTS.iter().map(start).collect();
+    let mut failed = 0;
+    for part in running {
+        let ended = part.wait_with_output().expect("what the part said");
+        print!("{}", String::from_utf8_lossy(&ended.stdout));
+        failed += usize::from(!ended.status.success());
+    }
+    if failed == 0 {
+        ExitCode::SUCCESS
+    } else {
+        println!("FAILED: {failed} parts");
+        ExitCode::FAILURE
+    }
+}
+
+fn run_part(seed: u64, part: &str) -> ExitCode {
+    let (name, run) = PARTS.iter().find(|(name, _)| *name == part).expect("a part of this name");
+    println!("\n{name}");
+    let begun = Instant::now();
+    let faults = run(seed);
+    println!("{name}: {:.1} s", begun.elapsed().as_secs_f64());
     if faults == 0 {
         ExitCode::SUCCESS
     } else {
-        println!("FAILED: {faults} faults");
+        println!("{name}: FAILED: {faults} faults");
         ExitCode::FAILURE
     }
 }
