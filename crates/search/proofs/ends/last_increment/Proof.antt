@@ -9,7 +9,8 @@ use Rattle.lexicon.specs.Lexicon.{nodeCount, sinkOf}
 use Rattle.graph.specs.Graph.{graphOf, pathCount}
 use Rattle.checking.proofs.Arcs.{ArcNext, has-entry, list-there}
 use Rattle.storing.specs.Places.{arcsIn, pathsIn}
-use Rattle.search.proofs.Sums.{arc-fits, arc-less, counts-fit}
+use Rattle.search.proofs.Sums.{arc-fits, arc-less, list-fits, arcs-fit, count-fits, bytes-fit, end-fits}
+use Rattle.search.proofs.Sums.{row-fits, vertex-fits, counts-fit}
 use Rattle.search.proofs.Closing.{EndAhead, count-entry, ahead-start, ahead-arc, ahead-here, ahead-below}
 use Rattle.search.proofs.Closing.{ahead-next, ahead-done}
 use Rattle.search.proofs.ends.last_increment.Statement.{statement}
@@ -105,25 +106,25 @@ last-increment-spec =
     (tie.spec
     Inv-loop
     μ-loop
-    (λ c κs. search needs)
+    (λ c κs. tt)
     (λ c. search needs)
     (λ c. search needs)
-    (λ c. let h = low c in search needs)
-    (λ c. let h = low c in search needs)
+    (λ c. row-fits _ (low c))
+    low
     (λ c. search needs)
-    (λ c. let h = small c in search needs)
-    (λ c. let h = small c in search needs)
-    (λ c κs. search needs)
-    (λ c. let h = size c in search needs)
-    (λ c. let h = size c in search needs)
-    (λ c. let h = size c in search needs)
-    (λ c. let h = size c in search needs)
+    (λ c. list-fits _ _ (small c))
+    (λ c. arcs-fit _ _ (small c))
+    (λ c κs. tt)
+    (λ c. count-fits _ _ (size c))
+    (λ c. bytes-fit _ _ (size c))
+    (λ c. end-fits _ _ (size c))
+    (λ c. arcs-fit _ _ (size c))
     loop-holds
-    (λ c κs. search needs)
-    (λ c. let h = leads c in search needs)
+    (λ c κs. tt)
+    (λ c. vertex-fits _ (leads c))
     returns
-    (λ c. let h = leads (c .before) in search needs)
-    (λ c. let h = leads (c .before) in search needs)
+    (λ c. row-fits _ (leads (c .before)))
+    (λ c. leads (c .before))
     (λ c. search needs)
     add-increment
     (λ c. let l = c .before .before .before in arc-fits _ (next l .room) (size (l .before .before)))

@@ -6,6 +6,8 @@ use mathlib.Core.List.{List}
 use native.Mathlib.Omega.{arith}
 use native.Mathlib.Nat.{add-zero}
 use borrow.Author.Needs.{needs}
+use mir.Syntax.{w64}
+use mir.Val.{Fits}
 use lib.ListN.{length, getD, set}
 use Rattle.voice.specs.Voice.{states, firstState, symbolsAt, symbolCount, emission}
 use Rattle.voice.proofs.Letters.{states-range}
@@ -15,6 +17,8 @@ use Rattle.storing.specs.Gains.{loopGain, stepGain, entryNumber, AtLetter}
 use Rattle.storing.proofs.Gaining.{letter-small, letter-few, letter-byte, letter-there, first-small}
 use Rattle.storing.proofs.Filling.{Filling, fill-done, loop-near, step-near, first-gained, next-gained}
 use Rattle.storing.proofs.Filling.{emitted-is, emission-inside, emission-near, emission-next, row-letter}
+use Rattle.search.proofs.Sums.{few-fits, double-fits, letter-fits, states-fit, state-fits}
+use Rattle.search.proofs.Sums.{below-fits, within-fits, offset-fits}
 use Rattle.search.proofs.gains.letter_gains.Statement.{statement}
 use Rattle.search.proofs.gains.letter_gains.Tie as tie
 
@@ -63,6 +67,23 @@ there c = rw (c .pre .0 .1) (symbols-there _ (c .pre .0 .0 .well-formed))
 few : (c : tie.Start Inv-loop μ-loop) → getD (c .args .voice .now) (c .args .at) 0 ≤ 64
 unfolding symbolCount
 few c = rw (c .pre .0 .1) (symbols-few _ (c .pre .0 .0 .well-formed))
+
+long : (c : tie.Start Inv-loop μ-loop) → Fits w64 (length (c .args .voice .now))
+long c = search needs
+
+offset : (c : tie.Start Inv-loop μ-loop) →
+    let a = c .args in Fits w64 (a .at + 1 + 2 * (first-of c * getD (a .voice .now) (a .at) 0 + a .k))
+offset c = within-fits _ (inside c) (long c)
+
+parts : (c : tie.Start Inv-loop μ-loop) →
+    let a = c .args in
+    let p = first-of c * getD (a .voice .now) (a .at) 0 in
+    Fits w64 (a .at + 1) × Fits w64 p × Fits w64 (p + a .k) × Fits w64 (2 * (p + a .k))
+parts c = let a = c .args in offset-fits (a .at) (first-of c * getD (a .voice .now) (a .at) 0) (a .k) (offset c)
+
+-- the letter's index, and the byte of its states
+index : (c : tie.Start Inv-loop μ-loop) → l-of c ≤ 64
+index c = omega (arith, letter-small (letter c))
 
 abbrev begin : tie.After-emission-at Inv-loop μ-loop → tie.Start Inv-loop μ-loop
 begin c = c .before .before .before .before .before .before
@@ -173,28 +194,28 @@ letter-gains-spec =
     Inv-loop
     μ-loop
     (λ c. search needs)
-    (λ c. let h = letter-small (letter (c .before .before)) in search needs)
+    (λ c. few-fits _ (index (c .before .before)))
     (λ c. search needs)
-    (λ c. let h = first-small (letter (c .before .before .before)) in search needs)
-    (λ c. let h = there (c .before .before .before .before) in search needs)
-    (λ c. let h = few (c .before .before .before .before) in search needs)
-    (λ c. let h = letter-small (letter (c .before .before .before .before)) in search needs)
-    (λ c. let h = letter-small (letter (c .before .before .before .before)) in search needs)
-    (λ c. let h = letter-there (letter (c .before .before .before .before .before)) in search needs)
-    (λ c. let h = letter-byte (letter (c .before .before .before .before .before)) in search needs)
-    (λ c. let h = inside (c .before .before .before .before .before) in search needs)
-    (λ c. let h = inside (c .before .before .before .before .before) in search needs)
-    (λ c. let h = inside (c .before .before .before .before .before) in search needs)
-    (λ c. let h = inside (c .before .before .before .before .before) in search needs)
-    (λ c. let h = inside (c .before .before .before .before .before) in search needs)
+    (λ c. let s = c .before .before .before in below-fits _ (first-small (letter s)) (long s))
+    (λ c. there (c .before .before .before .before))
+    (λ c. few-fits _ (few (c .before .before .before .before)))
+    (λ c. double-fits _ (index (c .before .before .before .before)))
+    (λ c. letter-fits _ (index (c .before .before .before .before)))
+    (λ c. letter-there (letter (c .before .before .before .before .before)))
+    (λ c. states-fit _ (letter-byte (letter (c .before .before .before .before .before))))
+    (λ c. parts (c .before .before .before .before .before) .0)
+    (λ c. parts (c .before .before .before .before .before) .1)
+    (λ c. parts (c .before .before .before .before .before) .2)
+    (λ c. parts (c .before .before .before .before .before) .3)
+    (λ c. offset (c .before .before .before .before .before))
     (λ c κs. inside (c .before .before .before .before .before))
     first-gains-requires
     loop-holds
-    (λ c. let h = few (start c) in search needs)
-    (λ c. let h = next-inside c in search needs)
+    (λ c. double-fits _ (few (start c)))
+    (λ c. within-fits _ (next-inside c) (long (start c)))
     (λ c κs. next-inside c)
     state-gains-requires
-    (λ c. let h = small (c .before .before .before) in search needs)
+    (λ c. state-fits (small (c .before .before .before)))
     (λ c. let h = c .before .before .before .loop-test .taken in omega arith)
     loop-again
     returns)

@@ -12,7 +12,8 @@ use Rattle.storing.specs.Places.{arcsIn, pathsIn}
 use Rattle.storing.specs.Stored.{source, PassingOn}
 use Rattle.storing.proofs.PassingOn.{PassingLeft, list-of, passing-start, next-there, left-arc, successor-few}
 use Rattle.storing.proofs.PassingOn.{root-few, passing-next, passing-done}
-use Rattle.search.proofs.Sums.{arc-fits, arc-less}
+use Rattle.search.proofs.Sums.{arc-fits, arc-less, list-fits, arcs-fit, bytes-fit, end-fits}
+use Rattle.search.proofs.Sums.{row-fits, vertex-below, code-fits}
 use Rattle.search.proofs.turns.enter_nodes.Statement.{statement}
 use Rattle.search.proofs.turns.enter_nodes.Tie as tie
 
@@ -97,19 +98,19 @@ enter-nodes-spec =
     μ-loop
     (λ c. search needs)
     (λ c. search needs)
-    (λ c. let h = list-of (c .before .before .before .pre) .small in search needs)
-    (λ c. let h = list-of (c .before .before .before .pre) .small in search needs)
+    (λ c. list-fits _ _ (list-of (c .before .before .before .pre) .small))
+    (λ c. arcs-fit _ _ (list-of (c .before .before .before .pre) .small))
     (λ c κs. let h = list-of (c .before .before .before .pre) .there in omega (arith, h))
-    (λ c. let h = small c in search needs)
-    (λ c. let h = small c in search needs)
-    (λ c. let h = small c in search needs)
+    (λ c. bytes-fit _ _ (small c))
+    (λ c. end-fits _ _ (small c))
+    (λ c. arcs-fit _ _ (small c))
     loop-holds
     number-at-requires-2
     enter-node-requires
-    (λ c. let h = entry (c .before .before .before .before) in search needs)
-    (λ c. let h = entry (c .before .before .before .before) in search needs)
+    (λ c. row-fits _ (vertex-below (entry (c .before .before .before .before))))
+    (λ c. vertex-below (entry (c .before .before .before .before)))
     (λ c. search needs)
-    (λ c. let h = sum (c .before .before .before .before .before) in search needs)
+    (λ c. code-fits _ _ (sum (c .before .before .before .before .before)))
     add-at-2
     (λ c. arc-less (c .before .before .before .before .before .before .loop-test .taken))
     loop-again

@@ -15,7 +15,8 @@ use Rattle.storing.proofs.Carrying.{node-first}
 use Rattle.storing.proofs.PassingOn.{PassingLeft, source-room, vertex-few, list-of, passing-start, next-there}
 use Rattle.storing.proofs.PassingOn.{left-arc, successor-few, down-few, passing-next, passing-done}
 use Rattle.storing.proofs.PassingOn.{passing-nothing, passing-closed}
-use Rattle.search.proofs.Sums.{arc-fits, arc-less}
+use Rattle.search.proofs.Sums.{arc-fits, arc-less, list-fits, arcs-fit, bytes-fit, end-fits}
+use Rattle.search.proofs.Sums.{row-fits, vertex-below, paths-fit, down-fits}
 use Rattle.search.proofs.Told.{same-told, other-told}
 use Rattle.search.proofs.turns.pass_on.Statement.{statement}
 use Rattle.search.proofs.turns.pass_on.Tie as tie
@@ -51,6 +52,10 @@ read c = c .before .before .before .before .before .before
 
 abbrev at-list : tie.After-number-at Inv-loop μ-loop → tie.Start Inv-loop μ-loop
 at-list c = begin (read c)
+
+-- the vertex has a row of the table
+vertex : (s : tie.Start Inv-loop μ-loop) → s .args .node < 402
+vertex s = omega (arith, vertex-few (s .pre))
 
 loop-holds : tie.Need-loop-holds Inv-loop μ-loop
 loop-holds c = λ t. rw (c .number-at .ensures) (passing-start t)
@@ -123,29 +128,29 @@ pass-on-spec =
     Inv-loop
     μ-loop
     (λ c κs. source-room (c .before .before .before .pre) refl)
-    (λ c κs. search needs)
+    (λ c κs. tt)
     (λ c. search needs)
     returns
-    (λ c κs. search needs)
+    (λ c κs. tt)
     (λ c. search needs)
     returns-2
-    (λ c. let h = vertex-few (begin (c .before .before .before .before) .pre) in search needs)
-    (λ c. let h = vertex-few (begin (c .before .before .before .before) .pre) in search needs)
+    (λ c. row-fits _ (vertex (begin (c .before .before .before .before))))
+    (λ c. vertex (begin (c .before .before .before .before)))
     (λ c. search needs)
-    (λ c. let h = list-of (begin (c .before .before .before .before .before) .pre) .small in search needs)
-    (λ c. let h = list-of (begin (c .before .before .before .before .before) .pre) .small in search needs)
+    (λ c. list-fits _ _ (list-of (begin (c .before .before .before .before .before) .pre) .small))
+    (λ c. arcs-fit _ _ (list-of (begin (c .before .before .before .before .before) .pre) .small))
     (λ c κs. let h = list-of (begin (c .before .before .before .before .before) .pre) .there in omega (arith, h))
-    (λ c. let h = small c in search needs)
-    (λ c. let h = small c in search needs)
-    (λ c. let h = small c in search needs)
+    (λ c. bytes-fit _ _ (small c))
+    (λ c. end-fits _ _ (small c))
+    (λ c. arcs-fit _ _ (small c))
     loop-holds
     number-at-requires-2
     pass-over-requires
-    (λ c. let h = entry (c .before .before .before .before) in search needs)
-    (λ c. let h = entry (c .before .before .before .before) in search needs)
+    (λ c. row-fits _ (vertex-below (entry (c .before .before .before .before))))
+    (λ c. vertex-below (entry (c .before .before .before .before)))
     (λ c. search needs)
-    (λ c. let h = sum (c .before .before .before .before .before) in search needs)
-    (λ c. let h = sum (c .before .before .before .before .before) in search needs)
+    (λ c. paths-fit _ _ (sum (c .before .before .before .before .before)))
+    (λ c. down-fits _ _ (sum (c .before .before .before .before .before)))
     add-at-2
     (λ c. arc-less (c .before .before .before .before .before .before .loop-test .taken))
     loop-again

@@ -14,6 +14,7 @@ use Rattle.storing.proofs.Lending.{part-size, part-slots, part-room, part-back}
 use Rattle.storing.proofs.Renewing.{entry-few, slot-few, staying, lent-staying, lent-stayed, first-done}
 use Rattle.storing.proofs.Renewing.{loop-done, step-few, slot-covers, step-ready, step-done}
 use Rattle.search.proofs.Told.{same-told, other-told}
+use Rattle.search.proofs.Sums.{low-entry, high-entry, entry-fits, entry-bytes}
 use Rattle.search.proofs.turns.renew_state.Statement.{statement}
 use Rattle.search.proofs.turns.renew_state.Tie as tie
 
@@ -116,16 +117,16 @@ renew-state-spec =
     (λ c. search needs)
     (λ c. search needs)
     (λ c. let h = room (c .before) .room in search needs)
-    (λ c. let h = entry-few (c .before .before .pre) in search needs)
-    (λ c. let h = entry-few (c .before .before .pre) in search needs)
-    (λ c. let h = entry-few (c .before .before .pre) in search needs)
+    (λ c. entry-fits _ (low-entry (entry-few (c .before .before .pre))))
+    (λ c. entry-bytes _ (low-entry (entry-few (c .before .before .pre))))
+    (λ c. low-entry (entry-few (c .before .before .pre)))
     stay-requires
     (λ c. kept (c .before .before .before))
     returns
-    (λ c. let h = entry-few (start c .pre) in search needs)
-    (λ c. let h = entry-few (start c .pre) in search needs)
-    (λ c. let h = entry-few (start c .pre) in search needs)
-    (λ c κs. search needs)
+    (λ c. entry-fits _ (high-entry (entry-few (start c .pre))))
+    (λ c. entry-bytes _ (high-entry (entry-few (start c .pre))))
+    (λ c. high-entry (entry-few (start c .pre)))
+    (λ c κs. tt)
     (λ c. kept (c .before .before .before .before .before .before))
     returns-2
     (λ c. let e = c .before .before .before .before in let h = slot-covers (start e .pre) _ (later e) in search needs)

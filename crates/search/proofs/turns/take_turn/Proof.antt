@@ -4,6 +4,8 @@ use mathlib.Core.Path.{_∙_}
 use borrow.Author.Needs.{needs}
 use Rattle.storing.proofs.Turning.{node-there, node-few, letter-small, letter-there, count-range, first-few}
 use Rattle.storing.proofs.Turning.{at-end, renewing, passing-on, turn-done}
+use Rattle.search.proofs.Sums.{row-fits, node-below, next-below, after-fits, vertex-fits, number-fits}
+use Rattle.search.proofs.Sums.{few-fits, double-fits, letter-fits, letter-within, states-fit, gains-fit}
 use Rattle.search.proofs.turns.take_turn.Statement.{statement}
 use Rattle.search.proofs.turns.take_turn.Tie as tie
 
@@ -38,26 +40,26 @@ pub take-turn-spec : {M : Type 1} → statement M
 take-turn-spec =
     tie.close
     (tie.spec
-    (λ c. let h = node-few (c .before .before .before .pre) in search needs)
-    (λ c. let h = node-there (begin c .pre) in search needs)
-    (λ c. let h = letter-small (begin c .pre) in search needs)
-    (λ c. let h = letter-small (begin c .pre) in search needs)
-    (λ c. let h = letter-small (begin c .pre) in search needs)
-    (λ c. let h = letter-there (begin (c .before) .pre) in search needs)
-    (λ c. let h = count-range (begin (c .before) .pre) .1 in search needs)
-    (λ c. let h = node-few (begin (c .before) .pre) in search needs)
-    (λ c. let h = node-few (begin (c .before) .pre) in search needs)
+    (λ c. after-fits _ (node-few (c .before .before .before .pre)))
+    (λ c. node-there (begin c .pre))
+    (λ c. few-fits _ (letter-within (letter-small (begin c .pre))))
+    (λ c. double-fits _ (letter-within (letter-small (begin c .pre))))
+    (λ c. letter-fits _ (letter-within (letter-small (begin c .pre))))
+    (λ c. letter-there (begin (c .before) .pre))
+    (λ c. states-fit _ (count-range (begin (c .before) .pre) .1))
+    (λ c. row-fits _ (node-below (node-few (begin (c .before) .pre))))
+    (λ c. node-below (node-few (begin (c .before) .pre)))
     (λ c. search needs)
     (λ c. let h = first-few (at-first c .pre) in search needs)
-    (λ c. let h = node-few (at-first c .pre) in search needs)
-    (λ c. let h = node-few (at-first c .pre) in search needs)
-    (λ c. let h = node-few (at-first c .pre) in search needs)
+    (λ c. vertex-fits _ (next-below (node-few (at-first c .pre))))
+    (λ c. row-fits _ (next-below (node-few (at-first c .pre))))
+    (λ c. next-below (node-few (at-first c .pre)))
     (λ c. search needs)
-    (λ c. let h = at-end (at-last c .pre) .small in search needs)
-    (λ c. let h = at-end (at-last c .pre) .long in search needs)
+    (λ c. number-fits _ (at-end (at-last c .pre) .small))
+    (λ c. at-end (at-last c .pre) .long)
     pass-on-requires
-    (λ c. let h = letter-small (start (c .before .before .before) .pre) in search needs)
-    (λ c. let h = letter-small (start (c .before .before .before) .pre) in search needs)
+    (λ c. gains-fit _ (letter-small (start (c .before .before .before) .pre)))
+    (λ c. letter-small (start (c .before .before .before) .pre))
     renew-node-requires
     (λ c. let r = c .before .before in r .renew-node .kept .0
     ∙ r .before .before .before .before .before .pass-on .kept .1 .1 .1 .1 .1 .1 .0)
