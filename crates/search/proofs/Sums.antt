@@ -1,11 +1,29 @@
 -- Sums that fit and measures that fall, each from few facts. `omega` reads all that is at hand, which is much in a
 -- proof about a long function, so such a proof cites these. Assumes nothing.
 use Prim.Native.Nat.{ℕ, _+_, _-_, _*_, _<_, _≤_}
+use mathlib.Core.Bool.{true}
 use mathlib.Core.Path.{_≡_}
+use native.Mathlib.Nat.{mul-le-mul}
 use native.Mathlib.Omega.{arith}
+use lib.Dec.{leb}
+use borrow.Author.Tests.{leb-true}
 use mir.Syntax.{w32, w64}
 use mir.Val.{Fits}
 use Rattle.storing.specs.Held.{lift}
+
+-- a number up to or below a small one, whatever the small one is: that it is one is computed
+pub most-fits : (x : ℕ) {k : ℕ} → x ≤ k → leb k 65536 ≡ true → Fits w64 x
+most-fits x {k} h e = omega (arith, leb-true k 65536 e)
+
+pub less-fits : (x : ℕ) {k : ℕ} → x < k → leb k 65536 ≡ true → Fits w64 x
+less-fits x {k} h e = omega (arith, leb-true k 65536 e)
+
+-- where entry x of a table begins whose entries have c bytes each
+pub bytes-before : (x c : ℕ) {k : ℕ} → x < k → leb (k * c) 65536 ≡ true → Fits w64 (x * c)
+bytes-before x c {k} h e =
+    let a : x ≤ k = omega arith in
+    let b : c ≤ c = omega arith in
+    omega (arith, mul-le-mul {n₂ = k} {m₂ = c} a b, leb-true (k * c) 65536 e)
 
 pub next-fits : {i n : ℕ} → i < n → Fits w64 n → Fits w64 (i + 1)
 next-fits h f = omega arith
@@ -36,10 +54,7 @@ bytes-fit at k h = omega arith
 pub end-fits : (at k : ℕ) → at + 2 + 2 * k ≤ 9204 → Fits w64 (at + 2 + 2 * k)
 end-fits at k h = omega arith
 
--- a vertex's row in the table, by its bytes
-pub row-fits : (u : ℕ) → u < 402 → Fits w64 (u * 16)
-row-fits u h = omega arith
-
+-- a vertex, and the one after it
 pub vertex-below : {u : ℕ} → u ≤ 401 → u < 402
 vertex-below h = omega arith
 
@@ -51,9 +66,6 @@ next-below h = omega arith
 
 pub after-fits : (u : ℕ) → u ≤ 400 → Fits w64 (1 + u)
 after-fits u h = omega arith
-
-pub vertex-fits : (u : ℕ) → u < 402 → Fits w64 u
-vertex-fits u h = omega arith
 
 -- what a token has been moved down by, with the paths before the next arc
 pub paths-fit : (down p : ℕ) → down + p < lift + 4294967296 → Fits w64 p
@@ -70,22 +82,12 @@ counts-fit total e h f = omega arith
 pub code-fits : (increment p : ℕ) → increment + p < 4294967296 → Fits w32 (increment + p)
 code-fits increment p h = omega arith
 
--- a slot's number
-pub number-fits : (k : ℕ) → k ≤ 8008 → Fits w64 k
-number-fits k h = omega arith
-
 -- a row of gains has eight entries: four of loops, then that of the first state, which is entered, and three of steps
 pub low-entry : {s : ℕ} → s < 4 → 0 + s < 8
 low-entry h = omega arith
 
 pub high-entry : {s : ℕ} → s < 4 → 4 + s < 8
 high-entry h = omega arith
-
-pub entry-fits : (i : ℕ) → i < 8 → Fits w64 i
-entry-fits i h = omega arith
-
-pub entry-bytes : (i : ℕ) → i < 8 → Fits w64 (i * 4)
-entry-bytes i h = omega arith
 
 -- a place's bytes end within 64 bits, and so do its first slot, its first byte and its length
 pub slot-fits : (k n : ℕ) → Fits w64 (8 * k + 8 * n) → Fits w64 k
@@ -109,10 +111,7 @@ last-there k h f = omega arith
 pub less-by : {a b c d : ℕ} → a ≡ c → b ≡ d → a < b → c < d
 less-by e f h = omega arith
 
--- letters, symbols and states are few
-pub few-fits : (x : ℕ) → x ≤ 64 → Fits w64 x
-few-fits x h = omega arith
-
+-- twice a letter or a symbol, and the byte of a letter's states
 pub double-fits : (x : ℕ) → x ≤ 64 → Fits w64 (2 * x)
 double-fits x h = omega arith
 
@@ -121,12 +120,6 @@ letter-fits l h = omega arith
 
 pub letter-within : {l : ℕ} → l < 64 → l ≤ 64
 letter-within h = omega arith
-
-pub gains-fit : (l : ℕ) → l < 64 → Fits w64 (l * 32)
-gains-fit l h = omega arith
-
-pub states-fit : (s : ℕ) → s ≤ 4 → Fits w64 s
-states-fit s h = omega arith
 
 pub state-fits : {s : ℕ} → s < 4 → Fits w64 (s + 1)
 state-fits h = omega arith

@@ -1,7 +1,7 @@
 -- `ends::last_increment` meets its contract: no successor that was passed is the sink, and their path counts are added
 -- up. The measure is what is left of the list. Assumes nothing.
 use Prim.Native.Nat.{_+_, _-_, _*_, _≤_, _<_}
-use mathlib.Core.Path.{_≡_, sym, _∙_}
+use mathlib.Core.Path.{_≡_, refl, sym, _∙_}
 use native.Mathlib.Omega.{arith}
 use borrow.Author.Needs.{needs}
 use Rattle.endian.specs.Bytes.{u16}
@@ -10,7 +10,7 @@ use Rattle.graph.specs.Graph.{graphOf, pathCount}
 use Rattle.checking.proofs.Arcs.{ArcNext, has-entry, list-there}
 use Rattle.storing.specs.Places.{arcsIn, pathsIn}
 use Rattle.search.proofs.Sums.{arc-fits, arc-less, list-fits, arcs-fit, count-fits, bytes-fit, end-fits}
-use Rattle.search.proofs.Sums.{row-fits, vertex-fits, counts-fit}
+use Rattle.search.proofs.Sums.{less-fits, bytes-before, counts-fit}
 use Rattle.search.proofs.Closing.{EndAhead, count-entry, ahead-start, ahead-arc, ahead-here, ahead-below}
 use Rattle.search.proofs.Closing.{ahead-next, ahead-done}
 use Rattle.search.proofs.ends.last_increment.Statement.{statement}
@@ -109,7 +109,7 @@ last-increment-spec =
     (λ c κs. tt)
     (λ c. search needs)
     (λ c. search needs)
-    (λ c. row-fits _ (low c))
+    (λ c. bytes-before _ 16 (low c) refl)
     low
     (λ c. search needs)
     (λ c. list-fits _ _ (small c))
@@ -121,9 +121,9 @@ last-increment-spec =
     (λ c. arcs-fit _ _ (size c))
     loop-holds
     (λ c κs. tt)
-    (λ c. vertex-fits _ (leads c))
+    (λ c. less-fits _ (leads c) refl)
     returns
-    (λ c. row-fits _ (leads (c .before)))
+    (λ c. bytes-before _ 16 (leads (c .before)) refl)
     (λ c. leads (c .before))
     (λ c. search needs)
     add-increment

@@ -17,7 +17,7 @@ use Rattle.storing.specs.Gains.{loopGain, stepGain, entryNumber, AtLetter}
 use Rattle.storing.proofs.Gaining.{letter-small, letter-few, letter-byte, letter-there, first-small}
 use Rattle.storing.proofs.Filling.{Filling, fill-done, loop-near, step-near, first-gained, next-gained}
 use Rattle.storing.proofs.Filling.{emitted-is, emission-inside, emission-near, emission-next, row-letter}
-use Rattle.search.proofs.Sums.{few-fits, double-fits, letter-fits, states-fit, state-fits}
+use Rattle.search.proofs.Sums.{most-fits, double-fits, letter-fits, state-fits}
 use Rattle.search.proofs.Sums.{below-fits, within-fits, offset-fits}
 use Rattle.search.proofs.gains.letter_gains.Statement.{statement}
 use Rattle.search.proofs.gains.letter_gains.Tie as tie
@@ -81,7 +81,7 @@ parts : (c : tie.Start Inv-loop μ-loop) →
     Fits w64 (a .at + 1) × Fits w64 p × Fits w64 (p + a .k) × Fits w64 (2 * (p + a .k))
 parts c = let a = c .args in offset-fits (a .at) (first-of c * getD (a .voice .now) (a .at) 0) (a .k) (offset c)
 
--- the letter's index, and the byte of its states
+-- the letter's index
 index : (c : tie.Start Inv-loop μ-loop) → l-of c ≤ 64
 index c = omega (arith, letter-small (letter c))
 
@@ -194,15 +194,15 @@ letter-gains-spec =
     Inv-loop
     μ-loop
     (λ c. search needs)
-    (λ c. few-fits _ (index (c .before .before)))
+    (λ c. most-fits _ (index (c .before .before)) refl)
     (λ c. search needs)
     (λ c. let s = c .before .before .before in below-fits _ (first-small (letter s)) (long s))
     (λ c. there (c .before .before .before .before))
-    (λ c. few-fits _ (few (c .before .before .before .before)))
+    (λ c. most-fits _ (few (c .before .before .before .before)) refl)
     (λ c. double-fits _ (index (c .before .before .before .before)))
     (λ c. letter-fits _ (index (c .before .before .before .before)))
     (λ c. letter-there (letter (c .before .before .before .before .before)))
-    (λ c. states-fit _ (letter-byte (letter (c .before .before .before .before .before))))
+    (λ c. most-fits _ (letter-byte (letter (c .before .before .before .before .before))) refl)
     (λ c. parts (c .before .before .before .before .before) .0)
     (λ c. parts (c .before .before .before .before .before) .1)
     (λ c. parts (c .before .before .before .before .before) .2)

@@ -1,4 +1,4 @@
--- `scores::letter_pairs` meets its contract: the pairs follow each other, four bytes each. Assumes nothing.
+-- `letters::letter_pairs` meets its contract: the pairs follow each other, four bytes each. Assumes nothing.
 use Prim.Native.Nat.{ℕ, _+_, _*_, _<_, _≤_}
 use native.Mathlib.Omega.{arith}
 use borrow.Author.Needs.{needs}

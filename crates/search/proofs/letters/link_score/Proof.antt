@@ -1,4 +1,4 @@
--- `scores::link_score` meets its contract: the link score stands just before the section Symbols. Assumes nothing.
+-- `letters::link_score` meets its contract: the link score stands just before the section Symbols. Assumes nothing.
 use Prim.Native.Nat.{_+_, _-_}
 use mathlib.Core.Path.{_≡_, ap, _∙_}
 use native.Mathlib.Omega.{arith}

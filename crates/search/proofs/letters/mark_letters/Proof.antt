@@ -1,4 +1,4 @@
--- `scores::mark_letters` meets its contract: before each turn the letters of the nodes up to this number have a mark.
+-- `letters::mark_letters` meets its contract: before each turn the letters of the nodes up to this number have a mark.
 -- The measure is the nodes left. Assumes nothing.
 use Prim.Native.Nat.{_+_, _-_, _≤_, _<_}
 use mathlib.Core.Path.{_≡_}

@@ -1,4 +1,4 @@
--- `scores::pair_at` meets its contract. Assumes nothing.
+-- `letters::pair_at` meets its contract. Assumes nothing.
 use Prim.Native.Nat.{_+_, _≤_}
 use mathlib.Core.Path.{ap₂, _∙_}
 use mathlib.Core.List.{[], _∷_}

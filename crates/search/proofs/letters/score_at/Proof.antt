@@ -1,4 +1,4 @@
--- `scores::score_at` meets its contract. Assumes nothing.
+-- `letters::score_at` meets its contract. Assumes nothing.
 use mathlib.Core.Path.{_∙_}
 use borrow.Author.Needs.{needs}
 use Rattle.endian.specs.Bytes.{u16, i16}

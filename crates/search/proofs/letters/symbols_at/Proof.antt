@@ -1,4 +1,4 @@
--- `scores::symbols_at` meets its contract: the offset is the sum of what stands before it. Assumes nothing.
+-- `letters::symbols_at` meets its contract: the offset is the sum of what stands before it. Assumes nothing.
 use Prim.Native.Nat.{_<_, _≤_}
 use native.Mathlib.Omega.{arith}
 use borrow.Author.Needs.{needs}

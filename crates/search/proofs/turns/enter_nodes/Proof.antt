@@ -13,7 +13,7 @@ use Rattle.storing.specs.Stored.{source, PassingOn}
 use Rattle.storing.proofs.PassingOn.{PassingLeft, list-of, passing-start, next-there, left-arc, successor-few}
 use Rattle.storing.proofs.PassingOn.{root-few, passing-next, passing-done}
 use Rattle.search.proofs.Sums.{arc-fits, arc-less, list-fits, arcs-fit, bytes-fit, end-fits}
-use Rattle.search.proofs.Sums.{row-fits, vertex-below, code-fits}
+use Rattle.search.proofs.Sums.{bytes-before, vertex-below, code-fits}
 use Rattle.search.proofs.turns.enter_nodes.Statement.{statement}
 use Rattle.search.proofs.turns.enter_nodes.Tie as tie
 
@@ -107,7 +107,7 @@ enter-nodes-spec =
     loop-holds
     number-at-requires-2
     enter-node-requires
-    (λ c. row-fits _ (vertex-below (entry (c .before .before .before .before))))
+    (λ c. bytes-before _ 16 (vertex-below (entry (c .before .before .before .before))) refl)
     (λ c. vertex-below (entry (c .before .before .before .before)))
     (λ c. search needs)
     (λ c. code-fits _ _ (sum (c .before .before .before .before .before)))

@@ -16,7 +16,7 @@ use Rattle.storing.proofs.PassingOn.{PassingLeft, source-room, vertex-few, list
 use Rattle.storing.proofs.PassingOn.{left-arc, successor-few, down-few, passing-next, passing-done}
 use Rattle.storing.proofs.PassingOn.{passing-nothing, passing-closed}
 use Rattle.search.proofs.Sums.{arc-fits, arc-less, list-fits, arcs-fit, bytes-fit, end-fits}
-use Rattle.search.proofs.Sums.{row-fits, vertex-below, paths-fit, down-fits}
+use Rattle.search.proofs.Sums.{bytes-before, vertex-below, paths-fit, down-fits}
 use Rattle.search.proofs.Told.{same-told, other-told}
 use Rattle.search.proofs.turns.pass_on.Statement.{statement}
 use Rattle.search.proofs.turns.pass_on.Tie as tie
@@ -134,7 +134,7 @@ pass-on-spec =
     (λ c κs. tt)
     (λ c. search needs)
     returns-2
-    (λ c. row-fits _ (vertex (begin (c .before .before .before .before))))
+    (λ c. bytes-before _ 16 (vertex (begin (c .before .before .before .before))) refl)
     (λ c. vertex (begin (c .before .before .before .before)))
     (λ c. search needs)
     (λ c. list-fits _ _ (list-of (begin (c .before .before .before .before .before) .pre) .small))
@@ -146,7 +146,7 @@ pass-on-spec =
     loop-holds
     number-at-requires-2
     pass-over-requires
-    (λ c. row-fits _ (vertex-below (entry (c .before .before .before .before))))
+    (λ c. bytes-before _ 16 (vertex-below (entry (c .before .before .before .before))) refl)
     (λ c. vertex-below (entry (c .before .before .before .before)))
     (λ c. search needs)
     (λ c. paths-fit _ _ (sum (c .before .before .before .before .before)))

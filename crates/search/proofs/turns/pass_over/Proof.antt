@@ -12,7 +12,7 @@ use Rattle.storing.proofs.Carrying.{node-ready, node-done}
 use Rattle.storing.proofs.PassingOn.{ArcRead, arc-few, arc-read, arc-gain, arc-slot, arc-offering, arc-apart}
 use Rattle.storing.proofs.PassingOn.{arc-source, arc-done, arc-node, arc-closed}
 use Rattle.search.proofs.Told.{same-told, other-told}
-use Rattle.search.proofs.Sums.{row-fits, vertex-below}
+use Rattle.search.proofs.Sums.{bytes-before, vertex-below}
 use Rattle.search.proofs.turns.pass_over.Statement.{statement}
 use Rattle.search.proofs.turns.pass_over.Tie as tie
 
@@ -75,7 +75,7 @@ pub pass-over-spec : {M : Type 1} → statement M
 pass-over-spec =
     tie.close
     (tie.spec
-    (λ c. row-fits _ (vertex-below (arc-few (c .before .pre .0))))
+    (λ c. bytes-before _ 16 (vertex-below (arc-few (c .before .pre .0))) refl)
     (λ c. vertex-below (arc-few (c .before .pre .0)))
     (λ c. search needs)
     (λ c κs. tt)
@@ -84,7 +84,7 @@ pass-over-spec =
     (λ c. let h = small (c .before .before) in search needs)
     (λ c. let h = small (c .before .before) in search needs)
     (λ c. let h = small (c .before .before) in search needs)
-    (λ c. row-fits _ (vertex-below (arc-few (s (c .before .before) .pre .0))))
+    (λ c. bytes-before _ 16 (vertex-below (arc-few (s (c .before .before) .pre .0))) refl)
     (λ c. vertex-below (arc-few (s (c .before .before) .pre .0)))
     (λ c. search needs)
     (λ c. let e = c .before .before .before in let h = arc-slot (s e .pre .0) (node e) in search needs)

@@ -1,6 +1,6 @@
 -- `turns::renew_state` meets its contract: by the loop, and by the step where there is one. Assumes nothing.
 use Prim.Native.Nat.{ℕ, suc, _+_, _*_, _-_, _≤_}
-use mathlib.Core.Path.{_≡_, ap, _∙_}
+use mathlib.Core.Path.{_≡_, refl, ap, _∙_}
 use mathlib.Core.List.{List}
 use native.Mathlib.Omega.{arith}
 use borrow.Author.Needs.{needs}
@@ -14,7 +14,7 @@ use Rattle.storing.proofs.Lending.{part-size, part-slots, part-room, part-back}
 use Rattle.storing.proofs.Renewing.{entry-few, slot-few, staying, lent-staying, lent-stayed, first-done}
 use Rattle.storing.proofs.Renewing.{loop-done, step-few, slot-covers, step-ready, step-done}
 use Rattle.search.proofs.Told.{same-told, other-told}
-use Rattle.search.proofs.Sums.{low-entry, high-entry, entry-fits, entry-bytes}
+use Rattle.search.proofs.Sums.{less-fits, bytes-before, low-entry, high-entry}
 use Rattle.search.proofs.turns.renew_state.Statement.{statement}
 use Rattle.search.proofs.turns.renew_state.Tie as tie
 
@@ -117,14 +117,14 @@ renew-state-spec =
     (λ c. search needs)
     (λ c. search needs)
     (λ c. let h = room (c .before) .room in search needs)
-    (λ c. entry-fits _ (low-entry (entry-few (c .before .before .pre))))
-    (λ c. entry-bytes _ (low-entry (entry-few (c .before .before .pre))))
+    (λ c. less-fits _ (low-entry (entry-few (c .before .before .pre))) refl)
+    (λ c. bytes-before _ 4 (low-entry (entry-few (c .before .before .pre))) refl)
     (λ c. low-entry (entry-few (c .before .before .pre)))
     stay-requires
     (λ c. kept (c .before .before .before))
     returns
-    (λ c. entry-fits _ (high-entry (entry-few (start c .pre))))
-    (λ c. entry-bytes _ (high-entry (entry-few (start c .pre))))
+    (λ c. less-fits _ (high-entry (entry-few (start c .pre))) refl)
+    (λ c. bytes-before _ 4 (high-entry (entry-few (start c .pre))) refl)
     (λ c. high-entry (entry-few (start c .pre)))
     (λ c κs. tt)
     (λ c. kept (c .before .before .before .before .before .before))

@@ -1,11 +1,11 @@
 -- `turns::take_turn` meets its contract: the node's last tokens are passed on, and then its states are renewed. Assumes
 -- nothing.
-use mathlib.Core.Path.{_∙_}
+use mathlib.Core.Path.{refl, _∙_}
 use borrow.Author.Needs.{needs}
 use Rattle.storing.proofs.Turning.{node-there, node-few, letter-small, letter-there, count-range, first-few}
 use Rattle.storing.proofs.Turning.{at-end, renewing, passing-on, turn-done}
-use Rattle.search.proofs.Sums.{row-fits, node-below, next-below, after-fits, vertex-fits, number-fits}
-use Rattle.search.proofs.Sums.{few-fits, double-fits, letter-fits, letter-within, states-fit, gains-fit}
+use Rattle.search.proofs.Sums.{most-fits, less-fits, bytes-before, node-below, next-below, after-fits}
+use Rattle.search.proofs.Sums.{double-fits, letter-fits, letter-within}
 use Rattle.search.proofs.turns.take_turn.Statement.{statement}
 use Rattle.search.proofs.turns.take_turn.Tie as tie
 
@@ -42,23 +42,23 @@ take-turn-spec =
     (tie.spec
     (λ c. after-fits _ (node-few (c .before .before .before .pre)))
     (λ c. node-there (begin c .pre))
-    (λ c. few-fits _ (letter-within (letter-small (begin c .pre))))
+    (λ c. less-fits _ (letter-small (begin c .pre)) refl)
     (λ c. double-fits _ (letter-within (letter-small (begin c .pre))))
     (λ c. letter-fits _ (letter-within (letter-small (begin c .pre))))
     (λ c. letter-there (begin (c .before) .pre))
-    (λ c. states-fit _ (count-range (begin (c .before) .pre) .1))
-    (λ c. row-fits _ (node-below (node-few (begin (c .before) .pre))))
+    (λ c. most-fits _ (count-range (begin (c .before) .pre) .1) refl)
+    (λ c. bytes-before _ 16 (node-below (node-few (begin (c .before) .pre))) refl)
     (λ c. node-below (node-few (begin (c .before) .pre)))
     (λ c. search needs)
     (λ c. let h = first-few (at-first c .pre) in search needs)
-    (λ c. vertex-fits _ (next-below (node-few (at-first c .pre))))
-    (λ c. row-fits _ (next-below (node-few (at-first c .pre))))
+    (λ c. less-fits _ (next-below (node-few (at-first c .pre))) refl)
+    (λ c. bytes-before _ 16 (next-below (node-few (at-first c .pre))) refl)
     (λ c. next-below (node-few (at-first c .pre)))
     (λ c. search needs)
-    (λ c. number-fits _ (at-end (at-last c .pre) .small))
+    (λ c. most-fits _ (at-end (at-last c .pre) .small) refl)
     (λ c. at-end (at-last c .pre) .long)
     pass-on-requires
-    (λ c. gains-fit _ (letter-small (start (c .before .before .before) .pre)))
+    (λ c. bytes-before _ 32 (letter-small (start (c .before .before .before) .pre)) refl)
     (λ c. letter-small (start (c .before .before .before) .pre))
     renew-node-requires
     (λ c. let r = c .before .before in r .renew-node .kept .0
