@@ -41,7 +41,7 @@ const PAUSE: Duration = Duration::from_millis(4);
 struct Program {
     path: String,
     random: Random,
-    /// How often each first line was due: a refusal's, or any number of hits.
+    /// How often each first line was due: a refusal's, or any number of hits; and each way of an exact half.
     seen: BTreeMap<String, usize>,
     runs: usize,
     differences: usize,
@@ -61,6 +61,7 @@ fn main() -> ExitCode {
     };
     program.examples();
     program.numbers_printed();
+    program.means_printed();
     program.every_length();
     program.in_pieces();
     program.numbers_of_frames();
@@ -71,7 +72,7 @@ fn main() -> ExitCode {
     program.large();
     let missing = program.missing();
     for (first, times) in &program.seen {
-        println!("{first:<12}{times:>6}");
+        println!("{first:<24}{times:>6}");
     }
     println!(
         "hits: {} runs, {} differences, {:.1} s",
@@ -112,17 +113,32 @@ fn take_image<'a>(input: &mut &'a [u8]) -> &'a [u8] {
     image
 }
 
-/// What has to be printed.
-fn report(mut input: &[u8]) -> String {
+/// What has to be printed, and the scores in it with the number of frames.
+struct Report {
+    text: String,
+    scores: Vec<i64>,
+    frames: i64,
+}
+
+fn report(mut input: &[u8]) -> Report {
     let voice = take_image(&mut input);
     let lexicon = take_image(&mut input);
     let n = input.first().copied().unwrap_or(0);
     let frames = input.get(1..).unwrap_or(&[]);
     let images = Images::of(voice, lexicon);
     let list = word_by_word::decode(&images, frames, n.into(), 64_000, 64);
+    let frames = frames.len() as i64;
     match (images, list) {
-        (Ok(images), Ok(list)) => lines(voice, &images, &list, frames.len() as i64),
-        (_, list) => format!("refused {}\n", list.err().unwrap_or(0)),
+        (Ok(images), Ok(list)) => Report {
+            text: lines(voice, &images, &list, frames),
+            scores: list.hits.iter().map(|hit| hit.score).collect(),
+            frames,
+        },
+        (_, list) => Report {
+            text: format!("refused {}\n", list.err().unwrap_or(0)),
+            scores: vec![],
+            frames,
+        },
     }
 }
 
@@ -139,17 +155,42 @@ fn lines(voice: &[u8], images: &Images, list: &List, frames: i64) -> String {
         // after L each letter has its print byte and its number of states
         let print_byte = |letter: &u8| char::from(voice[1 + 2 * usize::from(*letter)]);
         let word: String = letters.map(print_byte).collect();
-        let mean = hit.score.div_euclid(frames);
+        let mean = nearest_mean(hit.score, frames);
         lines += &format!("{} {} {mean} {word}\n", hit.code, hit.score);
     }
     lines
+}
+
+/// The whole number below score over frames or the one above: the nearer, and of two as near the even one.
+fn nearest_mean(score: i64, frames: i64) -> i64 {
+    let below = score.div_euclid(frames);
+    let distance = |mean: &i64| ((score - frames * mean).abs(), mean % 2 != 0);
+    let nearest = [below, below + 1].into_iter().min_by_key(distance);
+    nearest.unwrap_or(below)
+}
+
+/// Where the mean of a score goes that lies between two whole numbers at an exact half.
+fn half_of(score: i64, frames: i64) -> Option<&'static str> {
+    let half = 2 * score % frames == 0 && score % frames != 0;
+    let up = nearest_mean(score, frames) * frames > score;
+    half.then_some(match (score < 0, up) {
+        (true, false) => "half below zero, down",
+        (true, true) => "half below zero, up",
+        (false, false) => "half above zero, down",
+        (false, true) => "half above zero, up",
+    })
 }
 
 impl Program {
     /// One run, held to the report.
     fn run(&mut self, input: &[u8]) {
         let expected = report(input);
-        self.run_for(&expected, input);
+        for score in &expected.scores {
+            if let Some(half) = half_of(*score, expected.frames) {
+                *self.seen.entry(half.to_string()).or_default() += 1;
+            }
+        }
+        self.run_for(&expected.text, input);
     }
 
     fn run_for(&mut self, expected: &str, input: &[u8]) {
@@ -163,7 +204,7 @@ impl Program {
     fn run_in_pieces(&mut self, pieces: &[&[u8]]) {
         let input = pieces.concat();
         self.runs += 1;
-        self.hold(&report(&input), &input, pieces);
+        self.hold(&report(&input).text, &input, pieces);
     }
 
     fn hold(&mut self, expected: &str, input: &[u8], pieces: &[&[u8]]) {
@@ -216,7 +257,7 @@ impl Program {
         turned.successors[0] = vec![2, 1];
         let (lexicon, turned) = (lexicon.bytes(), turned.bytes());
         let three = "hits 3 words 5 bits 3\n0 -2 -1 an\n1 -12 -6 at\n3 -12 -6 in\n";
-        let five = "hits 5 words 5 bits 3\n0 -2 -1 an\n1 -12 -6 at\n3 -12 -6 in\n2 -21 -11 i\n4 -22 -11 it\n";
+        let five = "hits 5 words 5 bits 3\n0 -2 -1 an\n1 -12 -6 at\n3 -12 -6 in\n2 -21 -10 i\n4 -22 -11 it\n";
         let other = "hits 3 words 5 bits 3\n3 -2 -1 an\n1 -12 -6 in\n4 -12 -6 at\n";
         for (lexicon, n, frames, printed) in [
             (&lexicon, 3, &[0, 2][..], three),
@@ -253,7 +294,7 @@ impl Program {
         let small = small_lexicon().bytes();
         for (score, line) in [
             (32_767, "0 65501233 65501 an"),
-            (-32_767, "0 -65501233 -65502 an"),
+            (-32_767, "0 -65501233 -65501 an"),
         ] {
             scores::set_all(&mut voice, score, score);
             let input = input(&voice.bytes(), &small, 1, &[3; 1_000]);
@@ -274,6 +315,51 @@ impl Program {
         self.run_for(&printed, &input(&voice, &long, 1, &[3; 32]));
         let printed = "hits 0 words 1 bits 0\n";
         self.run_for(printed, &input(&voice, &long, 8, &[3; 31]));
+    }
+
+    /// Means of a word of one state, whose score is its loops: at exact halves, beside them, and over one frame.
+    fn means_printed(&mut self) {
+        let mut voice = draw::voice_of(&mut self.random, &[1], 1);
+        voice.letters[0].print_byte = b'a';
+        let lexicon = Lexicon {
+            letters: vec![0],
+            successors: vec![vec![1], vec![2]],
+        };
+        for (frames, emission, stay, line) in [
+            (2, 0, -5, "-5 -2"),
+            (2, 0, -7, "-7 -4"),
+            (2, 0, 5, "5 2"),
+            (2, 0, -1, "-1 0"),
+            (2, 0, 1, "1 0"),
+            (2, 0, -3, "-3 -2"),
+            (2, 0, 3, "3 2"),
+            (2, 0, 7, "7 4"),
+            (2, 0, -8, "-8 -4"),
+            (1, 32_767, 0, "32767 32767"),
+            (1, -32_767, 0, "-32767 -32767"),
+            (1, -1, 0, "-1 -1"),
+            (3, 0, 1, "2 1"),
+            (3, 0, 2, "4 1"),
+            (3, 0, -1, "-2 -1"),
+            (3, 0, -2, "-4 -1"),
+            (4, 0, 1, "3 1"),
+            (4, 0, -1, "-3 -1"),
+            (4, 0, 2, "6 2"),
+            (4, 0, -2, "-6 -2"),
+            (4, 0, 6, "18 4"),
+            (4, 0, -6, "-18 -4"),
+            (1_000, 0, 500, "499500 500"),
+            (1_000, 0, -500, "-499500 -500"),
+            (1_000, 0, 1_500, "1498500 1498"),
+            (1_000, 0, -1_500, "-1498500 -1498"),
+            (1_000, 0, 501, "500499 500"),
+            (1_000, 0, -499, "-498501 -499"),
+        ] {
+            scores::set_all(&mut voice, stay, emission);
+            let input = input(&voice.bytes(), &lexicon.bytes(), 1, &vec![0; frames]);
+            self.run_for(&format!("hits 1 words 1 bits 0\n0 {line} a\n"), &input);
+            self.run(&input);
+        }
     }
 
     /// What is read at once ends anywhere.
@@ -450,7 +536,15 @@ impl Program {
             [2, 3, 4, 5, 6, 7, 8, 9, 10, 11, 12].map(|number| format!("refused {number}"));
         let lists = [0, 1, 2, 3, 8].map(|hits| format!("hits {hits}"));
         let never = |due: &&String| !self.seen.contains_key(*due);
-        let never: Vec<&String> = refusals.iter().chain(&lists).filter(never).collect();
+        let halves = [
+            "below zero, down",
+            "below zero, up",
+            "above zero, down",
+            "above zero, up",
+        ]
+        .map(|way| format!("half {way}"));
+        let due = refusals.iter().chain(&lists).chain(&halves);
+        let never: Vec<&String> = due.filter(never).collect();
         for due in &never {
             println!("never seen: {due}");
         }

@@ -16,7 +16,7 @@ starred = record {
   P-one = refl;
   P-stays = refl;
   widths = refl;
-  mean-down = refl;
+  mean-half = refl;
   same-letters = refl;
   branches = refl;
 }

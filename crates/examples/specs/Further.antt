@@ -7,7 +7,8 @@ use mathlib.Core.List.{List, [], _∷_, _++_, map, flatMap}
 use lib.IntN.{ℤ, pos}
 use lib.ListN.{length, take, drop, replicate}
 use Rattle.endian.specs.Lists.{from}
-use Rattle.call.specs.Table.{value, signedAnswer}
+use Rattle.call.specs.declared.Refusal.the-variants.{Frames}
+use Rattle.call.specs.Table.{value, refused, signedAnswer}
 use Rattle.call.specs.Buffers.{cleared}
 use Rattle.voice.specs.Fields.{verdict, wrongLength, outOfRange}
 use Rattle.lexicon.specs.Lexicon.{successorPart, arcFields}
@@ -20,7 +21,7 @@ use Rattle.packing.specs.Packing.{packAnswer, packOut, unpackAnswer, unpackOut}
 use Rattle.codes.specs.Lookup.{wordToCodeAnswer, codeToWordAnswer, listAnswer, listOut}
 use Rattle.ranking.specs.Hits.{Hit, hit}
 use Rattle.decoder.specs.Decoding.{hits, decodeAnswer, decodeOut}
-use Rattle.report.specs.Report.{countIn, report}
+use Rattle.report.specs.Report.{countIn, hitLine, report}
 use Rattle.report.specs.Arcs.{arcsText}
 use Rattle.examples.specs.SmallLexicon.{voice, P, it, work, minus, thirdRow}
 
@@ -196,9 +197,30 @@ pub record CodeExamples : Type 0 where
   -- width and mean
   pub width-limits : map (λ W. signedAnswer (widthAnswer W)) (0 ∷ 2 ∷ 3 ∷ 16 ∷ 17 ∷ 1048576 ∷ 1048577 ∷ [])
       ≡ minus 9 ∷ pos 1 ∷ pos 2 ∷ pos 4 ∷ pos 5 ∷ pos 20 ∷ minus 9 ∷ []
-  pub means : meanAnswer (pos 7) 2 ∷ meanAnswer (minus 8) 2 ∷ meanAnswer (minus 1000) 1000 ∷ meanAnswer (minus 1001) 1000 ∷ []
-      ≡ value (pos 3) ∷ value (minus 4) ∷ value (minus 1) ∷ value (minus 2) ∷ []
-  pub mean-limits : map (λ T. meanAnswer (pos 0) T) (1 ∷ 1000 ∷ []) ≡ value (pos 0) ∷ value (pos 0) ∷ []
+  -- of request 1: -5, -7, 5 and -1 over 2
+  pub mean-halves : map (λ z. meanAnswer z 2) (minus 5 ∷ minus 7 ∷ pos 5 ∷ minus 1 ∷ [])
+      ≡ map value (minus 2 ∷ minus 4 ∷ pos 2 ∷ pos 0 ∷ [])
+  -- halves and what stands beside them, over 4, 3 and 1,000 frames
+  pub means-of-4 : map (λ z. meanAnswer z 4) (pos 1 ∷ pos 2 ∷ pos 3 ∷ pos 5 ∷ pos 6 ∷ pos 7 ∷ pos 10 ∷ [])
+      ≡ map value (pos 0 ∷ pos 0 ∷ pos 1 ∷ pos 1 ∷ pos 2 ∷ pos 2 ∷ pos 2 ∷ [])
+  pub means-of-4-below : map (λ z. meanAnswer z 4) (minus 1 ∷ minus 2 ∷ minus 3 ∷ minus 5 ∷ minus 6 ∷ minus 7 ∷ minus 10 ∷ [])
+      ≡ map value (pos 0 ∷ pos 0 ∷ minus 1 ∷ minus 1 ∷ minus 2 ∷ minus 2 ∷ minus 2 ∷ [])
+  pub means-of-3 : map (λ z. meanAnswer z 3) (pos 1 ∷ pos 2 ∷ pos 4 ∷ minus 1 ∷ minus 2 ∷ minus 4 ∷ minus 5 ∷ [])
+      ≡ map value (pos 0 ∷ pos 1 ∷ pos 1 ∷ pos 0 ∷ minus 1 ∷ minus 1 ∷ minus 2 ∷ [])
+  pub means-of-1000 : map (λ z. meanAnswer z 1000) (pos 499 ∷ pos 500 ∷ pos 501 ∷ pos 1500 ∷ minus 500 ∷ minus 501 ∷ minus 1500 ∷ [])
+      ≡ map value (pos 0 ∷ pos 0 ∷ pos 1 ∷ pos 2 ∷ pos 0 ∷ minus 1 ∷ minus 2 ∷ [])
+  -- the highest and the lowest i32, over 1, 2 and 1,000
+  pub means-highest : map (meanAnswer (pos 2147483647)) (1 ∷ 2 ∷ 1000 ∷ [])
+      ≡ map value (pos 2147483647 ∷ pos 1073741824 ∷ pos 2147484 ∷ [])
+  pub means-lowest : map (meanAnswer (minus 2147483648)) (1 ∷ 2 ∷ 1000 ∷ [])
+      ≡ map value (minus 2147483648 ∷ minus 1073741824 ∷ minus 2147484 ∷ [])
+  pub mean-limits : map (meanAnswer (minus 1)) (0 ∷ 1 ∷ 1000 ∷ 1001 ∷ [])
+      ≡ refused Frames ∷ value (minus 1) ∷ value (pos 0) ∷ refused Frames ∷ []
+  -- in a line: '2 -21 -10 i', and '2 -1 0 i' without a minus sign before 0
+  pub mean-lines : map (λ z. hitLine voice (graphOf P) 2 (hit z 2)) (minus 21 ∷ minus 1 ∷ [])
+      ≡ (50 ∷ 32 ∷ 45 ∷ 50 ∷ 49 ∷ 32 ∷ 45 ∷ 49 ∷ 48 ∷ 32 ∷ 105 ∷ 10 ∷ [])
+      ∷ (50 ∷ 32 ∷ 45 ∷ 49 ∷ 32 ∷ 48 ∷ 32 ∷ 105 ∷ 10 ∷ [])
+      ∷ []
   -- packing: highest bit first, zero bits at the end, a byte that holds parts of two codes
   pub packs : packOut 5 (1 ∷ 2 ∷ 3 ∷ []) (7 ∷ 7 ∷ 7 ∷ []) ∷ packOut 1048576 (1048575 ∷ 1 ∷ []) (replicate 5 7) ∷ packOut 512 (1 ∷ 256 ∷ []) (7 ∷ 7 ∷ 7 ∷ []) ∷ [] ≡ (41 ∷ 128 ∷ 7 ∷ []) ∷ (255 ∷ 255 ∷ 240 ∷ 0 ∷ 1 ∷ []) ∷ (0 ∷ 192 ∷ 0 ∷ []) ∷ []
   pub pack-answers : map (λ codes. signedAnswer (packAnswer 5 codes (7 ∷ 7 ∷ []))) ([] ∷ replicate 8 0 ∷ replicate 9 9 ∷ (0 ∷ 5 ∷ []) ∷ (0 ∷ 4 ∷ 0 ∷ []) ∷ []) ≡ minus 12 ∷ minus 16 ∷ minus 12 ∷ minus 15 ∷ pos 2 ∷ []

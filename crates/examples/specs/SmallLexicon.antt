@@ -162,7 +162,7 @@ pub record Starred : Type 0 where
   -- b: W 1 gives 0, 6 and 8 give 3, 9 gives 4
   pub widths : map widthAnswer (1 ∷ 6 ∷ 8 ∷ 9 ∷ []) ≡ value 0 ∷ value 3 ∷ value 3 ∷ value 4 ∷ []
   -- mean of -7 over 2 is -4
-  pub mean-down : meanAnswer (minus 7) 2 ≡ value (minus 4)
+  pub mean-half : meanAnswer (minus 7) 2 ≡ value (minus 4)
   -- two nodes a, both root to sink: 10; a to n and another a to t: accepted
   pub same-letters : signedAnswer (checkAnswer voice twoAs work) ≡ minus 10
   pub branches : checkAnswer voice twoBranches work ≡ value 2

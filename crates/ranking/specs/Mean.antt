@@ -1,20 +1,31 @@
--- The mean of a score over T frames (document 01, State paths and hits): the score divided by T, rounded down. Assumes nothing.
-use Prim.Native.Nat.{ℕ, _/_}
+-- The mean of a score over T frames (document 02, request 1): the nearest whole number to the score divided by T, an
+-- exact half to the even neighbour. Assumes nothing.
+use Prim.Native.Nat.{ℕ, _+_, _*_, _/_, _%_}
+use mathlib.Core.Bool.{cond}
 use mathlib.Core.List.{[], _∷_}
-use lib.IntN.{ℤ, pos, negsuc}
+use lib.Dec.{ltb}
+use lib.IntN.{ℤ, pos, negsuc, negℤ, natAbs}
 use Rattle.call.specs.declared.Refusal.the-variants.{Frames}
 use Rattle.call.specs.Table.{Answer, value, refused, on, unless}
 use Rattle.call.specs.Limits.{badFrameCount}
 use Rattle.ranking.specs.declared.MeanScore.{MeanScore}
 use Rattle.ranking.specs.declared.MeanScore.the-variants.{Value, Refused}
 
--- z divided by T, rounded down: -1 - n over T is -1 - n / T
-unfoldable pub floorQuotient : ℤ → ℕ → ℤ
-floorQuotient (pos n) T = pos (n / T)
-floorQuotient (negsuc n) T = negsuc (n / T)
+-- the nearest whole number to n over T, by what n / T leaves: n / T below a half, the next above it, and at exactly a half
+-- the even one of the two
+unfoldable pub nearest : ℕ → ℕ → ℕ
+nearest n T =
+    cond (ltb (2 * (n % T)) T) (n / T)
+    (cond (ltb T (2 * (n % T))) (n / T + 1)
+    (n / T + n / T % 2))
+
+-- n with the sign of z
+unfoldable pub withSign : ℤ → ℕ → ℤ
+withSign (pos k) n = pos n
+withSign (negsuc k) n = negℤ (pos n)
 
 unfoldable pub mean : ℤ → ℕ → ℤ
-mean score T = floorQuotient score T
+mean score T = withSign score (nearest (natAbs score) T)
 
 -- the mean as a call
 unfoldable pub meanAnswer : ℤ → ℕ → Answer ℤ

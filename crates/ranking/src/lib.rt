@@ -1,6 +1,8 @@
 // Hits: the mean of a score. Their order and their bytes are defined in specs/.
 ghost use mathlib.Core.Path.{_≡_};
-ghost use Rattle.ranking.specs.Mean.{meanOf, meanAnswer};
+ghost use Prim.Native.Nat.{_≤_};
+ghost use lib.IntN.{natAbs};
+ghost use Rattle.ranking.specs.Mean.{withSign, meanOf, meanAnswer};
 use call::Refusal;
 
 // A mean may be negative, so that it has an answer of its own.
@@ -12,7 +14,28 @@ pub enum MeanScore {
 // The most frames that are decoded.
 pub const FRAMES: u32 = 1000;
 
-// The score divided by the number of frames, rounded down; 11 for 0 frames and above 1,000.
+// The number without its sign, which for the lowest is no i32.
+fn magnitude(x: i32) -> u32
+    ensures { λ r. ⌜ r ≡ natAbs x ⌝ }
+{
+    if x < 0 {
+        return ((-1 - x) as u32) + 1;
+    }
+    x as u32
+}
+
+// A number with the sign of x. It goes through 64 bits, since it may be as large as the lowest i32.
+fn with_sign(x: i32, number: u32) -> i32
+    requires { ⌜ number ≤ natAbs x ⌝ }
+    ensures { λ r. ⌜ r ≡ withSign x number ⌝ }
+{
+    if x < 0 {
+        return (0 - (number as i64)) as i32;
+    }
+    number as i32
+}
+
+// The nearest whole number to score over frames, an exact half to the even neighbour; 11 for 0 frames and above 1,000.
 pub fn mean(score: i32, frames: u32) -> MeanScore
     ensures { λ r. ⌜ meanOf r ≡ meanAnswer score frames ⌝ }
 {
@@ -22,11 +45,12 @@ pub fn mean(score: i32, frames: u32) -> MeanScore
     if FRAMES < frames {
         return MeanScore::Refused(Refusal::Frames);
     }
-    if score < 0 {
-        // -1 - x turns rounding up into rounding down
-        let above = (-1 - score) as u32;
-        let quotient = (above / frames) as i32;
-        return MeanScore::Value(-1 - quotient);
+    let number = magnitude(score);
+    let quotient = number / frames;
+    // at an exact half an odd quotient gives way to the next number, which is even
+    let odd = quotient % 2;
+    if frames < 2 * (number % frames) + odd {
+        return MeanScore::Value(with_sign(score, quotient + 1));
     }
-    MeanScore::Value(((score as u32) / frames) as i32)
+    MeanScore::Value(with_sign(score, quotient))
 }

@@ -4,7 +4,6 @@ use Prim.Native.Nat.{ℕ, zero, suc, _+_, _-_, _*_, _^_, _≤_, _<_}
 use mathlib.Core.Path.{_≡_, refl, ap, _∙_}
 use mathlib.Core.Bool.{Bool, true, false}
 use mathlib.Core.List.{List, [], _∷_, _++_, flatMap, append-nil, List·Memᴰ, List·Memᴰ·head as here, List·Memᴰ·tail as there}
-use native.Mathlib.Nat.{div-le-self}
 use native.Mathlib.Numerals.{add-one}
 use native.Mathlib.Omega.{arith}
 use borrow.Author.Tests.{ltb-true, ltb-false}
@@ -21,8 +20,9 @@ use Rattle.graph.specs.Graph.{graphOf, wordCount}
 use Rattle.graph.specs.Conditions.{manyWords}
 use Rattle.graph.specs.Checking.{Accepted}
 use Rattle.graph.proofs.Accepted.{accepted}
-use Rattle.ranking.specs.Mean.{mean, floorQuotient}
+use Rattle.ranking.specs.Mean.{mean}
 use Rattle.ranking.specs.Hits.{Hit, hit, hitsAt, hitsRead}
+use Rattle.ranking.proofs.Rounding.{mean-range}
 use Rattle.codes.proofs.Words.{word-short}
 use Rattle.report.specs.Lines.{AcceptedArguments, HoldsHits}
 use Rattle.report.specs.Text.{TextPut}
@@ -82,11 +82,6 @@ lines-more line b i =
     rw (add-one i, hits-more b 0 i, e) (flatMap-append line (hitsAt b 0 i) (oneAt b (8 * i) ∷ []) ∙ rw (append-nil (line (oneAt b (8 * i)))))
 
 -- ---- how long a line is
-
-mean-range : (z : ℤ) (T : ℕ) → mag (mean z T) ≤ mag z
-unfolding mean floorQuotient
-mean-range (pos n) T = div-le-self n T
-mean-range (negsuc n) T = div-le-self n T
 
 pub mean-again : (z score : ℤ) (T : ℕ) → SFits w32 score → z ≡ mean score T → toZ w32 (ofZ w32 z) ≡ mean score T
 mean-again z score T f e = rw e (toZ-ofZ (record { sfits = omega (arith, mean-range score T, f .sfits) }))

@@ -3,14 +3,14 @@
 -- the output and its `..Work` in the work space. v is a voice model, x a lexicon, g its graph; out and work are what
 -- output and work space held before the call. That a call reads and writes nothing else, and keeps the length of what
 -- it is lent, is no statement here: the checker proves it of every function. Assumes nothing.
-use Prim.Native.Nat.{ℕ, _*_, _-_, _^_, _≤_, _<_}
+use Prim.Native.Nat.{ℕ, _*_, _%_, _-_, _^_, _≤_, _<_}
 use mathlib.Core.Path.{_≡_, refl}
 use mathlib.Core.Bool.{true}
 use mathlib.Core.Logic.{_↔_}
 use mathlib.Core.List.{List, [], _∷_, _++_, map, flatMap, List·Memᴰ}
 use mathlib.Core.Option.{some}
-use lib.IntN.{ℤ, pos, natAbs, _+ℤ_, _*ℤ_}
-use lib.Signed.{_≤ℤ_, _<ℤ_}
+use lib.IntN.{ℤ, pos, natAbs, _-ℤ_, _*ℤ_}
+use lib.Signed.{_≤ℤ_}
 use lib.ListN.{length, take, getD}
 use Rattle.endian.specs.Lists.{from, isNone}
 use Rattle.endian.specs.Bytes.{Bytes, u32Bytes}
@@ -39,7 +39,7 @@ use Rattle.codes.proofs.Theorems.{code-theorems, word-comes-back, code-comes-ba
 use Rattle.ranking.specs.Hits.{Hit, hitBytes, hitsRead}
 use Rattle.ranking.specs.Mean.{mean, meanAnswer}
 use Rattle.ranking.proofs.Hits.{length-read}
-use Rattle.ranking.proofs.Rounding.{mean-rounds-down}
+use Rattle.ranking.proofs.Nearest.{mean-is-nearest}
 use Rattle.decoder.specs.StatePaths.{Attains, scoreLimit}
 use Rattle.decoder.specs.TrueScore.{trueScore}
 use Rattle.decoder.specs.Decoding.{AcceptedFrames, hits, decodeRows, decodeAnswer, decodeOut, decodeWork}
@@ -206,10 +206,18 @@ unpacking-undoes b = packing-theorems b .pack-unpack
 pack-calls-undo : CodesComeBack × BytesComeBack
 pack-calls-undo = (codes-come-back, bytes-come-back)
 
--- T × mean ≤ score < T × (mean + 1).
-mean-down : (score : ℤ) (T : ℕ) → 1 ≤ T
-    → ((pos T *ℤ mean score T) ≤ℤ score) × (score <ℤ (pos T *ℤ (mean score T +ℤ pos 1)))
-mean-down score T h = let m = mean-rounds-down score T h in (m .at-most, m .next-above)
+-- m is the mean exactly if twice the distance between score and T × m is at most T, and m is even where it equals T.
+mean-nearest : (score : ℤ) (T : ℕ) → 1 ≤ T → (m : ℤ)
+    → (m ≡ mean score T)
+        ↔ ((2 * natAbs (score -ℤ (pos T *ℤ m)) ≤ T) × (2 * natAbs (score -ℤ (pos T *ℤ m)) ≡ T → natAbs m % 2 ≡ 0))
+mean-nearest score T h m = let e = mean-is-nearest .exactly score T h m in
+    ((λ is. let n = e .0 is in (n .within-half, n .even-at-half)),
+     (λ n. e .1 (record { within-half = n .0; even-at-half = n .1 })))
+
+-- No whole number is nearer.
+mean-none-nearer : (score : ℤ) (T : ℕ) → 1 ≤ T → (m : ℤ)
+    → natAbs (score -ℤ (pos T *ℤ mean score T)) ≤ natAbs (score -ℤ (pos T *ℤ m))
+mean-none-nearer = mean-is-nearest .none-nearer
 
 -- The program hits needs no more than the first 132,076 bytes of its input.
 cut-input : (input : List ℕ) → ((i : ℕ) → getD input i 0 < 256) → report (take 132076 input) ≡ report input

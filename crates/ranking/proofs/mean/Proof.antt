@@ -1,19 +1,20 @@
--- `ranking::mean` meets its contract: for a negative score, -1 - (-1 - score) / T is the quotient rounded down. Assumes nothing.
-use mathlib.Core.Path.{_≡_, sym, ap, _∙_}
+-- `ranking::mean` meets its contract: a comparison chooses between the quotient and the next number, of the score without
+-- its sign. Assumes nothing.
+use mathlib.Core.Path.{_≡_, ap, _∙_}
 use Prim.Native.Nat.{ℕ, _/_, _^_, _<_}
-use native.Mathlib.Nat.{div-le-self}
+use native.Mathlib.Nat.{mod-lt, div-le-self}
 use native.Mathlib.Omega.{arith}
-use lib.IntN.{pos, negsuc, _-ℤ_}
+use lib.IntN.{ℤ}
 use lib.Signed.{mag}
 use mir.Syntax.{w32}
 use mir.Val.{toZ, ofZ}
 use mir.Facts.{toZ-ofZ}
 use borrow.Author.Needs.{needs}
 use Rattle.call.specs.Table.{value, unless}
-use Rattle.endian.proofs.Ranges.{inside, below, above}
-use Rattle.endian.proofs.Signed.{toZ-low, flip-fits, flip-is, is-neg, is-pos, negated-fits, from-zero-fits, negated-is}
 use Rattle.call.specs.Limits.{badFrameCount}
-use Rattle.ranking.specs.Mean.{meanAnswer, mean, floorQuotient}
+use Rattle.endian.proofs.Ranges.{inside, below, above}
+use Rattle.ranking.specs.Mean.{mean, meanAnswer}
+use Rattle.ranking.proofs.Rounding.{rounds-up, mean-next, mean-quotient, nearest-range}
 use Rattle.ranking.proofs.mean.Statement.{statement}
 use Rattle.ranking.proofs.mean.Tie as tie
 
@@ -25,65 +26,74 @@ returns-2 : tie.Need-returns-2
 unfolding meanAnswer badFrameCount unless
 returns-2 c = rw (above 1 1000 (c .before .before .args .frames) (omega arith))
 
--- a quotient is below 2^31 where the dividend is
-small : (n T : ℕ) → n < 2 ^ 31 → n / T < 2 ^ 31
-small n T h = omega (arith, div-le-self n T)
-
-sub-above : tie.Need-sub-above
-sub-above c = let s = c .before .before .before in flip-fits w32 (s .args .score) (s .fits .score) (c .if3 .taken)
-
--- the score with its sign taken off
-flipped : (c : tie.Then3) → toZ w32 (ofZ w32 (negsuc 0 -ℤ toZ w32 (ofZ w32 (c .before .before .before .args .score)))) ≡ pos (mag (c .before .before .before .args .score))
-flipped c = let s = c .before .before .before in flip-is w32 (s .args .score) (s .fits .score) (c .if3 .taken)
-
-cast-above : tie.Need-cast-above
-cast-above c = let s = c .before .before .before in rw (flipped c) (tt, record { fits = omega (arith, s .fits .score .sfits) })
-
-cast-quotient : tie.Need-cast-quotient
-cast-quotient c =
-    let s = c .before .before .before in
-    rw (flipped c) (record { sfits = small (mag (s .args .score)) (s .args .frames) (s .fits .score .sfits) })
-
-sub-t8 : tie.Need-sub-t8
-sub-t8 c =
-    let s = c .before .before .before in
-    let n = mag (s .args .score) in
-    let h = small n (s .args .frames) (s .fits .score .sfits) in
-    rw (flipped c) (search (negated-fits w32 (n / s .args .frames) h, from-zero-fits w32 (n / s .args .frames) h))
+-- the number that is answered, of the score as it is handed on
+answered : (T : ℕ) {r z score : ℤ} → mag r < 2 ^ 31 → r ≡ mean z T → z ≡ score → toZ w32 (ofZ w32 r) ≡ mean score T
+answered T h e f = toZ-ofZ (record { sfits = h }) ∙ e ∙ ap (λ (z : ℤ). mean z T) f
 
 returns-3 : tie.Need-returns-3
-unfolding meanAnswer badFrameCount unless mean floorQuotient
+unfolding meanAnswer badFrameCount unless
 returns-3 c =
-    let s = c .before .before .before in
-    let n = mag (s .args .score) in
-    rw (inside 1 1000 (s .args .frames) (omega arith) (omega arith), flipped c)
+    let s = c .before .before .before .before .before in
+    let k = c .before .before .magnitude in
+    rw (inside 1 1000 (s .args .frames) (omega arith) (omega arith))
     (ap value
-    (negated-is w32 (n / s .args .frames) (small n (s .args .frames) (s .fits .score .sfits))
-    ∙ ap (λ z. floorQuotient z (s .args .frames)) (sym (is-neg w32 (s .args .score) (s .fits .score) (c .if3 .taken)))))
-
--- a score that is not negative
-positive : (c : tie.Else3) → toZ w32 (ofZ w32 (c .before .before .before .args .score)) ≡ pos (mag (c .before .before .before .args .score))
-positive c = let s = c .before .before .before in toZ-ofZ (s .fits .score) ∙ is-pos w32 (s .args .score) (s .fits .score) (c .if3 .left)
-
-cast-t10 : tie.Need-cast-t10
-cast-t10 c = let s = c .before .before .before in rw (positive c) (tt, record { fits = omega (arith, s .fits .score .sfits) })
-
-cast-t12 : tie.Need-cast-t12
-cast-t12 c =
-    let s = c .before .before .before in
-    rw (positive c) (record { sfits = small (mag (s .args .score)) _ (s .fits .score .sfits) })
+    (answered (s .args .frames) (c .with-sign .ok)
+    (c .with-sign .ensures ∙ mean-next _ _ (k .result) (k .ensures) (c .before .if3 .taken))
+    (toZ-ofZ (s .fits .score))))
 
 returns-4 : tie.Need-returns-4
-unfolding meanAnswer badFrameCount unless mean floorQuotient
+unfolding meanAnswer badFrameCount unless
 returns-4 c =
-    let s = c .before .before .before in
-    let n = mag (s .args .score) in
-    rw (inside 1 1000 (s .args .frames) (omega arith) (omega arith), positive c)
+    let s = c .before .before .before .before .before in
+    let k = c .before .before .magnitude in
+    rw (inside 1 1000 (s .args .frames) (omega arith) (omega arith))
     (ap value
-    (toZ-low w32 (n / s .args .frames) (small n (s .args .frames) (s .fits .score .sfits))
-    ∙ ap (λ z. floorQuotient z (s .args .frames)) (sym (is-pos w32 (s .args .score) (s .fits .score) (c .if3 .left)))))
+    (answered (s .args .frames) (c .with-sign2 .ok)
+    (c .with-sign2 .ensures ∙ mean-quotient _ _ (k .result) (k .ensures) (c .before .if3 .left))
+    (toZ-ofZ (s .fits .score))))
+
+-- what the quotient leaves is below 1,000, and it is odd by 0 or 1
+mul-if3 : tie.Need-mul-if3
+mul-if3 c =
+    let T = c .before .before .before .args .frames in
+    record { fits = omega (arith, mod-lt (c .magnitude .result) {m = T} (omega arith)) }
+
+add-if3 : tie.Need-add-if3
+add-if3 c =
+    let T = c .before .before .before .args .frames in
+    let k = c .magnitude .result in
+    record { fits = omega (arith, mod-lt k {m = T} (omega arith), mod-lt (k / T) {m = 2} (omega arith)) }
+
+with-sign-requires : tie.Need-with-sign-requires
+with-sign-requires c κs =
+    let T = c .before .before .before .before .args .frames in
+    let m = c .before .magnitude in
+    omega (arith, m .ensures, rounds-up (m .result) T (c .if3 .taken), nearest-range (m .result) T)
+
+add-with-sign : tie.Need-add-with-sign
+add-with-sign c =
+    let T = c .before .before .before .before .args .frames in
+    let m = c .before .magnitude in
+    record { fits = omega (arith, m .ok, rounds-up (m .result) T (c .if3 .taken), nearest-range (m .result) T) }
+
+with-sign-requires-2 : tie.Need-with-sign-requires-2
+with-sign-requires-2 c κs =
+    let m = c .before .magnitude in
+    omega (arith, m .ensures, div-le-self (m .result) (c .before .before .before .before .args .frames))
 
 pub mean-spec : {M : Type 1} → statement M
 mean-spec =
     tie.close
-    (tie.spec returns returns-2 sub-above cast-above (search needs) cast-quotient sub-t8 returns-3 cast-t10 (search needs) cast-t12 returns-4)
+    (tie.spec
+    returns
+    returns-2
+    (λ c κs. search needs)
+    (λ c. search needs)
+    (λ c. search needs)
+    mul-if3
+    add-if3
+    add-with-sign
+    with-sign-requires
+    returns-3
+    with-sign-requires-2
+    returns-4)

@@ -1,0 +1,41 @@
+-- `ranking::magnitude` meets its contract: a negative number's size is 1 more than that of -1 - x, which is no overflow.
+-- Assumes nothing.
+use mathlib.Core.Path.{_≡_, sym, ap, _∙_}
+use native.Mathlib.Numerals.{add-one}
+use native.Mathlib.Omega.{arith}
+use lib.IntN.{pos, negsuc, natAbs, _-ℤ_}
+use lib.Signed.{mag}
+use mir.Syntax.{w32}
+use mir.Val.{toZ, ofZ}
+use mir.Facts.{toZ-ofZ}
+use borrow.Author.Needs.{needs}
+use Rattle.endian.proofs.Signed.{flip-fits, flip-is, is-neg, is-pos}
+use Rattle.ranking.proofs.magnitude.Statement.{statement}
+use Rattle.ranking.proofs.magnitude.Tie as tie
+
+sub-result : tie.Need-sub-result
+sub-result c = flip-fits w32 (c .before .args .x) (c .before .fits .x) (c .if1 .taken)
+
+flipped : (c : tie.Then1) → toZ w32 (ofZ w32 (negsuc 0 -ℤ toZ w32 (ofZ w32 (c .before .args .x)))) ≡ pos (mag (c .before .args .x))
+flipped c = flip-is w32 (c .before .args .x) (c .before .fits .x) (c .if1 .taken)
+
+cast-result : tie.Need-cast-result
+cast-result c = rw (flipped c) (tt, record { fits = omega (arith, c .before .fits .x .sfits) })
+
+add-result : tie.Need-add-result
+add-result c = rw (flipped c) (record { fits = omega (arith, c .before .fits .x .sfits) })
+
+returns : tie.Need-returns
+returns c =
+    rw (flipped c)
+    (add-one (mag (c .before .args .x)) ∙ sym (ap natAbs (is-neg w32 (c .before .args .x) (c .before .fits .x) (c .if1 .taken))))
+
+-- a number that is not negative
+positive : (c : tie.Else1) → toZ w32 (ofZ w32 (c .before .args .x)) ≡ pos (mag (c .before .args .x))
+positive c = toZ-ofZ (c .before .fits .x) ∙ is-pos w32 (c .before .args .x) (c .before .fits .x) (c .if1 .left)
+
+cast-result-2 : tie.Need-cast-result-2
+cast-result-2 c = rw (positive c) (tt, record { fits = omega (arith, c .before .fits .x .sfits) })
+
+pub magnitude-spec : {M : Type 1} → statement M
+magnitude-spec = tie.close (tie.spec sub-result cast-result add-result returns cast-result-2 (λ c. search needs))
