@@ -69,13 +69,16 @@ fn main() -> ExitCode {
     program.long_inputs();
     program.refusals(400);
     program.any_images(1_000);
+    program.even_numbers_of_frames(400);
     program.large();
     let missing = program.missing();
     for (first, times) in &program.seen {
         println!("{first:<24}{times:>6}");
     }
+    let of_halves = |(due, times): (&String, &usize)| due.starts_with("half").then_some(*times);
+    let halves: usize = program.seen.iter().filter_map(of_halves).sum();
     println!(
-        "hits: {} runs, {} differences, {:.1} s",
+        "hits: {} runs, {halves} means at an exact half, {} differences, {:.1} s",
         program.runs,
         program.differences,
         begun.elapsed().as_secs_f64()
@@ -354,6 +357,9 @@ impl Program {
             (1_000, 0, -1_500, "-1498500 -1498"),
             (1_000, 0, 501, "500499 500"),
             (1_000, 0, -499, "-498501 -499"),
+            // in floats of 32 bits an exact half
+            (1_000, 32_766, 32_499, "65232501 65233"),
+            (1_000, -32_766, -32_499, "-65232501 -65233"),
         ] {
             scores::set_all(&mut voice, stay, emission);
             let input = input(&voice.bytes(), &lexicon.bytes(), 1, &vec![0; frames]);
@@ -505,6 +511,25 @@ impl Program {
                 lexicon_bytes = damage::damaged(random, &lexicon.fields());
             }
             self.run(&input(&voice.bytes(), &lexicon_bytes, n, &frames));
+        }
+    }
+
+    /// Small scores over an even number of frames, so that many a mean is an exact half.
+    fn even_numbers_of_frames(&mut self, runs: usize) {
+        for _ in 0..runs {
+            let random = &mut self.random;
+            let letters = random.between(1, 4);
+            let sketch = draw::few_words(random, letters);
+            let mut voice = draw::voice_of(random, &vec![1; letters], 4);
+            let mut score = || random.below(19) as i16 - 9;
+            voice.moves.fill_with(|| [score(), 0]);
+            voice.link = score();
+            voice.emissions.fill_with(score);
+            let lexicon = sketch.lexicon(random);
+            let length = 2 * random.between(1, 4);
+            let mut frames = random.bytes(length);
+            frames.iter_mut().for_each(|frame| *frame %= voice.symbols);
+            self.run(&input(&voice.bytes(), &lexicon.bytes(), 8, &frames));
         }
     }
 

@@ -200,14 +200,15 @@ pub record CodeExamples : Type 0 where
   -- of request 1: -5, -7, 5 and -1 over 2
   pub mean-halves : map (λ z. meanAnswer z 2) (minus 5 ∷ minus 7 ∷ pos 5 ∷ minus 1 ∷ [])
       ≡ map value (minus 2 ∷ minus 4 ∷ pos 2 ∷ pos 0 ∷ [])
-  -- halves and what stands beside them, over 4, 3 and 1,000 frames
+  -- halves and what stands beside them; over 3 frames there is no half
   pub means-of-4 : map (λ z. meanAnswer z 4) (pos 1 ∷ pos 2 ∷ pos 3 ∷ pos 5 ∷ pos 6 ∷ pos 7 ∷ pos 10 ∷ [])
       ≡ map value (pos 0 ∷ pos 0 ∷ pos 1 ∷ pos 1 ∷ pos 2 ∷ pos 2 ∷ pos 2 ∷ [])
-  pub means-of-4-below : map (λ z. meanAnswer z 4) (minus 1 ∷ minus 2 ∷ minus 3 ∷ minus 5 ∷ minus 6 ∷ minus 7 ∷ minus 10 ∷ [])
-      ≡ map value (pos 0 ∷ pos 0 ∷ minus 1 ∷ minus 1 ∷ minus 2 ∷ minus 2 ∷ minus 2 ∷ [])
+  pub means-below-zero : map (λ z. meanAnswer z 4) (map minus (1 ∷ 2 ∷ 3 ∷ 5 ∷ 6 ∷ 7 ∷ 10 ∷ []))
+      ≡ map value (map minus (0 ∷ 0 ∷ 1 ∷ 1 ∷ 2 ∷ 2 ∷ 2 ∷ []))
   pub means-of-3 : map (λ z. meanAnswer z 3) (pos 1 ∷ pos 2 ∷ pos 4 ∷ minus 1 ∷ minus 2 ∷ minus 4 ∷ minus 5 ∷ [])
       ≡ map value (pos 0 ∷ pos 1 ∷ pos 1 ∷ pos 0 ∷ minus 1 ∷ minus 1 ∷ minus 2 ∷ [])
-  pub means-of-1000 : map (λ z. meanAnswer z 1000) (pos 499 ∷ pos 500 ∷ pos 501 ∷ pos 1500 ∷ minus 500 ∷ minus 501 ∷ minus 1500 ∷ [])
+  pub means-of-1000 :
+      map (λ z. meanAnswer z 1000) (pos 499 ∷ pos 500 ∷ pos 501 ∷ pos 1500 ∷ minus 500 ∷ minus 501 ∷ minus 1500 ∷ [])
       ≡ map value (pos 0 ∷ pos 0 ∷ pos 1 ∷ pos 2 ∷ pos 0 ∷ minus 1 ∷ minus 2 ∷ [])
   -- the highest and the lowest i32, over 1, 2 and 1,000
   pub means-highest : map (meanAnswer (pos 2147483647)) (1 ∷ 2 ∷ 1000 ∷ [])
@@ -216,10 +217,10 @@ pub record CodeExamples : Type 0 where
       ≡ map value (minus 2147483648 ∷ minus 1073741824 ∷ minus 2147484 ∷ [])
   pub mean-limits : map (meanAnswer (minus 1)) (0 ∷ 1 ∷ 1000 ∷ 1001 ∷ [])
       ≡ refused Frames ∷ value (minus 1) ∷ value (pos 0) ∷ refused Frames ∷ []
-  -- in a line: '2 -21 -10 i', and '2 -1 0 i' without a minus sign before 0
-  pub mean-lines : map (λ z. hitLine voice (graphOf P) 2 (hit z 2)) (minus 21 ∷ minus 1 ∷ [])
-      ≡ (50 ∷ 32 ∷ 45 ∷ 50 ∷ 49 ∷ 32 ∷ 45 ∷ 49 ∷ 48 ∷ 32 ∷ 105 ∷ 10 ∷ [])
-      ∷ (50 ∷ 32 ∷ 45 ∷ 49 ∷ 32 ∷ 48 ∷ 32 ∷ 105 ∷ 10 ∷ [])
+  -- in a line: '0 -7 -4 an', and '0 -1 0 an' without a minus sign before the mean
+  pub mean-lines : map (λ z. hitLine voice (graphOf P) 2 (hit z 0)) (minus 7 ∷ minus 1 ∷ [])
+      ≡ (48 ∷ 32 ∷ 45 ∷ 55 ∷ 32 ∷ 45 ∷ 52 ∷ 32 ∷ 97 ∷ 110 ∷ 10 ∷ [])
+      ∷ (48 ∷ 32 ∷ 45 ∷ 49 ∷ 32 ∷ 48 ∷ 32 ∷ 97 ∷ 110 ∷ 10 ∷ [])
       ∷ []
   -- packing: highest bit first, zero bits at the end, a byte that holds parts of two codes
   pub packs : packOut 5 (1 ∷ 2 ∷ 3 ∷ []) (7 ∷ 7 ∷ 7 ∷ []) ∷ packOut 1048576 (1048575 ∷ 1 ∷ []) (replicate 5 7) ∷ packOut 512 (1 ∷ 256 ∷ []) (7 ∷ 7 ∷ 7 ∷ []) ∷ [] ≡ (41 ∷ 128 ∷ 7 ∷ []) ∷ (255 ∷ 255 ∷ 240 ∷ 0 ∷ 1 ∷ []) ∷ (0 ∷ 192 ∷ 0 ∷ []) ∷ []

@@ -1,6 +1,6 @@
--- The mean is the nearest whole number to score over T, at an exact half the even one, and the only such. What n / T leaves,
--- or what is missing to the next number, is at most half of T; two numbers that are so near are neighbours, each at an exact
--- half, and one of them is odd. A negative score is the same mirrored. Assumes nothing.
+-- The mean is the nearest whole number to score over T, at an exact half the even one, and the only such. What n / T
+-- leaves, or what is missing to the next number, is at most half of T; two numbers that are so near are neighbours, each
+-- at an exact half, and one of them is odd. A negative score is the same mirrored. Assumes nothing.
 use Prim.Native.Nat.{ℕ, zero, suc, _+_, _-_, _*_, _/_, _%_, _≤_, _<_}
 use mathlib.Core.Path.{_≡_, refl, sym, ap, _∙_}
 use mathlib.Core.Bool.{Bool, true, false, cond}
@@ -11,7 +11,7 @@ use borrow.Author.Tests.{ltb-true, ltb-false}
 use lib.Dec.{ltb}
 use lib.IntN.{ℤ, pos, negsuc, negℤ, natAbs, _+ℤ_, _-ℤ_, _*ℤ_, negℤ-negℤ, negℤ-+ℤ}
 use Rattle.ranking.specs.Mean.{nearest, withSign, mean}
-use Rattle.ranking.specs.Theorems.{distance, NearestOrEven, MeanIsNearest}
+use Rattle.ranking.specs.Theorems.{distance, IsNearest, MeanIsNearest}
 use Rattle.ranking.proofs.Rounding.{Rounds, below, above, half, rounds}
 
 -- ---- distances
@@ -39,13 +39,13 @@ next-parity q e = sym (mod-add-mod q 2 1) ∙ ap (λ (r : ℕ). (r + 1) % 2) e
 -- ---- a score that is not negative
 
 module _ (n T : ℕ) (some : 1 ≤ T) where
-  near-below : 2 * (n % T) ≤ T → (2 * (n % T) ≡ T → n / T % 2 ≡ 0) → NearestOrEven (pos n) T (pos (n / T))
+  near-below : 2 * (n % T) ≤ T → (2 * (n % T) ≡ T → n / T % 2 ≡ 0) → IsNearest (pos n) T (pos (n / T))
   near-below l even = record {
     within-half = omega (arith, apart n (T * (n / T)), div-add-mod n T);
     even-at-half = λ e. even (omega (arith, apart n (T * (n / T)), div-add-mod n T));
   }
 
-  near-above : T ≤ 2 * (n % T) → (2 * (n % T) ≡ T → n / T % 2 ≡ 1) → NearestOrEven (pos n) T (pos (n / T + 1))
+  near-above : T ≤ 2 * (n % T) → (2 * (n % T) ≡ T → n / T % 2 ≡ 1) → IsNearest (pos n) T (pos (n / T + 1))
   near-above l odd =
       let d = apart n (T * (n / T + 1)) in
       let s = mul-add T (n / T) 1 in
@@ -54,15 +54,15 @@ module _ (n T : ℕ) (some : 1 ≤ T) where
         even-at-half = λ e. next-parity (n / T) (odd (omega (arith, d, s, div-add-mod n T, mod-lt n some)));
       }
 
-  is-near : NearestOrEven (pos n) T (pos (nearest n T))
+  is-near : IsNearest (pos n) T (pos (nearest n T))
   is-near = go (rounds n T)
     where
-      at-half : (b k : ℕ) → n / T % 2 ≡ b → b < 2 → 2 * (n % T) ≡ T → k ≡ n / T + b → NearestOrEven (pos n) T (pos k)
+      at-half : (b k : ℕ) → n / T % 2 ≡ b → b < 2 → 2 * (n % T) ≡ T → k ≡ n / T + b → IsNearest (pos n) T (pos k)
       at-half zero k p l h e = let same : k ≡ n / T = omega arith in rw same (near-below (omega arith) (λ _. p))
       at-half (suc zero) k p l h e = rw e (near-above (omega arith) (λ _. p))
       at-half (suc (suc b)) k p l h e = absurd (omega arith)
 
-      go : Rounds (n / T) (2 * (n % T)) T (nearest n T) → NearestOrEven (pos n) T (pos (nearest n T))
+      go : Rounds (n / T) (2 * (n % T)) T (nearest n T) → IsNearest (pos n) T (pos (nearest n T))
       go (below l e) = rw e (near-below (omega arith) (λ f. absurd (omega arith)))
       go (above l e) = rw e (near-above (omega arith) (λ f. absurd (omega arith)))
       go (half l e) = at-half (n / T % 2) (nearest n T) refl (mod-lt (n / T) (omega arith)) l e
@@ -73,7 +73,7 @@ module _ (n T : ℕ) (some : 1 ≤ T) where
   below-zero-far : (k : ℕ) → T ≤ distance (pos n) T (negsuc k)
   below-zero-far k = omega (arith, across n (T * suc k), mul-suc T k)
 
-  not-both : {j k : ℕ} → NearestOrEven (pos n) T (pos j) → NearestOrEven (pos n) T (pos k) → j < k → ⊥
+  not-both : {j k : ℕ} → IsNearest (pos n) T (pos j) → IsNearest (pos n) T (pos k) → j < k → ⊥
   not-both {j} {k} a b l = go (ltb (j + 1) k) refl
     where
       s : T ≤ distance (pos n) T (pos j) + distance (pos n) T (pos k)
@@ -81,8 +81,15 @@ module _ (n T : ℕ) (some : 1 ≤ T) where
 
       go : (t : Bool) → ltb (j + 1) k ≡ t → ⊥
       go true e =
-          omega (arith, a .within-half, b .within-half, apart n (T * j), apart n (T * k),
-              steps T {j = j} {k = j + 1} (omega arith), steps T (ltb-true (j + 1) k e))
+          omega (
+            arith,
+            a .within-half,
+            b .within-half,
+            apart n (T * j),
+            apart n (T * k),
+            steps T {j = j} {k = j + 1} (omega arith),
+            steps T (ltb-true (j + 1) k e),
+          )
       go false e =
           let k-next : k ≡ j + 1 = omega (arith, ltb-false (j + 1) k e) in
           let even-j = a .even-at-half (omega (arith, s, a .within-half, b .within-half)) in
@@ -100,7 +107,7 @@ module _ (n T : ℕ) (some : 1 ≤ T) where
         go false true e f = gt (ltb-true k j f)
         go false false e f = eq (omega (arith, ltb-false j k e, ltb-false k j f))
 
-  only-near : (m : ℤ) → NearestOrEven (pos n) T m → m ≡ pos (nearest n T)
+  only-near : (m : ℤ) → IsNearest (pos n) T m → m ≡ pos (nearest n T)
   only-near (pos k) a =
       compared k (nearest n T) (λ l. absurd (not-both a is-near l)) (λ l. absurd (not-both is-near a l)) (ap pos)
   only-near (negsuc k) a = absurd (omega (arith, a .within-half, below-zero-far k))
@@ -131,7 +138,7 @@ mirrored z T m =
     ∙ ap natAbs (sym (negℤ-+ℤ z (negℤ (pos T *ℤ m))))
     ∙ size-minus (z -ℤ (pos T *ℤ m))
 
-near-mirrored : {z : ℤ} {T : ℕ} {m : ℤ} → NearestOrEven z T m → NearestOrEven (negℤ z) T (negℤ m)
+near-mirrored : {z : ℤ} {T : ℕ} {m : ℤ} → IsNearest z T m → IsNearest (negℤ z) T (negℤ m)
 near-mirrored {z} {T} {m} a = record {
   within-half = rw (mirrored z T m) (a .within-half);
   even-at-half = λ e. rw (size-minus m) (a .even-at-half (sym (ap (λ (d : ℕ). 2 * d) (mirrored z T m)) ∙ e));
@@ -139,12 +146,12 @@ near-mirrored {z} {T} {m} a = record {
 
 -- ---- any score
 
-mean-near : (score : ℤ) (T : ℕ) → 1 ≤ T → NearestOrEven score T (mean score T)
+mean-near : (score : ℤ) (T : ℕ) → 1 ≤ T → IsNearest score T (mean score T)
 unfolding mean withSign
 mean-near (pos n) T h = is-near n T h
 mean-near (negsuc n) T h = near-mirrored {z = pos (suc n)} (is-near (suc n) T h)
 
-mean-only : (score : ℤ) (T : ℕ) → 1 ≤ T → (m : ℤ) → NearestOrEven score T m → m ≡ mean score T
+mean-only : (score : ℤ) (T : ℕ) → 1 ≤ T → (m : ℤ) → IsNearest score T m → m ≡ mean score T
 unfolding mean withSign
 mean-only (pos n) T h m a = only-near n T h m a
 mean-only (negsuc n) T h m a =

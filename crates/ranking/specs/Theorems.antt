@@ -1,5 +1,5 @@
--- What is proved of the mean (document 02, request 1): it is the nearest whole number to the score divided by T, and at an
--- exact half the even one. proofs/Nearest.antt proves it. Assumes nothing.
+-- What is proved of the mean (document 02, request 1): it is the nearest whole number to the score divided by T, and at
+-- an exact half the even one. proofs/Nearest.antt proves it. Assumes nothing.
 use Prim.Native.Nat.{ℕ, _*_, _%_, _≤_}
 use mathlib.Core.Path.{_≡_}
 use mathlib.Core.Logic.{_↔_}
@@ -11,13 +11,13 @@ abbrev pub distance : ℤ → ℕ → ℤ → ℕ
 distance score T m = natAbs (score -ℤ (pos T *ℤ m))
 
 -- twice the distance between score and T × m is at most T, and m is even where it equals T
-pub record NearestOrEven (score : ℤ) (T : ℕ) (m : ℤ) : Type 0 where
+pub record IsNearest (score : ℤ) (T : ℕ) (m : ℤ) : Type 0 where
   pub within-half : 2 * distance score T m ≤ T
   pub even-at-half : 2 * distance score T m ≡ T → natAbs m % 2 ≡ 0
 
 -- of any score, over one frame or more
 pub record MeanIsNearest : Type 0 where
-  -- m is the mean exactly if it is so
-  pub exactly : (score : ℤ) (T : ℕ) → 1 ≤ T → (m : ℤ) → (m ≡ mean score T) ↔ NearestOrEven score T m
+  -- m is the mean exactly if m is nearest
+  pub exactly : (score : ℤ) (T : ℕ) → 1 ≤ T → (m : ℤ) → (m ≡ mean score T) ↔ IsNearest score T m
   -- no whole number is nearer
   pub none-nearer : (score : ℤ) (T : ℕ) → 1 ≤ T → (m : ℤ) → distance score T (mean score T) ≤ distance score T m

@@ -5,7 +5,7 @@ ghost use lib.IntN.{natAbs};
 ghost use Rattle.ranking.specs.Mean.{withSign, meanOf, meanAnswer};
 use call::Refusal;
 
-// A mean may be negative, so that it has an answer of its own.
+// A mean may be negative, so it has an answer of its own.
 pub enum MeanScore {
     Value(i32),
     Refused(Refusal),
@@ -24,7 +24,7 @@ fn magnitude(x: i32) -> u32
     x as u32
 }
 
-// A number with the sign of x. It goes through 64 bits, since it may be as large as the lowest i32.
+// A number with the sign of x. The minus sign is put on in 64 bits: 2^31, which is no i32, has it too.
 fn with_sign(x: i32, number: u32) -> i32
     requires { ⌜ number ≤ natAbs x ⌝ }
     ensures { λ r. ⌜ r ≡ withSign x number ⌝ }
@@ -47,7 +47,7 @@ pub fn mean(score: i32, frames: u32) -> MeanScore
     }
     let number = magnitude(score);
     let quotient = number / frames;
-    // at an exact half an odd quotient gives way to the next number, which is even
+    // 1 more tips an exact half only, and there an odd quotient gives way to the next number
     let odd = quotient % 2;
     if frames < 2 * (number % frames) + odd {
         return MeanScore::Value(with_sign(score, quotient + 1));

@@ -209,10 +209,11 @@ pack-calls-undo = (codes-come-back, bytes-come-back)
 -- m is the mean exactly if twice the distance between score and T × m is at most T, and m is even where it equals T.
 mean-nearest : (score : ℤ) (T : ℕ) → 1 ≤ T → (m : ℤ)
     → (m ≡ mean score T)
-        ↔ ((2 * natAbs (score -ℤ (pos T *ℤ m)) ≤ T) × (2 * natAbs (score -ℤ (pos T *ℤ m)) ≡ T → natAbs m % 2 ≡ 0))
-mean-nearest score T h m = let e = mean-is-nearest .exactly score T h m in
-    ((λ is. let n = e .0 is in (n .within-half, n .even-at-half)),
-     (λ n. e .1 (record { within-half = n .0; even-at-half = n .1 })))
+    ↔ ((2 * natAbs (score -ℤ (pos T *ℤ m)) ≤ T) × (2 * natAbs (score -ℤ (pos T *ℤ m)) ≡ T → natAbs m % 2 ≡ 0))
+mean-nearest score T h m = let e = mean-is-nearest .exactly score T h m in (
+  (λ is. let n = e .0 is in (n .within-half, n .even-at-half)),
+  (λ n. e .1 (record { within-half = n .0; even-at-half = n .1 })),
+)
 
 -- No whole number is nearer.
 mean-none-nearer : (score : ℤ) (T : ℕ) → 1 ≤ T → (m : ℤ)
