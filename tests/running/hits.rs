@@ -1,5 +1,5 @@
-//! The tests that run the program hits: what it prints for an input, to the byte, against what is made here from the scope
-//! paper alone. The program is the first argument; a seed may be the second.
+//! The tests that run the program hits: what it prints for an input, to the byte, against what is made here from the
+//! papers alone. The program is the first argument; a seed may be the second.
 
 #[allow(dead_code)]
 mod damage;

@@ -1,6 +1,6 @@
 -- The mean is the nearest whole number to score over T, at an exact half the even one, and the only such. What n / T
--- leaves, or what is missing to the next number, is at most half of T; two numbers that are so near are neighbours, each
--- at an exact half, and one of them is odd. A negative score is the same mirrored. Assumes nothing.
+-- leaves, or what is missing to the next number, is at most half of T; two numbers that are so near are neighbours,
+-- each at an exact half, and one of them is odd. A negative score is the same mirrored. Assumes nothing.
 use Prim.Native.Nat.{ℕ, zero, suc, _+_, _-_, _*_, _/_, _%_, _≤_, _<_}
 use mathlib.Core.Path.{_≡_, refl, sym, ap, _∙_}
 use mathlib.Core.Bool.{Bool, true, false, cond}
@@ -36,6 +36,15 @@ steps T {j} {k} h = omega (arith, mul-suc T j, mul-le-mul-left {m = suc j} {n = 
 next-parity : (q : ℕ) {r : ℕ} → q % 2 ≡ r → (q + 1) % 2 ≡ (r + 1) % 2
 next-parity q e = sym (mod-add-mod q 2 1) ∙ ap (λ (r : ℕ). (r + 1) % 2) e
 
+-- below, above, or the same
+compared : {P : Type 0} (j k : ℕ) → (j < k → P) → (k < j → P) → (j ≡ k → P) → P
+compared {P} j k lt gt eq = go (ltb j k) (ltb k j) refl refl
+  where
+    go : (s t : Bool) → ltb j k ≡ s → ltb k j ≡ t → P
+    go true t e f = lt (ltb-true j k e)
+    go false true e f = gt (ltb-true k j f)
+    go false false e f = eq (omega (arith, ltb-false j k e, ltb-false k j f))
+
 -- ---- a score that is not negative
 
 module _ (n T : ℕ) (some : 1 ≤ T) where
@@ -67,12 +76,14 @@ module _ (n T : ℕ) (some : 1 ≤ T) where
       go (above l e) = rw e (near-above (omega arith) (λ f. absurd (omega arith)))
       go (half l e) = at-half (n / T % 2) (nearest n T) refl (mod-lt (n / T) (omega arith)) l e
 
+  -- of two numbers one is at least half of T off, and one below zero is T off
   both-far : {j k : ℕ} → j < k → T ≤ distance (pos n) T (pos j) + distance (pos n) T (pos k)
   both-far {j} {k} l = omega (arith, apart n (T * j), apart n (T * k), steps T l)
 
   below-zero-far : (k : ℕ) → T ≤ distance (pos n) T (negsuc k)
   below-zero-far k = omega (arith, across n (T * suc k), mul-suc T k)
 
+  -- two neighbours would each be at an exact half, and one of them is odd; further apart they are not both near
   not-both : {j k : ℕ} → IsNearest (pos n) T (pos j) → IsNearest (pos n) T (pos k) → j < k → ⊥
   not-both {j} {k} a b l = go (ltb (j + 1) k) refl
     where
@@ -96,16 +107,6 @@ module _ (n T : ℕ) (some : 1 ≤ T) where
           let even-k = b .even-at-half (omega (arith, s, a .within-half, b .within-half)) in
           let even-next : (j + 1) % 2 ≡ 0 = rw k-next at even-k in
           omega (arith, next-parity j even-j)
-
-  -- above, below, or the same
-  module _ {P : Type 0} where
-    compared : (j k : ℕ) → (j < k → P) → (k < j → P) → (j ≡ k → P) → P
-    compared j k lt gt eq = go (ltb j k) (ltb k j) refl refl
-      where
-        go : (s t : Bool) → ltb j k ≡ s → ltb k j ≡ t → P
-        go true t e f = lt (ltb-true j k e)
-        go false true e f = gt (ltb-true k j f)
-        go false false e f = eq (omega (arith, ltb-false j k e, ltb-false k j f))
 
   only-near : (m : ℤ) → IsNearest (pos n) T m → m ≡ pos (nearest n T)
   only-near (pos k) a =

@@ -76,6 +76,10 @@ nearest-range n (suc t) = go (rounds n (suc t))
     go (above l e) = omega (arith, more, div-add-mod n (suc t))
     go (half l e) = omega (arith, more, div-add-mod n (suc t), mod-lt (n / suc t) {m = 2} (omega arith))
 
+-- so the next number does not run past n
+pub next-range : (n T : ℕ) → T < 2 * (n % T) + n / T % 2 → n / T + 1 ≤ n
+next-range n T h = rw (← rounds-up n T h) (nearest-range n T)
+
 -- k with a minus sign, against -1 - n
 pub mag-minus : (k : ℕ) {n : ℕ} → k ≤ suc n → mag (negℤ (pos k)) ≤ n
 mag-minus zero h = omega arith

@@ -11,8 +11,8 @@ use Rattle.call.specs.Limits.{badFrameCount}
 use Rattle.ranking.specs.declared.MeanScore.{MeanScore}
 use Rattle.ranking.specs.declared.MeanScore.the-variants.{Value, Refused}
 
--- the nearest whole number to n over T, from T = 1 on: n / T where the remainder is less than half of T, the next number
--- where it is more, and where it is exactly half the even one of the two
+-- the nearest whole number to n over T, from T = 1 on: n / T where the remainder is less than half of T, the next
+-- number where it is more, and where it is exactly half the even one of the two
 unfoldable pub nearest : ℕ → ℕ → ℕ
 nearest n T =
     cond (ltb (2 * (n % T)) T) (n / T)

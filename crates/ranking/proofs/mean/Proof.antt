@@ -1,5 +1,5 @@
--- `ranking::mean` meets its contract: a comparison chooses between the quotient and the next number, of the score without
--- its sign. Assumes nothing.
+-- `ranking::mean` meets its contract: a comparison chooses between the quotient and the next number, of the score
+-- without its sign. Assumes nothing.
 use mathlib.Core.Path.{_≡_, ap, _∙_}
 use Prim.Native.Nat.{ℕ, _/_, _^_, _<_}
 use native.Mathlib.Nat.{mod-lt, div-le-self}
@@ -14,9 +14,11 @@ use Rattle.call.specs.Table.{value, unless}
 use Rattle.call.specs.Limits.{badFrameCount}
 use Rattle.endian.proofs.Ranges.{inside, below, above}
 use Rattle.ranking.specs.Mean.{mean, meanAnswer}
-use Rattle.ranking.proofs.Rounding.{rounds-up, mean-next, mean-quotient, nearest-range}
+use Rattle.ranking.proofs.Rounding.{mean-next, mean-quotient, next-range}
 use Rattle.ranking.proofs.mean.Statement.{statement}
 use Rattle.ranking.proofs.mean.Tie as tie
+
+-- ---- what is answered
 
 returns : tie.Need-returns
 unfolding meanAnswer badFrameCount unless
@@ -52,7 +54,9 @@ returns-4 c =
     (c .with-sign2 .ensures ∙ mean-quotient _ _ (k .result) (k .ensures) (c .before .if3 .left))
     (toZ-ofZ (s .fits .score))))
 
--- what the quotient leaves is below 1,000, and it is odd by 0 or 1
+-- ---- what fits: the quotient leaves less than 1,000 and is odd by 0 or 1, and the next number is no larger than the
+-- score's
+
 mul-if3 : tie.Need-mul-if3
 mul-if3 c =
     let T = c .before .before .before .args .frames in
@@ -66,15 +70,13 @@ add-if3 c =
 
 with-sign-requires : tie.Need-with-sign-requires
 with-sign-requires c κs =
-    let T = c .before .before .before .before .args .frames in
     let m = c .before .magnitude in
-    omega (arith, m .ensures, rounds-up (m .result) T (c .if3 .taken), nearest-range (m .result) T)
+    omega (arith, m .ensures, next-range (m .result) _ (c .if3 .taken))
 
 add-with-sign : tie.Need-add-with-sign
 add-with-sign c =
-    let T = c .before .before .before .before .args .frames in
     let m = c .before .magnitude in
-    record { fits = omega (arith, m .ok, rounds-up (m .result) T (c .if3 .taken), nearest-range (m .result) T) }
+    record { fits = omega (arith, m .ok, next-range (m .result) _ (c .if3 .taken)) }
 
 with-sign-requires-2 : tie.Need-with-sign-requires-2
 with-sign-requires-2 c κs =

@@ -1,5 +1,5 @@
--- `ranking::with_sign` meets its contract: in 64 bits 0 - number is the number with a minus sign, and it fits 32 bits, as x
--- does. Assumes nothing.
+-- `ranking::with_sign` meets its contract: in 64 bits 0 - number is the number with a minus sign, and it fits 32 bits,
+-- as x does. Assumes nothing.
 use Prim.Native.Nat.{_^_, _<_, _≤_}
 use mathlib.Core.Path.{_≡_, sym, ap, _∙_}
 use native.Mathlib.Omega.{arith}
