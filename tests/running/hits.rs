@@ -35,14 +35,19 @@ const SHOWN_DIFFERENCES: usize = 10;
 /// The longest input of which every byte may count: two images of 65,535 bytes with their lengths, n, and 1,001 frames.
 const LONGEST: usize = 132_076;
 
+/// How many exact halves have to go each way.
+const HALVES: usize = 20;
+
 /// Long enough for the program to have read what was there.
 const PAUSE: Duration = Duration::from_millis(4);
 
 struct Program {
     path: String,
     random: Random,
-    /// How often each first line was due: a refusal's, or any number of hits; and each way of an exact half.
+    /// How often each first line was due: a refusal's, or any number of hits.
     seen: BTreeMap<String, usize>,
+    /// How many means were due at an exact half, by its sign and the way it goes.
+    halves: BTreeMap<&'static str, usize>,
     runs: usize,
     differences: usize,
 }
@@ -56,6 +61,7 @@ fn main() -> ExitCode {
         path,
         random: Random::from_seed(seed.unwrap_or(SEED)),
         seen: BTreeMap::new(),
+        halves: BTreeMap::new(),
         runs: 0,
         differences: 0,
     };
@@ -73,13 +79,15 @@ fn main() -> ExitCode {
     program.large();
     let missing = program.missing();
     for (first, times) in &program.seen {
-        println!("{first:<24}{times:>6}");
+        println!("{first:<12}{times:>6}");
     }
-    let of_halves = |(due, times): (&String, &usize)| due.starts_with("half").then_some(*times);
-    let halves: usize = program.seen.iter().filter_map(of_halves).sum();
+    for (way, times) in &program.halves {
+        println!("a half {way:<18}{times:>6}");
+    }
     println!(
-        "hits: {} runs, {halves} means at an exact half, {} differences, {:.1} s",
+        "hits: {} runs, {} means at an exact half, {} differences, {:.1} s",
         program.runs,
+        program.halves.values().sum::<usize>(),
         program.differences,
         begun.elapsed().as_secs_f64()
     );
@@ -172,16 +180,18 @@ fn nearest_mean(score: i64, frames: i64) -> i64 {
     nearest.unwrap_or(below)
 }
 
-/// Where the mean of a score goes that lies between two whole numbers at an exact half.
-fn half_of(score: i64, frames: i64) -> Option<&'static str> {
+const WAYS: [&str; 4] = [
+    "above zero, down",
+    "above zero, up",
+    "below zero, down",
+    "below zero, up",
+];
+
+/// Which way the mean goes where score over frames lies exactly between two whole numbers.
+fn way_of_half(score: i64, frames: i64) -> Option<&'static str> {
     let half = 2 * score % frames == 0 && score % frames != 0;
     let up = nearest_mean(score, frames) * frames > score;
-    half.then_some(match (score < 0, up) {
-        (true, false) => "half below zero, down",
-        (true, true) => "half below zero, up",
-        (false, false) => "half above zero, down",
-        (false, true) => "half above zero, up",
-    })
+    half.then_some(WAYS[2 * usize::from(score < 0) + usize::from(up)])
 }
 
 impl Program {
@@ -189,8 +199,8 @@ impl Program {
     fn run(&mut self, input: &[u8]) {
         let expected = report(input);
         for score in &expected.scores {
-            if let Some(half) = half_of(*score, expected.frames) {
-                *self.seen.entry(half.to_string()).or_default() += 1;
+            if let Some(way) = way_of_half(*score, expected.frames) {
+                *self.halves.entry(way).or_default() += 1;
             }
         }
         self.run_for(&expected.text, input);
@@ -320,7 +330,7 @@ impl Program {
         self.run_for(printed, &input(&voice, &long, 8, &[3; 31]));
     }
 
-    /// Means of a word of one state, whose score is its loops: at exact halves, beside them, and over one frame.
+    /// Means of a word of one state: at exact halves and beside them, over 1 frame and over 3.
     fn means_printed(&mut self) {
         let mut voice = draw::voice_of(&mut self.random, &[1], 1);
         voice.letters[0].print_byte = b'a';
@@ -555,24 +565,21 @@ impl Program {
         self.run(&input(&voice, &lexicon, 8, &[63; 1_001]));
     }
 
-    /// Prints each kind of report that was never due; says how many there are.
+    /// Prints each kind of report that was never due, and each way of a half that hardly was; says how many there are.
     fn missing(&self) -> usize {
         let refusals =
             [2, 3, 4, 5, 6, 7, 8, 9, 10, 11, 12].map(|number| format!("refused {number}"));
         let lists = [0, 1, 2, 3, 8].map(|hits| format!("hits {hits}"));
         let never = |due: &&String| !self.seen.contains_key(*due);
-        let halves = [
-            "below zero, down",
-            "below zero, up",
-            "above zero, down",
-            "above zero, up",
-        ]
-        .map(|way| format!("half {way}"));
-        let due = refusals.iter().chain(&lists).chain(&halves);
-        let never: Vec<&String> = due.filter(never).collect();
+        let never: Vec<&String> = refusals.iter().chain(&lists).filter(never).collect();
         for due in &never {
             println!("never seen: {due}");
         }
-        never.len()
+        let few = |way: &&&str| self.halves.get(**way).is_none_or(|times| *times < HALVES);
+        let few: Vec<&&str> = WAYS.iter().filter(few).collect();
+        for way in &few {
+            println!("fewer than {HALVES} halves {way}");
+        }
+        never.len() + few.len()
     }
 }

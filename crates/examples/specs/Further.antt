@@ -201,13 +201,13 @@ pub record CodeExamples : Type 0 where
   pub mean-halves : map (λ z. meanAnswer z 2) (minus 5 ∷ minus 7 ∷ pos 5 ∷ minus 1 ∷ [])
       ≡ map value (minus 2 ∷ minus 4 ∷ pos 2 ∷ pos 0 ∷ [])
   -- halves and what stands beside them; over 3 frames there is no half
-  pub means-of-4 : map (λ z. meanAnswer z 4) (pos 1 ∷ pos 2 ∷ pos 3 ∷ pos 5 ∷ pos 6 ∷ pos 7 ∷ pos 10 ∷ [])
+  pub means-of-four : map (λ z. meanAnswer z 4) (pos 1 ∷ pos 2 ∷ pos 3 ∷ pos 5 ∷ pos 6 ∷ pos 7 ∷ pos 10 ∷ [])
       ≡ map value (pos 0 ∷ pos 0 ∷ pos 1 ∷ pos 1 ∷ pos 2 ∷ pos 2 ∷ pos 2 ∷ [])
   pub means-below-zero : map (λ z. meanAnswer z 4) (map minus (1 ∷ 2 ∷ 3 ∷ 5 ∷ 6 ∷ 7 ∷ 10 ∷ []))
       ≡ map value (map minus (0 ∷ 0 ∷ 1 ∷ 1 ∷ 2 ∷ 2 ∷ 2 ∷ []))
-  pub means-of-3 : map (λ z. meanAnswer z 3) (pos 1 ∷ pos 2 ∷ pos 4 ∷ minus 1 ∷ minus 2 ∷ minus 4 ∷ minus 5 ∷ [])
+  pub means-of-three : map (λ z. meanAnswer z 3) (pos 1 ∷ pos 2 ∷ pos 4 ∷ minus 1 ∷ minus 2 ∷ minus 4 ∷ minus 5 ∷ [])
       ≡ map value (pos 0 ∷ pos 1 ∷ pos 1 ∷ pos 0 ∷ minus 1 ∷ minus 1 ∷ minus 2 ∷ [])
-  pub means-of-1000 :
+  pub means-of-thousand :
       map (λ z. meanAnswer z 1000) (pos 499 ∷ pos 500 ∷ pos 501 ∷ pos 1500 ∷ minus 500 ∷ minus 501 ∷ minus 1500 ∷ [])
       ≡ map value (pos 0 ∷ pos 0 ∷ pos 1 ∷ pos 2 ∷ pos 0 ∷ minus 1 ∷ minus 2 ∷ [])
   -- the highest and the lowest i32, over 1, 2 and 1,000

@@ -1,4 +1,5 @@
--- What `nearest` chooses, by one comparison, and how large a mean can be: no larger than its score. Assumes nothing.
+-- What `nearest` chooses, by one comparison, and how large a mean can be: no further from zero than its score.
+-- Assumes nothing.
 use Prim.Native.Nat.{ℕ, zero, suc, _+_, _*_, _/_, _%_, _≤_, _<_}
 use mathlib.Core.Path.{_≡_, refl}
 use mathlib.Core.Bool.{Bool, true, false, cond}

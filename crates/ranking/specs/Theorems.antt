@@ -10,7 +10,7 @@ use Rattle.ranking.specs.Mean.{mean}
 abbrev pub distance : ℤ → ℕ → ℤ → ℕ
 distance score T m = natAbs (score -ℤ (pos T *ℤ m))
 
--- twice the distance between score and T × m is at most T, and m is even where it equals T
+-- twice the distance between score and T × m is at most T, and m is even where that is exactly T
 pub record IsNearest (score : ℤ) (T : ℕ) (m : ℤ) : Type 0 where
   pub within-half : 2 * distance score T m ≤ T
   pub even-at-half : 2 * distance score T m ≡ T → natAbs m % 2 ≡ 0

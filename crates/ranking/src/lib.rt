@@ -5,7 +5,7 @@ ghost use lib.IntN.{natAbs};
 ghost use Rattle.ranking.specs.Mean.{withSign, meanOf, meanAnswer};
 use call::Refusal;
 
-// A mean may be negative, so it has an answer of its own.
+// A mean may be negative, so that it has an answer of its own.
 pub enum MeanScore {
     Value(i32),
     Refused(Refusal),
@@ -14,8 +14,8 @@ pub enum MeanScore {
 // The most frames that are decoded.
 pub const FRAMES: u32 = 1000;
 
-// The number without its sign, which for the lowest is no i32.
-fn magnitude(x: i32) -> u32
+// A number without its sign, which for the lowest i32 is no i32.
+fn without_sign(x: i32) -> u32
     ensures { λ r. ⌜ r ≡ natAbs x ⌝ }
 {
     if x < 0 {
@@ -24,7 +24,7 @@ fn magnitude(x: i32) -> u32
     x as u32
 }
 
-// A number with the sign of x. The minus sign is put on in 64 bits: 2^31, which is no i32, has it too.
+// A number with the sign of x. The minus sign is put on in 64 bits, since 2^31 is no i32 and -2^31 is one.
 fn with_sign(x: i32, number: u32) -> i32
     requires { ⌜ number ≤ natAbs x ⌝ }
     ensures { λ r. ⌜ r ≡ withSign x number ⌝ }
@@ -45,7 +45,7 @@ pub fn mean(score: i32, frames: u32) -> MeanScore
     if FRAMES < frames {
         return MeanScore::Refused(Refusal::Frames);
     }
-    let number = magnitude(score);
+    let number = without_sign(score);
     let quotient = number / frames;
     // 1 more tips an exact half only, and there an odd quotient gives way to the next number
     let odd = quotient % 2;

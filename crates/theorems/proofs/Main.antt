@@ -206,7 +206,7 @@ unpacking-undoes b = packing-theorems b .pack-unpack
 pack-calls-undo : CodesComeBack × BytesComeBack
 pack-calls-undo = (codes-come-back, bytes-come-back)
 
--- m is the mean exactly if twice the distance between score and T × m is at most T, and m is even where it equals T.
+-- m is the mean exactly if twice the distance between score and T × m is at most T, and m is even where that is T.
 mean-nearest : (score : ℤ) (T : ℕ) → 1 ≤ T → (m : ℤ)
     → (m ≡ mean score T)
     ↔ ((2 * natAbs (score -ℤ (pos T *ℤ m)) ≤ T) × (2 * natAbs (score -ℤ (pos T *ℤ m)) ≡ T → natAbs m % 2 ≡ 0))

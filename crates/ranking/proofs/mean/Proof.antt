@@ -36,7 +36,7 @@ returns-3 : tie.Need-returns-3
 unfolding meanAnswer badFrameCount unless
 returns-3 c =
     let s = c .before .before .before .before .before in
-    let k = c .before .before .magnitude in
+    let k = c .before .before .without-sign in
     rw (inside 1 1000 (s .args .frames) (omega arith) (omega arith))
     (ap value
     (answered (s .args .frames) (c .with-sign .ok)
@@ -47,40 +47,40 @@ returns-4 : tie.Need-returns-4
 unfolding meanAnswer badFrameCount unless
 returns-4 c =
     let s = c .before .before .before .before .before in
-    let k = c .before .before .magnitude in
+    let k = c .before .before .without-sign in
     rw (inside 1 1000 (s .args .frames) (omega arith) (omega arith))
     (ap value
     (answered (s .args .frames) (c .with-sign2 .ok)
     (c .with-sign2 .ensures ∙ mean-quotient _ _ (k .result) (k .ensures) (c .before .if3 .left))
     (toZ-ofZ (s .fits .score))))
 
--- ---- what fits: the quotient leaves less than 1,000 and is odd by 0 or 1, and the next number is no larger than the
--- score's
+-- ---- what fits: the quotient leaves less than 1,000 and is odd by 0 or 1, and the next number does not run past the
+-- score without its sign
 
 mul-if3 : tie.Need-mul-if3
 mul-if3 c =
     let T = c .before .before .before .args .frames in
-    record { fits = omega (arith, mod-lt (c .magnitude .result) {m = T} (omega arith)) }
+    record { fits = omega (arith, mod-lt (c .without-sign .result) {m = T} (omega arith)) }
 
 add-if3 : tie.Need-add-if3
 add-if3 c =
     let T = c .before .before .before .args .frames in
-    let k = c .magnitude .result in
+    let k = c .without-sign .result in
     record { fits = omega (arith, mod-lt k {m = T} (omega arith), mod-lt (k / T) {m = 2} (omega arith)) }
 
 with-sign-requires : tie.Need-with-sign-requires
 with-sign-requires c κs =
-    let m = c .before .magnitude in
+    let m = c .before .without-sign in
     omega (arith, m .ensures, next-range (m .result) _ (c .if3 .taken))
 
 add-with-sign : tie.Need-add-with-sign
 add-with-sign c =
-    let m = c .before .magnitude in
+    let m = c .before .without-sign in
     record { fits = omega (arith, m .ok, next-range (m .result) _ (c .if3 .taken)) }
 
 with-sign-requires-2 : tie.Need-with-sign-requires-2
 with-sign-requires-2 c κs =
-    let m = c .before .magnitude in
+    let m = c .before .without-sign in
     omega (arith, m .ensures, div-le-self (m .result) (c .before .before .before .before .args .frames))
 
 pub mean-spec : {M : Type 1} → statement M

@@ -1,4 +1,4 @@
--- `ranking::magnitude` meets its contract: -1 - x fits for every negative x, and x without its sign is 1 more.
+-- `ranking::without_sign` meets its contract: -1 - x fits for every negative x, and x without its sign is 1 more.
 -- Assumes nothing.
 use Prim.Native.Nat.{_+_}
 use mathlib.Core.Path.{_≡_, sym, ap, _∙_}
@@ -11,8 +11,8 @@ use mir.Val.{toZ, ofZ}
 use mir.Facts.{toZ-ofZ}
 use borrow.Author.Needs.{needs}
 use Rattle.endian.proofs.Signed.{flip-fits, flip-is, is-neg, is-pos}
-use Rattle.ranking.proofs.magnitude.Statement.{statement}
-use Rattle.ranking.proofs.magnitude.Tie as tie
+use Rattle.ranking.proofs.without_sign.Statement.{statement}
+use Rattle.ranking.proofs.without_sign.Tie as tie
 
 -- x is negative
 module _ (c : tie.Then1) where
@@ -37,12 +37,12 @@ add-result c = rw (flipped c) (record { fits = omega (arith, c .before .fits .x 
 returns : tie.Need-returns
 returns c = rw (flipped c) (one-more c)
 
--- x is not
+-- x is not negative
 positive : (c : tie.Else1) → toZ w32 (ofZ w32 (c .before .args .x)) ≡ pos (mag (c .before .args .x))
 positive c = toZ-ofZ (c .before .fits .x) ∙ is-pos w32 (c .before .args .x) (c .before .fits .x) (c .if1 .left)
 
 cast-result-2 : tie.Need-cast-result-2
 cast-result-2 c = rw (positive c) (tt, record { fits = omega (arith, c .before .fits .x .sfits) })
 
-pub magnitude-spec : {M : Type 1} → statement M
-magnitude-spec = tie.close (tie.spec sub-result cast-result add-result returns cast-result-2 (λ c. search needs))
+pub without-sign-spec : {M : Type 1} → statement M
+without-sign-spec = tie.close (tie.spec sub-result cast-result add-result returns cast-result-2 (λ c. search needs))
