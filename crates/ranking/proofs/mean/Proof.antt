@@ -1,7 +1,7 @@
 -- `ranking::mean` meets its contract: a comparison chooses between the quotient and the next number, of the score
 -- without its sign. Assumes nothing.
 use mathlib.Core.Path.{_≡_, ap, _∙_}
-use Prim.Native.Nat.{ℕ, _/_, _^_, _<_}
+use Prim.Native.Nat.{ℕ, _/_, _^_, _≤_, _<_}
 use native.Mathlib.Nat.{mod-lt, div-le-self}
 use native.Mathlib.Omega.{arith}
 use lib.IntN.{ℤ}
@@ -28,31 +28,28 @@ returns-2 : tie.Need-returns-2
 unfolding meanAnswer badFrameCount unless
 returns-2 c = rw (above 1 1000 (c .before .before .args .frames) (omega arith))
 
--- the number that is answered, of the score as it is handed on
-answered : (T : ℕ) {r z score : ℤ} → mag r < 2 ^ 31 → r ≡ mean z T → z ≡ score → toZ w32 (ofZ w32 r) ≡ mean score T
-answered T h e f = toZ-ofZ (record { sfits = h }) ∙ e ∙ ap (λ (z : ℤ). mean z T) f
+-- where T is in range: r, which is the mean of the score as it is handed on
+answered : (T : ℕ) {r z score : ℤ} → 1 ≤ T → T ≤ 1000 → mag r < 2 ^ 31 → r ≡ mean z T → z ≡ score
+    → value (toZ w32 (ofZ w32 r)) ≡ meanAnswer score T
+unfolding meanAnswer badFrameCount unless
+answered T some few fit e f =
+    rw (inside 1 1000 T some few) (ap value (toZ-ofZ (record { sfits = fit }) ∙ e ∙ ap (λ (z : ℤ). mean z T) f))
 
 returns-3 : tie.Need-returns-3
-unfolding meanAnswer badFrameCount unless
 returns-3 c =
     let s = c .before .before .before .before .before in
     let k = c .before .before .without-sign in
-    rw (inside 1 1000 (s .args .frames) (omega arith) (omega arith))
-    (ap value
-    (answered (s .args .frames) (c .with-sign .ok)
+    answered (s .args .frames) (omega arith) (omega arith) (c .with-sign .ok)
     (c .with-sign .ensures ∙ mean-next _ _ (k .result) (k .ensures) (c .before .if3 .taken))
-    (toZ-ofZ (s .fits .score))))
+    (toZ-ofZ (s .fits .score))
 
 returns-4 : tie.Need-returns-4
-unfolding meanAnswer badFrameCount unless
 returns-4 c =
     let s = c .before .before .before .before .before in
     let k = c .before .before .without-sign in
-    rw (inside 1 1000 (s .args .frames) (omega arith) (omega arith))
-    (ap value
-    (answered (s .args .frames) (c .with-sign2 .ok)
+    answered (s .args .frames) (omega arith) (omega arith) (c .with-sign2 .ok)
     (c .with-sign2 .ensures ∙ mean-quotient _ _ (k .result) (k .ensures) (c .before .if3 .left))
-    (toZ-ofZ (s .fits .score))))
+    (toZ-ofZ (s .fits .score))
 
 -- ---- what fits: the quotient leaves less than 1,000 and is odd by 0 or 1, and the next number does not run past the
 -- score without its sign
