@@ -1,19 +1,23 @@
--- Where the scores of a well-formed voice model stand: loops and steps, the link and the emissions are inside it. Read off its fields, each of
+-- Where the scores of a well-formed voice model stand: loops and steps, links and emissions are inside it. Read off its fields, each of
 -- which is there, and the last of which ends at its length. Assumes nothing.
 use Prim.Native.Nat.{ℕ, zero, suc, _+_, _*_, _≤_, _<_}
 use mathlib.Core.Path.{_≡_, refl}
 use mathlib.Core.Bool.{true}
+use mathlib.Core.Logic.{_⊎_, inl, inr, ⊎-elim}
 use mathlib.Core.List.{List, [], _∷_, _++_, flatMap, List·Memᴰ, Memᴰ·append-left, Memᴰ·append-right, List·Memᴰ·head as here, List·Memᴰ·tail as there}
 use native.Mathlib.Omega.{arith}
 use native.Mathlib.Decide.{decLt}
 use native.Mathlib.Nat.{mul-le-mul-right, suc-mul}
-use borrow.Author.Tests.{eqb-true}
+use borrow.Author.Tests.{eqb-true, eqb-false}
 use lib.ListN.{length}
 use lib.Dec.{eqb}
 use Rattle.endian.specs.Lists.{within, from}
+use Rattle.endian.proofs.Booleans.{cond-cases, or-cases}
 use Rattle.endian.proofs.Ranges.{bounds}
 use Rattle.voice.specs.Fields.{Field, field, wellFormed}
-use Rattle.voice.specs.Voice.{letterCount, states, firstState, statesAt, stateCount, linksAt, linkCount, symbolsAt, symbolCount, letterFields, stateFields, voiceFields, voiceVerdict}
+use Rattle.voice.specs.Voice.{letterCount, states, firstState, statesAt, stateCount, linksAt, linkCount, linkIndex}
+use Rattle.voice.specs.Voice.{symbolsAt, symbolCount, oneOrEach, letterFields, stateFields, voiceFields}
+use Rattle.voice.specs.Voice.{voiceVerdict}
 use Rattle.voice.proofs.Fields.{Good, well-formed-says}
 use Rattle.voice.proofs.Tiling.{firstState-suc}
 
@@ -38,7 +42,7 @@ module _ (v : List ℕ) (accepted : voiceVerdict v ≡ wellFormed) where
 
   abbrev last : List Field
   last =
-      field (linksAt v) 1 (eqb (linkCount v) 1)
+      field (linksAt v) 1 (oneOrEach (letterCount v) (linkCount v))
       ∷ field (linksAt v + 1) (2 * linkCount v) true
       ∷ field (symbolsAt v) 1 (within 1 64 (symbolCount v))
       ∷ field (symbolsAt v + 1) (2 * (stateCount v * symbolCount v)) true
@@ -66,13 +70,23 @@ module _ (v : List ℕ) (accepted : voiceVerdict v ≡ wellFormed) where
   pub state-known : {l s : ℕ} → l < letterCount v → s < states v l → firstState v l + s < stateCount v
   state-known {l} h k = omega (arith, states-end v {l = l} {m = letterCount v} h, states-sum)
 
-  one-link : linkCount v ≡ 1
-  one-link = eqb-true _ _ (last-good (here refl) .inRange)
+  -- one link score for all letters, or one for each
+  one-or-each : (linkCount v ≡ 1) ⊎ (linkCount v ≡ letterCount v)
+  unfolding oneOrEach
+  one-or-each = ⊎-elim (λ h. inl (eqb-true _ _ h)) (λ h. inr (eqb-true _ _ h))
+      (or-cases (eqb (linkCount v) 1) (eqb (linkCount v) (letterCount v)) (last-good (here refl) .inRange))
 
-  -- the section Symbols comes after one link score
-  pub symbols-at : symbolsAt v ≡ linksAt v + 3
-  unfolding symbolsAt
-  symbols-at = omega (arith, one-link)
+  -- the number of links stands inside the model
+  pub links-there : linksAt v < length v
+  links-there = omega (arith, last-good (here refl) .there)
+
+  -- the link of a letter stands inside the model
+  pub link-there : {l : ℕ} → l < letterCount v → linksAt v + 1 + 2 * linkIndex v l + 2 ≤ length v
+  unfolding linkIndex
+  link-there {l} h = cond-cases (λ (i : ℕ). linksAt v + 1 + 2 * i + 2 ≤ length v) (eqb (linkCount v) 1) 0 l
+      (λ e. omega (arith, eqb-true (linkCount v) 1 e, last-good (there (here refl)) .there))
+      (λ e. ⊎-elim (λ one. absurd (eqb-false (linkCount v) 1 e one))
+      (λ each. omega (arith, each, last-good (there (here refl)) .there)) one-or-each)
 
   -- the number of symbols stands inside the model
   pub symbols-there : symbolsAt v < length v
@@ -84,7 +98,7 @@ module _ (v : List ℕ) (accepted : voiceVerdict v ≡ wellFormed) where
   -- loop and step of a state stand inside the model
   pub pair-there : {s : ℕ} → s < stateCount v → statesAt v + 2 + 4 * s + 4 ≤ length v
   unfolding linksAt
-  pair-there h = omega (arith, symbols-at, symbols-there)
+  pair-there h = omega (arith, links-there)
 
   -- the emission of symbol k in state s stands inside the model
   pub emission-there : {s k : ℕ} → s < stateCount v → k < symbolCount v → symbolsAt v + 1 + 2 * (s * symbolCount v + k) + 2 ≤ length v

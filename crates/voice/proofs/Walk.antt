@@ -19,7 +19,9 @@ use Rattle.endian.specs.Bytes.{u8, u16}
 use Rattle.endian.proofs.Lists.{mem-flatMap, from-in}
 use Rattle.endian.proofs.Ranges.{bounds}
 use Rattle.voice.specs.Fields.{Field, field, end, Verdict, wellFormed, wrongLength, outOfRange, verdictOf, verdict}
-use Rattle.voice.specs.Voice.{letterCount, printByte, states, firstState, statesAt, stateCount, linksAt, linkCount, symbolsAt, symbolCount, rising, letterFields, stateFields, voiceFields, voiceVerdict}
+use Rattle.voice.specs.Voice.{letterCount, printByte, states, firstState, statesAt, stateCount, linksAt, linkCount}
+use Rattle.voice.specs.Voice.{symbolsAt, symbolCount, rising, oneOrEach, letterFields, stateFields, voiceFields}
+use Rattle.voice.specs.Voice.{voiceVerdict}
 use Rattle.voice.specs.Sections.{fieldVerdict, andThen, firstBad, lettersPart, statesPart, lastPart}
 use Rattle.voice.specs.declared.Verdict as declared
 use Rattle.voice.specs.declared.Verdict.the-variants.{WellFormed, WrongLength, OutOfRange}
@@ -109,16 +111,6 @@ module _ (len : ℕ) where
       verdict-cons done g (l ++ f ∷ m)
       ∙ rw (verdict-then (end g) before l f m) (sym (then-assoc (fieldVerdict len (end g) (g .inRange)) (firstBad len l) (verdict len before (f ∷ m))))
 
-  -- what follows a field matters only where the field is in its range
-  then-same : (e : ℕ) (b : Bool) {x y : Verdict} → (b ≡ true → x ≡ y) → andThen (fieldVerdict len e b) x ≡ andThen (fieldVerdict len e b) y
-  unfolding fieldVerdict andThen
-  then-same e true h = ap (andThen (fieldVerdict len e true)) (h refl)
-  then-same e false {x} {y} h = go (leb e len)
-    where
-      go : (t : Bool) → andThen (cond t outOfRange wrongLength) x ≡ andThen (cond t outOfRange wrongLength) y
-      go true = refl
-      go false = refl
-
   -- scores that end the image
   verdict-last : (done at size : ℕ) → verdict len done (field at size true ∷ []) ≡ cond (eqb (at + size) len) wellFormed wrongLength
   unfolding verdict
@@ -183,19 +175,16 @@ module _ (v : List ℕ) where
       rw (lt-ltb 0 (suc n) (omega arith), letter-states (suc s) (suc n) last done (omega arith) (omega arith) q, ← then-good (fieldVerdict (length v) done (eqb (u16 v last) 0)))
       (ap (andThen (fieldVerdict (length v) (statesAt v + 2 + 4 * s + 2) true)) (free-field (length v) _ _ _ wellFormed (omega arith)) ∙ free-field (length v) _ _ _ wellFormed (omega arith))
 
-  -- links and symbols: the number of links is 1, else it is bad
+  -- links and symbols: the link scores need not be judged, since K stands behind them
   pub last-first : (done : ℕ) → verdict (length v) done (lastPart v)
-      ≡ andThen (fieldVerdict (length v) (linksAt v + 1) (eqb (linkCount v) 1))
-      (andThen (fieldVerdict (length v) (linksAt v + 4) (within 1 64 (u8 v (linksAt v + 3))))
-      (cond (eqb (linksAt v + 4 + 2 * (stateCount v * u8 v (linksAt v + 3))) (length v)) wellFormed wrongLength))
-  unfolding lastPart linkCount symbolsAt symbolCount
+      ≡ andThen (fieldVerdict (length v) (linksAt v + 1) (oneOrEach (letterCount v) (linkCount v)))
+      (andThen (fieldVerdict (length v) (symbolsAt v + 1) (within 1 64 (symbolCount v)))
+      (cond (eqb (symbolsAt v + 1 + 2 * (stateCount v * symbolCount v)) (length v)) wellFormed wrongLength))
+  unfolding lastPart symbolsAt
   last-first done =
-      verdict-cons (length v) done _ _
-      ∙ then-same (length v) (linksAt v + 1) (eqb (linkCount v) 1) (λ h.
-      let one = eqb-true (linkCount v) 1 h in
-      let e : symbolsAt v ≡ linksAt v + 3 = omega arith in
-      let e′ : linksAt v + 3 + 1 ≡ linksAt v + 4 = omega arith in
-      rw (verdict-cons (length v), verdict-cons (length v), verdict-last (length v)) (free-field (length v) _ _ _ _ (omega arith) ∙ rw (e, e′)))
+      rw (verdict-cons (length v), verdict-cons (length v), verdict-cons (length v), verdict-last (length v))
+      (ap (andThen (fieldVerdict (length v) (linksAt v + 1) (oneOrEach (letterCount v) (linkCount v))))
+      (free-field (length v) _ _ _ _ (omega arith)))
 
   -- the print bytes before and at i are compared
   pub rising-after : (i : ℕ) → (i ≡ 0 → ⊥) → rising v i ≡ ltb (u8 v (2 * i - 1)) (u8 v (1 + 2 * i))

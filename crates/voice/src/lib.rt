@@ -6,7 +6,8 @@ ghost use lib.ListN.{length};
 ghost use Rattle.endian.specs.Lists.{within};
 ghost use Rattle.endian.specs.Bytes.{u8};
 ghost use Rattle.voice.specs.Fields.{wellFormed, verdictOf, verdict};
-ghost use Rattle.voice.specs.Voice.{printByte, rising, letterFields, linksAt, voiceRefusal, voiceRefused};
+ghost use Rattle.voice.specs.Voice.{letterCount, printByte, rising, letterFields, linksAt, oneOrEach};
+ghost use Rattle.voice.specs.Voice.{voiceRefusal, voiceRefused};
 ghost use Rattle.voice.specs.Sections.{fieldVerdict, firstBad, lettersPart, statesPart, lastPart};
 use call::inside;
 use endian::u16_at;
@@ -112,23 +113,37 @@ fn judge_states(voice: &[u8]) -> Verdict
     Verdict::WellFormed
 }
 
-// Links and symbols. The link score has no range, so it is judged with K behind it; the emissions have none, so only the image's length is left.
+// One link score for all letters, or one for each.
+fn good_link_count(voice: &[u8], count: u8) -> bool
+    ensures { λ r. ⌜ r ≡ oneOrEach (letterCount (now (voice .entry))) count ⌝ }
+{
+    if count == 1 {
+        return true;
+    }
+    count == byte_at(voice, 0)
+}
+
+// Links and symbols. The link scores have no range, so they are judged with K behind them; the emissions have none, so
+// only the image's length is left.
 fn judge_last(voice: &[u8]) -> Verdict
-    ensures { λ r. ⌜ verdictOf r ≡ verdict (length (now (voice .entry))) (linksAt (now (voice .entry))) (lastPart (now (voice .entry))) ⌝ }
+    ensures { λ r. ⌜ verdictOf r ≡ verdict (length (now (voice .entry))) (linksAt (now (voice .entry)))
+        (lastPart (now (voice .entry))) ⌝ }
 {
     let states_at = 1 + 2 * (byte_at(voice, 0) as usize);
     let states = u16_at(voice, states_at) as usize;
     let at = states_at + 2 + 4 * states;
-    let links = judge_field(voice.len(), at + 1, byte_at(voice, at) == 1);
+    let count = byte_at(voice, at);
+    let links = judge_field(voice.len(), at + 1, good_link_count(voice, count));
     let Verdict::WellFormed = links else {
         return links;
     };
-    let symbols = byte_at(voice, at + 3);
-    let count = judge_field(voice.len(), at + 4, inside(symbols as usize, 1, 64));
-    let Verdict::WellFormed = count else {
-        return count;
+    let symbols_at = at + 1 + 2 * (count as usize);
+    let symbols = byte_at(voice, symbols_at);
+    let known = judge_field(voice.len(), symbols_at + 1, inside(symbols as usize, 1, 64));
+    let Verdict::WellFormed = known else {
+        return known;
     };
-    if at + 4 + 2 * (states * (symbols as usize)) == voice.len() {
+    if symbols_at + 1 + 2 * (states * (symbols as usize)) == voice.len() {
         return Verdict::WellFormed;
     }
     Verdict::WrongLength
