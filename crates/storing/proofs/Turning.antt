@@ -26,6 +26,7 @@ use Rattle.passing.proofs.Best.{best-from}
 use Rattle.passing.proofs.InPlace.{renew-apart, pass-other, node-own, node-other}
 use Rattle.storing.specs.Slots.{slots}
 use Rattle.storing.specs.Held.{held}
+use Rattle.storing.specs.Gains.{linkNumber}
 use Rattle.storing.specs.Places.{firstSlot, firstIn}
 use Rattle.storing.specs.Stored.{Bound, Place, Stored, source, PassingOn, PassedOn, passedOn, Turn, TurnDone}
 use Rattle.storing.specs.Stored.{turned}
@@ -58,8 +59,8 @@ module _ (v : List ℕ) (g : Graph) (P : Store) (k u M : ℕ) where
       (λ j. carried-bound M u u 0 _ (P u s) (step-small s) (λ h j. f s h (omega arith) j) (omega arith) j)
       (append-cases _ i)
 
-module _ {v x : List ℕ} {n : ℕ} {vertices gains : List (List ℕ)} {link w : ℕ} {b : List ℕ}
-    (t : Turn v x n vertices gains link w b) where
+module _ {v x : List ℕ} {n : ℕ} {vertices gains : List (List ℕ)} {links : List ℕ} {w : ℕ} {b : List ℕ}
+    (t : Turn v x n vertices gains links w b) where
   abbrev g : Graph
   g = graphOf x
 
@@ -124,13 +125,14 @@ module _ {v x : List ℕ} {n : ℕ} {vertices gains : List (List ℕ)} {link w :
   last-apart {u} l h = rw (at-end .slot)
       (block n (omega (arith, at-end .place .state, place-end v g {u = w} {w = u} (t .low) l)))
 
-  pub passing-on : PassingOn x n vertices link w false (firstIn vertices (w + 1) - n) b
-  unfolding linkScore source
+  -- what its arcs score: the link of its own letter
+  pub passing-on : PassingOn x n vertices (getD links letter 0) w false (firstIn vertices (w + 1) - n) b
+  unfolding linkScore nodeLetter linkNumber source
   passing-on = record {
     v = v;
     k = t .k;
     M = t .M;
-    score = possible (linkScore v 0);
+    score = possible (linkScore v (nodeLetter x w));
     l = old;
     Q = t .P;
     ready = t .ready;
@@ -138,10 +140,10 @@ module _ {v x : List ℕ} {n : ℕ} {vertices gains : List (List ℕ)} {link w :
     vertex = t .high;
     root-is = λ e. absurd (false≢true e);
     emissions = t .emissions;
-    moved = linkScore v 0;
+    moved = linkScore v (nodeLetter x w);
     score-is = refl;
     small = i16-range v _;
-    link-is = t .link-is;
+    link-is = t .linked .link letter (known (t .ready) (t .low) (t .high));
     given = old-slots;
     inside = λ z. at-end .room;
     apart = λ z l h. last-apart l h;

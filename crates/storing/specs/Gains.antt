@@ -10,8 +10,8 @@ use lib.Signed.{mag}
 use lib.ListN.{length, getD}
 use lib.Dec.{ltb}
 use Rattle.voice.specs.Fields.{wellFormed}
-use Rattle.voice.specs.Voice.{letterCount, states, firstState, loopScore, stepScore, symbolCount, impossible, emission}
-use Rattle.voice.specs.Voice.{voiceVerdict}
+use Rattle.voice.specs.Voice.{letterCount, states, firstState, loopScore, stepScore, linkScore, symbolCount, impossible}
+use Rattle.voice.specs.Voice.{emission, voiceVerdict}
 use Rattle.lexicon.specs.Lexicon.{nodeCount, nodeLetter}
 use Rattle.decoder.specs.Score.{bias, numberOf, possible, plus}
 
@@ -53,6 +53,10 @@ loopNumber v l s = numberOf (possible (loopScore v (firstState v l + s)))
 
 unfoldable pub stepNumber : List ℕ → ℕ → ℕ → ℕ
 stepNumber v l s = numberOf (possible (stepScore v (firstState v l + s)))
+
+-- the number of the link that is taken where a letter is left
+unfoldable pub linkNumber : List ℕ → ℕ → ℕ
+linkNumber v l = numberOf (possible (linkScore v l))
 
 -- ---- at a frame of symbol k
 
@@ -113,6 +117,11 @@ pub record LetterTable (v : List ℕ) (n : ℕ) (letters : List (List ℕ)) : Ty
 pub record NodeLetters (v x : List ℕ) (n : ℕ) (letters : List (List ℕ)) : Type 0 where
   pub table : LetterTable v n letters
   pub all : (u : ℕ) → 1 ≤ u → u ≤ nodeCount x → HasRow letters n (nodeLetter x u)
+
+-- the links of the first n letters, by letter
+pub record LinkTable (v : List ℕ) (n : ℕ) (links : List ℕ) : Type 0 where
+  pub long : length links ≡ 64
+  pub link : (l : ℕ) → l < n → getD links l 0 ≡ linkNumber v l
 
 -- the gains of one letter at a frame of symbol k, and the emission of its first state
 pub record GainRow (v : List ℕ) (k l : ℕ) (row : List ℕ) : Type 0 where

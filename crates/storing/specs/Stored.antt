@@ -8,7 +8,7 @@ use mathlib.Core.Option.{Option}
 use lib.IntN.{ℤ, pos, natAbs}
 use lib.Signed.{mag}
 use lib.ListN.{length}
-use Rattle.voice.specs.Voice.{states, linkScore}
+use Rattle.voice.specs.Voice.{letterCount, states}
 use Rattle.lexicon.specs.Lexicon.{nodeCount, nodeLetter, sinkOf, arcsAt, successors}
 use Rattle.graph.specs.Graph.{Graph, graphOf, sink, pathCount, wordCount}
 use Rattle.graph.specs.Conditions.{placeCount}
@@ -20,7 +20,7 @@ use Rattle.passing.specs.InPlace.{passOn, passNode}
 use Rattle.storing.specs.Slots.{slots, PlaceRoom}
 use Rattle.storing.specs.Held.{held}
 use Rattle.storing.specs.Places.{firstPlace, firstSlot, arcsIn, pathsIn, firstIn, emissionIn, VertexRows}
-use Rattle.storing.specs.Gains.{MoveGains, entryNumber}
+use Rattle.storing.specs.Gains.{MoveGains, entryNumber, LinkTable}
 
 -- accepted images, and the table of their vertices, as far as it stays for the whole call; the first slots are those of
 -- n tokens a place, and the sink is never entered
@@ -118,7 +118,8 @@ pub record PassedOn {x : List ℕ} {n : ℕ} {vertices : List (List ℕ)} {link 
 
 -- ---- a node's turn
 
-pub record Turn (v x : List ℕ) (n : ℕ) (vertices gains : List (List ℕ)) (link w : ℕ) (b : List ℕ) : Type 0 where
+pub record Turn (v x : List ℕ) (n : ℕ) (vertices gains : List (List ℕ)) (links : List ℕ) (w : ℕ) (b : List ℕ) : Type 0
+    where
   pub k : ℕ
   pub M : ℕ
   pub P : Store
@@ -128,18 +129,18 @@ pub record Turn (v x : List ℕ) (n : ℕ) (vertices gains : List (List ℕ)) (l
   pub high : w ≤ nodeCount x
   pub moves : MoveGains v x k gains
   pub emissions : NodeEmissions v x k vertices
-  pub link-is : link ≡ numberOf (possible (linkScore v 0))
+  pub linked : LinkTable v (letterCount v) links
   pub stored : Stored v (graphOf x) n P b
   pub within : Within v (graphOf x) w M P
   pub fits : M + frameLimit ≤ reach
 
 -- the store after it
-unfoldable pub turned : {v x : List ℕ} {n : ℕ} {vertices gains : List (List ℕ)} {link w : ℕ} {b : List ℕ}
-    → Turn v x n vertices gains link w b → Store
+unfoldable pub turned : {v x : List ℕ} {n : ℕ} {vertices gains : List (List ℕ)} {links : List ℕ} {w : ℕ} {b : List ℕ}
+    → Turn v x n vertices gains links w b → Store
 turned {v} {x} {n} {w = w} t = passNode v (graphOf x) n (t .k) w (t .P)
 
-pub record TurnDone {v x : List ℕ} {n : ℕ} {vertices gains : List (List ℕ)} {link w : ℕ} {b : List ℕ}
-    (t : Turn v x n vertices gains link w b) (b′ : List ℕ) : Type 0 where
+pub record TurnDone {v x : List ℕ} {n : ℕ} {vertices gains : List (List ℕ)} {links : List ℕ} {w : ℕ} {b : List ℕ}
+    (t : Turn v x n vertices gains links w b) (b′ : List ℕ) : Type 0 where
   pub stored : Stored v (graphOf x) n (turned t) b′
   pub within : Within v (graphOf x) (w - 1) (t .M) (turned t)
   pub long : length b′ ≡ length b
