@@ -17,7 +17,7 @@ use Rattle.endian.proofs.Booleans.{or-none}
 use Rattle.endian.proofs.Ranges.{bounds}
 use Rattle.call.specs.Limits.{badFrameCount}
 use Rattle.call.proofs.Table.{none-says}
-use Rattle.voice.specs.Voice.{letterCount, symbolCount, linkScore, impossible}
+use Rattle.voice.specs.Voice.{letterCount, symbolCount, impossible}
 use Rattle.lexicon.specs.Lexicon.{nodeCount}
 use Rattle.graph.specs.Graph.{graphOf, sink, wordCount}
 use Rattle.graph.proofs.Sound.{Sound, sound}
@@ -31,16 +31,16 @@ use Rattle.passing.specs.InPlace.{passNode, passDown, passRoot}
 use Rattle.passing.proofs.InPlace.{first-frame, next-frame}
 use Rattle.passing.proofs.Bounds.{token-bounded}
 use Rattle.storing.specs.Slots.{slots}
-use Rattle.storing.specs.Gains.{GainsRoom, Gained, MoveGains, KnownSymbol}
+use Rattle.storing.specs.Gains.{LinkTable, GainsRoom, Gained, MoveGains, KnownSymbol}
 use Rattle.storing.specs.Places.{NodesRead, EmissionsPut}
 use Rattle.storing.specs.Stored.{VertexTable, NodeEmissions, StoreRoom, Bound, Stored, Within, source, PassingOn}
 use Rattle.storing.specs.Stored.{passedOn, PassedOn, Turn, turned, TurnDone}
 use Rattle.storing.proofs.Held.{held-none}
-use Rattle.storing.proofs.Filling.{gains-room, entry-gains}
+use Rattle.storing.proofs.Filling.{gains-room, entry-gains, move-gains}
 use Rattle.storing.proofs.Storing.{stored-ext}
 use Rattle.storing.proofs.PassingOn.{lexicon-formed, letter-few}
 use Rattle.search.specs.declared.frames.Numbers.{Numbers}
-use Rattle.search.specs.Running.{Empty, Run, StoredAt, CallNumbers, FrameTables, FrameHeld, FramesDone}
+use Rattle.search.specs.Running.{Empty, Run, StoredAt, CallNumbers, FrameTables, Frame, FrameHeld, FramesDone}
 
 -- ---- stores
 
@@ -168,10 +168,10 @@ module _ {v x frames : List ℕ} {n : ℕ} {vertices : List (List ℕ)} {b₀ : 
   one-turn (suc m) Q h = let e : suc m - 1 ≡ m = omega arith in rw e
 
   module _ (h : suc t < length frames) {gains : List (List ℕ)} (moves : MoveGains v x (getD frames (suc t) 0) gains)
-      (emissions : NodeEmissions v x (getD frames (suc t) 0) vertices) {link : ℕ}
-      (is : link ≡ numberOf (possible (linkScore v 0))) {m : ℕ} {b : List ℕ} (k : 1 ≤ m)
+      (emissions : NodeEmissions v x (getD frames (suc t) 0) vertices) {links : List ℕ}
+      (linked : LinkTable v (letterCount v) links) {m : ℕ} {b : List ℕ} (k : 1 ≤ m)
       (d : TurnsLeft v x frames n t m b₀ b) where
-    unfoldable pub turn-next : Turn v x n vertices gains link m b
+    unfoldable pub turn-next : Turn v x n vertices gains links m b
     turn-next = record {
       k = getD frames (suc t) 0;
       M = frameLimit * suc t;
@@ -182,13 +182,13 @@ module _ {v x frames : List ℕ} {n : ℕ} {vertices : List (List ℕ)} {b₀ : 
       high = d .low;
       moves = moves;
       emissions = emissions;
-      link-is = is;
+      linked = linked;
       stored = d .stored;
       within = d .within;
       fits = omega (arith, frame-count v frames (r .accepted));
     }
 
-    pub turns-next : {b′ : List ℕ} → ((T : Turn v x n vertices gains link m b) → TurnDone T b′)
+    pub turns-next : {b′ : List ℕ} → ((T : Turn v x n vertices gains links m b) → TurnDone T b′)
         → TurnsLeft v x frames n t (m - 1) b₀ b′
     unfolding turn-next turned
     turns-next f = let e = f turn-next in record {
@@ -208,31 +208,78 @@ module _ {v x frames : List ℕ} {n : ℕ} {vertices : List (List ℕ)} {b₀ : 
       ap (λ j. passDown v (graphOf x) n (getD frames (suc t) 0) j (d .Q)) (sym z) ∙ d .left in
       stored-ext (d .stored) (λ u s p. sym (ap (λ (P : Store). P u s) e ∙ next-frame v (sound-run r) frames n u s t (p .low) (p .high) (p .state)))
 
+-- ---- one frame
+
+module _ {v x : List ℕ} {t n nodes : ℕ} {vertices gains : List (List ℕ)} {links b₀ : List ℕ}
+    (f : Frame v x t n nodes vertices gains links b₀) where
+  -- the first: the root's token enters
+  module _ (z : t ≡ 0) where
+    pub first-emissions : NodeEmissions v x (getD (f .frames) 0 0) vertices
+    first-emissions = rw z at (f .emissions)
+
+    unfoldable pub entering : PassingOn x n vertices bias 0 true 0 b₀
+    entering = root-passing (f .run) (f .empty z) first-emissions
+
+    pub entered : {b : List ℕ} → PassedOn entering b → StoredAt v x (f .frames) n t b
+    unfolding entering
+    entered d = rw z (root-stored (f .run) (f .empty z) first-emissions d)
+
+  -- a later one: turn by turn
+  module _ (l : ¬ (t ≡ 0)) where
+    after : suc (t - 1) ≡ t
+    after = omega (arith, l)
+
+    inside : suc (t - 1) < length (f .frames)
+    inside = rw after (f .inside)
+
+    moves : MoveGains v x (getD (f .frames) (suc (t - 1)) 0) gains
+    moves = rw after (f .moves)
+
+    emissions : NodeEmissions v x (getD (f .frames) (suc (t - 1)) 0) vertices
+    emissions = rw after (f .emissions)
+
+    pub before-turns : TurnsLeft v x (f .frames) n (t - 1) nodes b₀ b₀
+    before-turns = turns-start (f .run) (t - 1) (f .all) (f .stored (omega (arith, l)))
+
+    module _ {m : ℕ} {b : List ℕ} (k : 1 ≤ m) (d : TurnsLeft v x (f .frames) n (t - 1) m b₀ b) where
+      pub this-turn : Turn v x n vertices gains links m b
+      this-turn = turn-next (f .run) (t - 1) inside moves emissions (f .linked) k d
+
+      pub after-turn : {b′ : List ℕ} → ((T : Turn v x n vertices gains links m b) → TurnDone T b′)
+          → TurnsLeft v x (f .frames) n (t - 1) (m - 1) b₀ b′
+      after-turn = turns-next (f .run) (t - 1) inside moves emissions (f .linked) k d
+
+    pub after-turns : {m : ℕ} {b : List ℕ} → m ≤ 0 → TurnsLeft v x (f .frames) n (t - 1) m b₀ b
+        → StoredAt v x (f .frames) n t b
+    after-turns {b = b} k d = rw after at (turns-done (f .run) (t - 1) k d)
+
 -- ---- all frames
 
 pub run-with : {v x frames : List ℕ} {n : ℕ} {vertices vertices′ : List (List ℕ)} {b b′ : List ℕ}
     → VertexTable v x n vertices′ → length b′ ≡ length b → Run v x frames n vertices b → Run v x frames n vertices′ b′
 run-with t e r = record { ready = t; roomy = roomy-same e (r .roomy); accepted = r .accepted }
 
--- a frame that isn't the first comes after the one before it
-pub before-is : {t : ℕ} → ¬ (t ≡ 0) → suc (t - 1) ≡ t
-before-is h = omega (arith, h)
-
--- of the same frame
-module _ {v x frames : List ℕ} {n : ℕ} {vertices : List (List ℕ)} {b₀ : List ℕ} (r : Run v x frames n vertices b₀)
-    {i j : ℕ} (e : i ≡ j) where
-  pub tables-same : {c : Numbers} {letters gains tables : List (List ℕ)}
-      → FrameTables v x (getD frames i 0) c letters gains tables
-      → FrameTables v x (getD frames j 0) c letters gains tables
-  tables-same g = rw e at g
-
-  pub stored-same : {b : List ℕ} → StoredAt v x frames n i b → StoredAt v x frames n j b
-  stored-same s = rw e at s
-
 module _ {v x frames : List ℕ} {c : Numbers} {letters gains vertices : List (List ℕ)} {b : List ℕ} where
   pub frames-start : VertexTable v x (c .n) vertices → GainsRoom gains → Empty b
       → FramesDone v x frames 0 c letters gains vertices b
   frames-start t r e = record { table = t; room = r; empty = λ z. e; held = λ h. absurd (omega arith) }
+
+  -- the next one, once its tables are made
+  unfoldable pub frame-of : {t : ℕ} {gains′ vertices′ : List (List ℕ)} {links : List ℕ} → AcceptedFrames v frames
+      → StoreRoom v x (c .n) b → t < length frames → CallNumbers v x c letters → LinkTable v (letterCount v) links
+      → FramesDone v x frames t c letters gains vertices b → FrameTables v x (getD frames t 0) c letters gains′ vertices′
+      → Frame v x t (c .n) (c .nodes) vertices′ gains′ links b
+  frame-of a r h numbers linked d g = record {
+    frames = frames;
+    run = record { ready = g .table; roomy = r; accepted = a };
+    inside = h;
+    all = numbers .nodes;
+    moves = move-gains (numbers .letters-of) (g .gained);
+    emissions = g .emissions;
+    linked = linked;
+    empty = d .empty;
+    stored = λ k. d .held k .stored;
+  }
 
   pub frames-next : {t : ℕ} → FrameHeld v x frames t c letters gains vertices b
       → FramesDone v x frames (t + 1) c letters gains vertices b

@@ -6,17 +6,17 @@ use mathlib.Core.Bool.{true, false}
 use mathlib.Core.List.{List, _++_, List·Memᴰ}
 use lib.ListN.{length, getD}
 use Rattle.endian.specs.Lists.{has}
-use Rattle.voice.specs.Voice.{linkScore, symbolsAt}
+use Rattle.voice.specs.Voice.{letterCount, symbolsAt}
 use Rattle.lexicon.specs.Lexicon.{nodeCount, sinkOf, arcsAt}
 use Rattle.graph.specs.Graph.{Graph, graphOf, sink, pathCount, increment}
 use Rattle.checking.specs.Tables.{WellFormed}
 use Rattle.ranking.specs.Hits.{Hit}
-use Rattle.decoder.specs.Score.{reach, numberOf, possible}
+use Rattle.decoder.specs.Score.{reach}
 use Rattle.decoder.specs.Decoding.{AcceptedFrames}
 use Rattle.passing.specs.Tokens.{Store, bestTokens, tokens, ending}
 use Rattle.storing.specs.Slots.{tokenAt, slots}
 use Rattle.storing.specs.Held.{held, Storable}
-use Rattle.storing.specs.Gains.{NodeLetters, GainsRoom, Gained}
+use Rattle.storing.specs.Gains.{NodeLetters, LinkTable, GainsRoom, Gained, MoveGains}
 use Rattle.storing.specs.Places.{arcsIn, pathsIn}
 use Rattle.storing.specs.Stored.{VertexTable, NodeEmissions, StoreRoom, Bound, Place, Stored}
 use Rattle.search.specs.declared.frames.Numbers.{Numbers}
@@ -39,7 +39,6 @@ StoredAt v x frames n t b = Stored v (graphOf x) n (tokens v (graphOf x) frames 
 pub record CallNumbers (v x : List ℕ) (c : Numbers) (letters : List (List ℕ)) : Type 0 where
   pub nodes : c .nodes ≡ nodeCount x
   pub symbols : c .symbols ≡ symbolsAt v
-  pub link : c .link .0 ≡ numberOf (possible (linkScore v 0))
   pub letters-of : NodeLetters v x (c .used) letters
 
 -- the tables at a frame of symbol k: of gains, and of vertices with their emissions
@@ -47,6 +46,18 @@ pub record FrameTables (v x : List ℕ) (k : ℕ) (c : Numbers) (letters gains v
   pub gained : Gained v k letters (c .used) gains
   pub table : VertexTable v x (c .n) vertices
   pub emissions : NodeEmissions v x k vertices
+
+-- frame t, once its tables are made: the places hold what they held after the frame before, and at the first nothing
+pub record Frame (v x : List ℕ) (t n nodes : ℕ) (vertices gains : List (List ℕ)) (links b : List ℕ) : Type 0 where
+  pub frames : List ℕ
+  pub run : Run v x frames n vertices b
+  pub inside : t < length frames
+  pub all : nodes ≡ nodeCount x
+  pub moves : MoveGains v x (getD frames t 0) gains
+  pub emissions : NodeEmissions v x (getD frames t 0) vertices
+  pub linked : LinkTable v (letterCount v) links
+  pub empty : t ≡ 0 → Empty b
+  pub stored : 0 < t → StoredAt v x frames n (t - 1) b
 
 -- after frame t: what the places hold, and the tables
 pub record FrameHeld (v x frames : List ℕ) (t : ℕ) (c : Numbers) (letters gains vertices : List (List ℕ))

@@ -4,24 +4,22 @@ ghost use Prim.Native.Nat.{_-_, _<_};
 ghost use lib.ListN.{length, getD};
 ghost use Rattle.storing.specs.Gains.{GainsRoom, KnownSymbol};
 ghost use Rattle.storing.specs.Stored.{VertexTable};
-ghost use Rattle.search.specs.Running.{Empty, Run, StoredAt, CallNumbers, FrameTables, FrameHeld, FramesDone};
+ghost use Rattle.search.specs.Running.{Empty, Run, StoredAt, CallNumbers, FrameTables, Frame};
 use crate::gains::frame_gains;
 use crate::gains::put_emissions;
 use crate::letters::letter_table;
-use crate::letters::link_score;
+use crate::letters::link_table;
 use crate::letters::symbols_at;
 use crate::turns::enter_nodes;
 use crate::turns::take_turn;
-use decoder::score::Score;
 use endian::u16_at;
 
-// The numbers of a call: hits wanted, nodes, the offset of the section Symbols, letters in use, and the link.
+// The numbers of a call: hits wanted, nodes, the offset of the section Symbols, and letters in use.
 pub(crate) struct Numbers {
     pub n: usize,
     pub nodes: usize,
     pub symbols: usize,
     pub used: usize,
-    pub link: Score,
 }
 
 // The tables of frame t: the gains, and the emissions that enter the nodes. They depend on its symbol alone, so they
@@ -61,36 +59,32 @@ fn frame_tables(
     put_emissions(lexicon, numbers.nodes, gains, vertices);
 }
 
-// One frame: at the first the root's token enters an empty store, and at each later one every node takes its turn.
+// One frame, whose tables are made: at the first the root's token enters an empty store, and at each later one every
+// node takes its turn.
 fn frame(
     voice: &[u8],
     lexicon: &[u8],
-    frames: &[u8],
     t: usize,
     numbers: Numbers,
-    vertices: &mut [[u32; 4]; 402],
-    letters: &[[u32; 10]; 64],
-    gains: &mut [[u32; 8]; 64],
+    vertices: &[[u32; 4]; 402],
+    gains: &[[u32; 8]; 64],
+    links: &[u32; 64],
     store: &mut [u8],
 )
-    requires { ⌜ Run (now voice) (now lexicon) (now frames) (numbers .n) (now vertices) (now store)
-        × (t < length (now frames)) ⌝ }
-    requires { ⌜ CallNumbers (now voice) (now lexicon) numbers (now letters) ⌝ }
-    requires { ⌜ FramesDone (now voice) (now lexicon) (now frames) t numbers (now letters) (now gains) (now vertices)
+    requires { ⌜ Frame (now voice) (now lexicon) t (numbers .n) (numbers .nodes) (now vertices) (now gains) (now links)
         (now store) ⌝ }
-    ensures { λ _. ⌜ FrameHeld (now (voice .entry)) (now (lexicon .entry)) (now (frames .entry)) t numbers
-        (now (letters .entry)) (now (gains .exit)) (now (vertices .exit)) (now (store .exit)) ⌝ }
+    ensures { λ _. ⌜ ((f : Frame (now (voice .entry)) (now (lexicon .entry)) t (numbers .n) (numbers .nodes)
+        (now (vertices .entry)) (now (gains .entry)) (now (links .entry)) (now (store .entry)))
+        → StoredAt (now (voice .entry)) (now (lexicon .entry)) (f .frames) (numbers .n) t (now (store .exit))) ⌝ }
 {
-    frame_tables(voice, lexicon, frames, t, numbers, letters, gains, vertices);
     let n = numbers.n;
-    let link = numbers.link;
     if t == 0 {
         enter_nodes(lexicon, n, vertices, store);
         return;
     }
     let mut node = numbers.nodes;
     while 0 < node {
-        take_turn(voice, lexicon, n, vertices, gains, link, node, store);
+        take_turn(voice, lexicon, n, vertices, gains, links, node, store);
         node -= 1;
     }
 }
@@ -112,29 +106,28 @@ pub(crate) fn all_frames(
 {
     let mut letters = [[0u32; 10]; 64];
     let used = letter_table(voice, lexicon, &mut letters);
-    let link = Score::from_stored(link_score(voice));
+    let links = link_table(voice);
     let nodes = u16_at(lexicon, 0) as usize;
     let numbers = Numbers {
         n: n,
         nodes: nodes,
         symbols: symbols_at(voice),
         used: used,
-        link: link,
     };
     let mut gains = [[0u32; 8]; 64];
     let mut t = 0;
     while t < frames.len() {
-        frame(
+        frame_tables(
             voice,
             lexicon,
             frames,
             t,
             numbers,
-            vertices,
             &letters,
             &mut gains,
-            store,
+            vertices,
         );
+        frame(voice, lexicon, t, numbers, vertices, &gains, &links, store);
         t += 1;
     }
 }

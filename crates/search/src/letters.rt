@@ -1,5 +1,5 @@
 // What is read once a call: a table of the letters that some node has, a row each, with the scores of the letter's
-// moves as `Score`s' numbers, its index, and the number of its first state. Document 01 has a letter's scores handled
+// moves as `Score`s' numbers, its index, and the number of its first state; and a table of the links. Document 01 has a letter's scores handled
 // as four pairs of loop and step; the step of its last state is never taken, since a word goes on by the link or ends.
 ghost use mathlib.Core.Path.{_≡_};
 ghost use mathlib.Core.Bool.{true, cond};
@@ -8,11 +8,11 @@ ghost use Prim.Native.Nat.{ℕ, _+_, _-_, _≤_, _<_};
 ghost use lib.ListN.{length};
 ghost use Rattle.endian.specs.Bytes.{i16};
 ghost use Rattle.voice.specs.Fields.{wellFormed};
-ghost use Rattle.voice.specs.Voice.{letterCount, linkScore, stateCount, symbolsAt, impossible, voiceVerdict};
+ghost use Rattle.voice.specs.Voice.{letterCount, linksAt, linkScore, stateCount, symbolsAt, impossible, voiceVerdict};
 ghost use Rattle.lexicon.specs.Lexicon.{nodeCount, nodeLetter, lexiconVerdict};
 ghost use Rattle.checking.specs.Tables.{WellFormed};
 ghost use Rattle.storing.specs.Gains.{letterPairs, pairScore, StoredPairs, LettersMarked, AtLetter, LetterRow};
-ghost use Rattle.storing.specs.Gains.{NodeLetters, StatePut, letterIn};
+ghost use Rattle.storing.specs.Gains.{LinkTable, NodeLetters, StatePut, letterIn};
 use decoder::score::STORED_IMPOSSIBLE;
 use decoder::score::Score;
 use endian::i16_of;
@@ -70,22 +70,51 @@ fn letter_pairs(voice: &[u8], first: usize, states: usize) -> [[i16; 2]; 4]
     [first_pair, second_pair, third_pair, fourth_pair]
 }
 
-// Where the section Symbols begins: after the letters, the number of all states (two bytes), their pairs, the number of
-// links (one) and the link (two).
+// Where the section Links begins: after the letters, the number of all states (two bytes) and their pairs.
+fn links_at(voice: &[u8]) -> usize
+    requires { ⌜ voiceVerdict (now voice) ≡ wellFormed ⌝ }
+    ensures { λ r. ⌜ r ≡ linksAt (now (voice .entry)) ⌝ }
+{
+    let states_at = 1 + 2 * (voice[0] as usize);
+    states_at + 2 + 4 * (u16_at(voice, states_at) as usize)
+}
+
+// Where the section Symbols begins: after the number of links (one byte) and the links.
 pub(crate) fn symbols_at(voice: &[u8]) -> usize
     requires { ⌜ voiceVerdict (now voice) ≡ wellFormed ⌝ }
     ensures { λ r. ⌜ r ≡ symbolsAt (now (voice .entry)) ⌝ }
 {
-    let states_at = 1 + 2 * (voice[0] as usize);
-    states_at + 5 + 4 * (u16_at(voice, states_at) as usize)
+    let at = links_at(voice);
+    at + 1 + 2 * (voice[at] as usize)
 }
 
-// The link score, which is the same for every letter that is left.
-pub(crate) fn link_score(voice: &[u8]) -> i16
-    requires { ⌜ voiceVerdict (now voice) ≡ wellFormed ⌝ }
-    ensures { λ r. ⌜ ((letter : ℕ) → r ≡ linkScore (now (voice .entry)) letter) ⌝ }
+// The link of a letter: the one score for all, or its own; `at` is the offset of the section Links.
+fn link_score(voice: &[u8], at: usize, letter: usize) -> i16
+    requires { ⌜ (voiceVerdict (now voice) ≡ wellFormed) × (at ≡ linksAt (now voice)) ⌝ }
+    requires { ⌜ letter < letterCount (now voice) ⌝ }
+    ensures { λ r. ⌜ r ≡ linkScore (now (voice .entry)) letter ⌝ }
 {
-    score_at(voice, symbols_at(voice) - 2)
+    if voice[at] == 1 {
+        return score_at(voice, at + 1);
+    }
+    score_at(voice, at + 1 + 2 * letter)
+}
+
+// The table of the links, by letter: a node finds there what it adds to a token that it passes on.
+pub(crate) fn link_table(voice: &[u8]) -> [u32; 64]
+    requires { ⌜ voiceVerdict (now voice) ≡ wellFormed ⌝ }
+    ensures { λ r. ⌜ LinkTable (now (voice .entry)) (letterCount (now (voice .entry))) r ⌝ }
+{
+    let mut links = [0; 64];
+    let at = links_at(voice);
+    let count = voice[0] as usize;
+    let mut letter = 0;
+    while letter < count {
+        let link = Score::from_stored(link_score(voice, at, letter));
+        links[letter] = link.0;
+        letter += 1;
+    }
+    links
 }
 
 // Marks each letter that some node has.

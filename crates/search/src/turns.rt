@@ -199,16 +199,17 @@ pub(crate) fn take_turn(
     n: usize,
     vertices: &[[u32; 4]; 402],
     gains: &[[u32; 8]; 64],
-    link: Score,
+    links: &[u32; 64],
     node: usize,
     store: &mut [u8],
 )
-    requires { ⌜ Turn (now voice) (now lexicon) n (now vertices) (now gains) (link .0) node (now store) ⌝ }
+    requires { ⌜ Turn (now voice) (now lexicon) n (now vertices) (now gains) (now links) node (now store) ⌝ }
     ensures { λ _. ⌜ ((t : Turn (now (voice .entry)) (now (lexicon .entry)) n (now (vertices .entry))
-        (now (gains .entry)) (link .0) node (now (store .entry))) → TurnDone t (now (store .exit))) ⌝ }
+        (now (gains .entry)) (now (links .entry)) node (now (store .entry))) → TurnDone t (now (store .exit))) ⌝ }
 {
     let letter = lexicon[1 + node] as usize;
     let states = voice[2 + 2 * letter] as usize;
+    let link = Score(links[letter]);
     let first = vertices[node][FIRST_SLOT] as usize;
     // the place of its last state ends where the next vertex's begins
     let last = vertices[node + 1][FIRST_SLOT] as usize - n;

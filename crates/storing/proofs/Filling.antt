@@ -26,7 +26,7 @@ use Rattle.decoder.specs.Score.{numberOf, possible}
 use Rattle.storing.specs.Gains.{NearBias, numberSum, letterPairs, pairScore, loopNumber, stepNumber, loopGain}
 use Rattle.storing.specs.Gains.{stepGain, LettersMarked, LetterEntries, letterIn, LetterRow, letterAt, HasRow}
 use Rattle.storing.specs.Gains.{NodeLetters, GainRow, GainsRoom, Gained, MoveGains, EntryGains, KnownSymbol}
-use Rattle.storing.specs.Gains.{AtLetter, StatePut, FirstPut}
+use Rattle.storing.specs.Gains.{AtLetter, StatePut, FirstPut, linkNumber, LinkTable}
 use Rattle.storing.proofs.Gaining.{number-near, sum-both, letter-small, letter-few, state-there, loop-score}
 use Rattle.storing.proofs.Gaining.{step-score, LettersPassed, letters-start, letters-next}
 use Rattle.storing.proofs.Carrying.{emission-range}
@@ -50,6 +50,23 @@ marks-next {x} {m} {marks} h d = record {
     at u l k (yes e) q = rw e (getD-set-same marks (getD x (2 + m) 0) true false (omega (arith, d .long)))
     at u l k (no e) (yes q) = let at : 1 + u ≡ 2 + m = omega arith in absurd (e (ap (λ j. getD x j 0) at))
     at u l k (no e) (no q) = getD-set-other marks (getD x (2 + m) 0) (getD x (1 + u) 0) true false e ∙ d .marked u l (omega (arith, q))
+
+-- ---- the links
+
+pub links-start : {v links : List ℕ} → length links ≡ 64 → LinkTable v 0 links
+links-start e = record { long = e; link = λ l h. absurd (omega arith) }
+
+-- the link of the next letter is put
+pub links-next : {v : List ℕ} {n : ℕ} {links : List ℕ} {a : ℕ} → n < 64 → a ≡ linkNumber v n → LinkTable v n links
+    → LinkTable v (n + 1) (set links n a)
+links-next {v} {n} {links} {a} h e t = record {
+  long = length-set links n a ∙ t .long;
+  link = λ l k. at l k (ℕ-discrete l n);
+}
+  where
+    at : (l : ℕ) → l < n + 1 → Dec (l ≡ n) → getD (set links n a) l 0 ≡ linkNumber v l
+    at l k (yes q) = rw q (getD-set-same links n a 0 (omega (arith, t .long)) ∙ e)
+    at l k (no q) = getD-set-other links n l a 0 q ∙ t .link l (omega (arith, q))
 
 -- ---- the row of one letter
 

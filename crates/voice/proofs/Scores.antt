@@ -1,18 +1,18 @@
--- Where the scores of a well-formed voice model stand: loops and steps, links and emissions are inside it. Read off its fields, each of
--- which is there, and the last of which ends at its length. Assumes nothing.
+-- Where the scores of a well-formed voice model stand: loops and steps, links and emissions are inside it. Read off its
+-- fields, each of which is there, and the last of which ends at its length. Assumes nothing.
 use Prim.Native.Nat.{ℕ, zero, suc, _+_, _*_, _≤_, _<_}
 use mathlib.Core.Path.{_≡_, refl}
 use mathlib.Core.Bool.{true}
 use mathlib.Core.Logic.{_⊎_, inl, inr, ⊎-elim}
 use mathlib.Core.List.{List, [], _∷_, _++_, flatMap, List·Memᴰ, Memᴰ·append-left, Memᴰ·append-right, List·Memᴰ·head as here, List·Memᴰ·tail as there}
 use native.Mathlib.Omega.{arith}
-use native.Mathlib.Decide.{decLt}
+use native.Mathlib.Decide.{decLt, ℕ-discrete}
 use native.Mathlib.Nat.{mul-le-mul-right, suc-mul}
-use borrow.Author.Tests.{eqb-true, eqb-false}
+use borrow.Author.Tests.{eqb-true, eq-eqb, ne-eqb}
 use lib.ListN.{length}
 use lib.Dec.{eqb}
 use Rattle.endian.specs.Lists.{within, from}
-use Rattle.endian.proofs.Booleans.{cond-cases, or-cases}
+use Rattle.endian.proofs.Booleans.{or-cases}
 use Rattle.endian.proofs.Ranges.{bounds}
 use Rattle.voice.specs.Fields.{Field, field, wellFormed}
 use Rattle.voice.specs.Voice.{letterCount, states, firstState, statesAt, stateCount, linksAt, linkCount, linkIndex}
@@ -30,6 +30,15 @@ states-end v {l} {m = suc m} h =
       | yes k ↦ omega (arith, e, states-end v {l = l} {m = m} k)
       | no n ↦ let q : l ≡ m = omega arith in rw q (omega (arith, e))
     ]
+
+-- one link is that of all letters, and of more each letter has its own
+pub link-shared : (v : List ℕ) → linkCount v ≡ 1 → (l : ℕ) → linkIndex v l ≡ 0
+unfolding linkIndex
+link-shared v h l = rw (eq-eqb (linkCount v) 1 h)
+
+pub link-own : (v : List ℕ) → ¬ (linkCount v ≡ 1) → (l : ℕ) → linkIndex v l ≡ l
+unfolding linkIndex
+link-own v h l = rw (ne-eqb (linkCount v) 1 h)
 
 module _ (v : List ℕ) (accepted : voiceVerdict v ≡ wellFormed) where
   abbrev front : List Field
@@ -76,17 +85,21 @@ module _ (v : List ℕ) (accepted : voiceVerdict v ≡ wellFormed) where
   one-or-each = ⊎-elim (λ h. inl (eqb-true _ _ h)) (λ h. inr (eqb-true _ _ h))
       (or-cases (eqb (linkCount v) 1) (eqb (linkCount v) (letterCount v)) (last-good (here refl) .inRange))
 
+  pub links-few : linkCount v ≤ 64
+  links-few = ⊎-elim (λ e. omega arith) (λ e. omega (arith, letters-few)) one-or-each
+
   -- the number of links stands inside the model
   pub links-there : linksAt v < length v
   links-there = omega (arith, last-good (here refl) .there)
 
   -- the link of a letter stands inside the model
   pub link-there : {l : ℕ} → l < letterCount v → linksAt v + 1 + 2 * linkIndex v l + 2 ≤ length v
-  unfolding linkIndex
-  link-there {l} h = cond-cases (λ (i : ℕ). linksAt v + 1 + 2 * i + 2 ≤ length v) (eqb (linkCount v) 1) 0 l
-      (λ e. omega (arith, eqb-true (linkCount v) 1 e, last-good (there (here refl)) .there))
-      (λ e. ⊎-elim (λ one. absurd (eqb-false (linkCount v) 1 e one))
-      (λ each. omega (arith, each, last-good (there (here refl)) .there)) one-or-each)
+  link-there {l} h =
+      let scores = last-good (there (here refl)) .there in
+      elim (ℕ-discrete (linkCount v) 1) [
+        | yes e ↦ omega (arith, link-shared v e l, scores)
+        | no d ↦ omega (arith, link-own v d l, scores, ⊎-elim (λ e. absurd (d e)) (λ e. e) one-or-each)
+      ]
 
   -- the number of symbols stands inside the model
   pub symbols-there : symbolsAt v < length v

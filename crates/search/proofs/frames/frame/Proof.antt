@@ -1,134 +1,58 @@
 -- `frames::frame` meets its contract: the root's token enters an empty store; or the turns that are left give what all
 -- turns give. The measure is the nodes left. Assumes nothing.
-use Prim.Native.Nat.{suc, _-_, _<_}
-use mathlib.Core.Path.{refl, sym}
+use Prim.Native.Nat.{_-_}
 use native.Mathlib.Omega.{arith}
 use borrow.Author.Needs.{needs}
-use lib.ListN.{length, getD}
-use Rattle.storing.specs.Gains.{MoveGains}
-use Rattle.storing.specs.Stored.{NodeEmissions}
-use Rattle.storing.proofs.Filling.{move-gains}
-use Rattle.search.specs.Running.{Run, FrameTables}
-use Rattle.search.proofs.Running.{run-with, known-symbol, root-passing, root-stored, before-is, tables-same}
-use Rattle.search.proofs.Running.{TurnsLeft, turns-start, turn-next, turns-next, turns-done, stored-same}
+use Rattle.search.specs.Running.{Frame}
+use Rattle.search.proofs.Running.{entering, entered, TurnsLeft, before-turns, this-turn, after-turn, after-turns}
 use Rattle.search.proofs.frames.frame.Statement.{statement}
 use Rattle.search.proofs.frames.frame.Tie as tie
 
 abbrev Inv-loop : tie.InvT-loop
-Inv-loop voice lexicon frames t vertices letters gains store₀ n link node₀ store node =
-    TurnsLeft voice lexicon frames n (t - 1) node store₀ store
+Inv-loop voice lexicon t vertices gains links store₀ n node₀ store node =
+    (f : Frame voice lexicon t n node₀ vertices gains links store₀)
+    → TurnsLeft voice lexicon (f .frames) n (t - 1) node store₀ store
 
 abbrev μ-loop : tie.MeasureT-loop
-μ-loop voice lexicon frames t vertices letters gains store₀ n link node₀ store node = node
-
-frame-tables-requires : tie.Need-frame-tables-requires Inv-loop μ-loop
-frame-tables-requires c κs =
-    let s = c .before .before .before .before .before .before in
-    let r = s .pre .0 in
-    let d = s .pre .1 .1 in
-    ((r .1, known-symbol (r .0) (s .args .t) (r .1)), (s .pre .1 .0, (d .table, d .room, λ h. d .held h .tables)))
-
-abbrev start : tie.After-frame-tables Inv-loop μ-loop → tie.Start Inv-loop μ-loop
-start c = c .before .before .before .before .before .before .before
-
--- with the table of vertices of this frame
-run : (g : tie.After-frame-tables Inv-loop μ-loop) →
-    let a = start g .args in
-    Run (a .voice .now) (a .lexicon .now) (a .frames .now) (a .numbers .n)
-    (g .frame-tables .last .1 .1 .1 .1 .1 .1 .1 .0) (a .store .now)
-run g = run-with (g .frame-tables .ensures .table) refl (start g .pre .0 .0)
+μ-loop voice lexicon t vertices gains links store₀ n node₀ store node = node
 
 -- ---- the first frame
 
-abbrev first : tie.Then1 Inv-loop μ-loop → tie.After-frame-tables Inv-loop μ-loop
-first c = c .before .before
-
--- the emissions of its symbol
-emissions : (c : tie.Then1 Inv-loop μ-loop) →
-    let g = first c in
-    let a = start g .args in
-    NodeEmissions (a .voice .now) (a .lexicon .now) (getD (a .frames .now) 0 0)
-    (g .frame-tables .last .1 .1 .1 .1 .1 .1 .1 .0)
-emissions c = let g = first c in tables-same (run g) (c .if1 .taken) (g .frame-tables .ensures) .emissions
+abbrev first : tie.Then1 Inv-loop μ-loop → tie.Start Inv-loop μ-loop
+first c = c .before .before .before .before
 
 enter-nodes-requires : tie.Need-enter-nodes-requires Inv-loop μ-loop
-enter-nodes-requires c κs =
-    let i = c .before .before in
-    let g = first i in
-    root-passing (run g) (start g .pre .1 .1 .empty (i .if1 .taken)) (emissions i)
+enter-nodes-requires c κs = let i = c .before in entering (first i .pre) (i .if1 .taken)
 
 returns : tie.Need-returns Inv-loop μ-loop
-returns c =
+returns c f =
     let m = c .before .before in
-    let i = m .before .before .before in
-    let g = first i in
-    let r = run g in
-    let z = i .if1 .taken in
-    let e = start g .pre .1 .1 .empty z in
-    let d = m .enter-nodes .ensures (root-passing r e (emissions i)) in
-    record {
-      stored = stored-same r (sym z) (root-stored r e (emissions i) d);
-      tables = g .frame-tables .ensures;
-    }
+    let z = m .before .before .if1 .taken in
+    entered f z (m .enter-nodes .ensures (entering f z))
 
 -- ---- a later one
 
-abbrev later : tie.Else1 Inv-loop μ-loop → tie.After-frame-tables Inv-loop μ-loop
-later c = c .before .before
-
-tables : (c : tie.Else1 Inv-loop μ-loop) →
-    let g = later c in
-    let a = start g .args in
-    FrameTables (a .voice .now) (a .lexicon .now) (getD (a .frames .now) (suc (a .t - 1)) 0) (a .numbers)
-    (a .letters .now) (g .frame-tables .last .1 .1 .1 .1 .1 .1 .0) (g .frame-tables .last .1 .1 .1 .1 .1 .1 .1 .0)
-tables c = rw (before-is (c .if1 .left)) (later c .frame-tables .ensures)
-
-moves : (c : tie.Else1 Inv-loop μ-loop) →
-    let g = later c in
-    let a = start g .args in
-    MoveGains (a .voice .now) (a .lexicon .now) (getD (a .frames .now) (suc (a .t - 1)) 0)
-    (g .frame-tables .last .1 .1 .1 .1 .1 .1 .0)
-moves c = move-gains (start (later c) .pre .1 .0 .letters-of) (tables c .gained)
-
-inside : (c : tie.Else1 Inv-loop μ-loop) →
-    let a = start (later c) .args in
-    suc (a .t - 1) < length (a .frames .now)
-inside c = rw (before-is (c .if1 .left)) (start (later c) .pre .0 .1)
+abbrev later : tie.Else1 Inv-loop μ-loop → tie.Start Inv-loop μ-loop
+later c = c .before .before .before .before
 
 loop-holds : tie.Need-loop-holds Inv-loop μ-loop
-loop-holds c =
-    let s = start (later c) in
-    let p = s .pre in
-    turns-start (run (later c)) (s .args .t - 1) (p .1 .0 .nodes) (p .1 .1 .held (omega (arith, c .if1 .left)) .stored)
+loop-holds c f = before-turns f (c .if1 .left)
 
 take-turn-requires : tie.Need-take-turn-requires Inv-loop μ-loop
 take-turn-requires c κs =
-    let l = c .before .before .before in
+    let l = c .before in
     let i = l .before .before in
-    let s = start (later i) in
-    turn-next (run (later i)) (s .args .t - 1) (inside i) (moves i) (tables i .emissions) (s .pre .1 .0 .link)
-    (l .loop-test .taken) (l .before .loop .inv)
+    let f = later i .pre in
+    this-turn f (i .if1 .left) (l .loop-test .taken) (l .before .loop .inv f)
 
 loop-again : tie.Need-loop-again Inv-loop μ-loop
-loop-again c =
+loop-again c f =
     let m = c .before .before in
-    let l = m .before .before .before .before in
-    let i = l .before .before in
-    let s = start (later i) in
-    turns-next (run (later i)) (s .args .t - 1) (inside i) (moves i) (tables i .emissions) (s .pre .1 .0 .link)
-    (l .loop-test .taken) (l .before .loop .inv) (m .take-turn .ensures)
+    let l = m .before .before in
+    after-turn f (l .before .before .if1 .left) (l .loop-test .taken) (l .before .loop .inv f) (m .take-turn .ensures)
 
 returns-2 : tie.Need-returns-2 Inv-loop μ-loop
-returns-2 c =
-    let i = c .before .before in
-    let g = later i in
-    let s = start g in
-    let r = run g in
-    let d = turns-done r (s .args .t - 1) (c .loop-test .left) (c .before .loop .inv) in
-    record {
-      stored = stored-same r (before-is (i .if1 .left)) d;
-      tables = g .frame-tables .ensures;
-    }
+returns-2 c f = after-turns f (c .before .before .if1 .left) (c .loop-test .left) (c .before .loop .inv f)
 
 pub frame-spec : {M : Type 1} → statement M
 frame-spec =
@@ -136,14 +60,13 @@ frame-spec =
     (tie.spec
     Inv-loop
     μ-loop
-    frame-tables-requires
     enter-nodes-requires
     (λ c. search needs)
     returns
     loop-holds
     take-turn-requires
-    (λ c. c .before .before .before .before .before .before .loop-test .taken)
-    (λ c. let h = c .before .before .before .before .before .before .loop-test .taken in omega arith)
+    (λ c. c .before .before .before .before .loop-test .taken)
+    (λ c. let h = c .before .before .before .before .loop-test .taken in omega arith)
     loop-again
-    (λ c. c .before .loop .inv .long)
+    (λ c. c .before .loop .inv (later (c .before .before) .pre) .long)
     returns-2)

@@ -5,7 +5,7 @@ use borrow.Author.Needs.{needs}
 use borrow.Author.Tests.{ltb-true}
 use lib.ListN.{length, getD}
 use Rattle.voice.specs.Voice.{statesAt, linksAt}
-use Rattle.voice.proofs.Scores.{letters-few, symbols-at, symbols-there, pair-there}
+use Rattle.voice.proofs.Scores.{letters-few, links-there, pair-there}
 use Rattle.storing.proofs.Gaining.{pairs-read}
 use Rattle.search.proofs.letters.letter_pairs.Statement.{statement}
 use Rattle.search.proofs.letters.letter_pairs.Tie as tie
@@ -13,7 +13,7 @@ use Rattle.search.proofs.letters.letter_pairs.Tie as tie
 -- the offset of the first pair
 offset : (c : tie.Start) → 3 + 2 * getD (c .args .voice .now) 0 0 + 4 * c .args .first ≤ length (c .args .voice .now)
 unfolding linksAt statesAt
-offset c = omega (arith, symbols-at _ (c .pre .0), symbols-there _ (c .pre .0), c .pre .1)
+offset c = omega (arith, links-there _ (c .pre .0), c .pre .1)
 
 -- the pair of each state that the letter has is inside the model
 inside : (c : tie.Start) (j : ℕ) → j < c .args .states

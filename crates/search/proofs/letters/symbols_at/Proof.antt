@@ -1,36 +1,36 @@
--- `letters::symbols_at` meets its contract: the offset is the sum of what stands before it. Assumes nothing.
+-- `letters::symbols_at` meets its contract: the number of links says how many scores stand before. Assumes nothing.
 use Prim.Native.Nat.{_<_, _≤_}
 use native.Mathlib.Omega.{arith}
 use borrow.Author.Needs.{needs}
-use lib.ListN.{length}
-use Rattle.voice.specs.Voice.{letterCount, statesAt, stateCount, linksAt, symbolsAt}
-use Rattle.voice.proofs.Scores.{letters-few, symbols-at, symbols-there}
+use lib.ListN.{length, getD}
+use Rattle.voice.specs.Voice.{linkCount, symbolsAt}
+use Rattle.voice.proofs.Scores.{links-few, links-there}
 use Rattle.search.proofs.letters.symbols_at.Statement.{statement}
 use Rattle.search.proofs.letters.symbols_at.Tie as tie
 
--- the first byte is there
-begins : (c : tie.After-shared-slice-known2) → 0 < length (c .before .before .args .voice .now)
-begins c = omega (arith, symbols-there _ (c .before .before .pre))
+-- the number of links is there
+inside : (c : tie.After-links-at) → c .links-at .result < length (c .before .before .args .voice .now)
+inside c = omega (arith, c .links-at .ensures, links-there _ (c .before .before .pre))
 
 -- and no more than 64
-few : (c : tie.After-shared-slice-known2) → letterCount (c .before .before .args .voice .now) ≤ 64
-few c = letters-few _ (c .before .before .pre)
+few : (c : tie.After-links-at) → getD (c .before .before .args .voice .now) (c .links-at .result) 0 ≤ 64
+unfolding linkCount
+few c = rw (c .links-at .ensures) (links-few _ (c .before .before .pre))
 
 returns : tie.Need-returns
-unfolding symbolsAt linksAt stateCount statesAt
-returns c = omega (arith, c .u16-at .ensures, symbols-at _ (c .before .before .before .pre))
+unfolding symbolsAt linkCount
+returns c =
+    let l = c .before in
+    rw (l .links-at .ensures)
 
 pub symbols-at-spec : {M : Type 1} → statement M
 symbols-at-spec =
     tie.close
     (tie.spec
-    (λ c. let h = begins c in search needs)
-    (λ c. let h = few c in search needs)
-    (λ c. let h = few c in search needs)
-    (λ c. let h = few c in search needs)
-    (λ c. let h = few c in search needs)
     (λ c κs. search needs)
-    (λ c. search needs)
-    (λ c. search needs)
+    (λ c. let h = inside c in search needs)
+    (λ c. inside (c .before))
     (λ c. let h = few (c .before) in search needs)
+    (λ c. let h = few (c .before) in search needs)
+    (λ c. let h = inside (c .before) in let f = few (c .before) in search needs)
     returns)

@@ -12,8 +12,11 @@ use Rattle.search.proofs.turns.take_turn.Tie as tie
 abbrev begin : tie.After-shared-slice-known3 → tie.Start
 begin c = c .before .before .before .before
 
-abbrev at-first : tie.After-first → tie.Start
-at-first c = begin (c .before .before)
+abbrev at-link : tie.After-first → tie.Start
+at-link c = begin (c .before .before)
+
+abbrev at-first : tie.After-first2 → tie.Start
+at-first c = at-link (c .before)
 
 abbrev at-last : tie.After-last → tie.Start
 at-last c = at-first (c .before)
@@ -47,8 +50,10 @@ take-turn-spec =
     (λ c. letter-fits _ (letter-within (letter-small (begin c .pre))))
     (λ c. letter-there (begin (c .before) .pre))
     (λ c. most-fits _ (count-range (begin (c .before) .pre) .1) refl)
-    (λ c. bytes-before _ 16 (node-below (node-few (begin (c .before) .pre))) refl)
-    (λ c. node-below (node-few (begin (c .before) .pre)))
+    (λ c. bytes-before _ 4 (letter-small (begin (c .before) .pre)) refl)
+    (λ c. letter-small (begin (c .before) .pre))
+    (λ c. bytes-before _ 16 (node-below (node-few (at-link c .pre))) refl)
+    (λ c. node-below (node-few (at-link c .pre)))
     (λ c. search needs)
     (λ c. let h = first-few (at-first c .pre) in search needs)
     (λ c. less-fits _ (next-below (node-few (at-first c .pre))) refl)
