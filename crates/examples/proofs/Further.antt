@@ -1,7 +1,7 @@
 -- The further examples hold: each is computed. Assumes nothing.
 use mathlib.Core.Path.{refl}
 use Rattle.examples.specs.Further.{FieldExamples, ConditionExamples, ScoreExamples, DecodingExamples}
-use Rattle.examples.specs.Further.{CodeExamples, ProgramExamples}
+use Rattle.examples.specs.Further.{LinkExamples, CodeExamples, ProgramExamples}
 use Rattle.examples.proofs.Open.{everything}
 
 pub field-examples : FieldExamples
@@ -60,6 +60,26 @@ score-examples = record {
   impossible-link = refl;
   impossible-step = refl;
   sum-is-possible = refl;
+}
+
+pub link-examples : LinkExamples
+unfolding everything
+link-examples = record {
+  links-of-one-letter = refl;
+  links-of-two-letters = refl;
+  links-of-four-letters = refl;
+  links-of-most-letters = refl;
+  link-count-alone = refl;
+  links-cut = refl;
+  one-letter-same-bytes = refl;
+  letter-order = refl;
+  letter-left = refl;
+  five-states-linked = refl;
+  two-links = refl;
+  links-at-limits = refl;
+  impossible-links = refl;
+  links-alike = refl;
+  links-printed = refl;
 }
 
 pub decoding-examples : DecodingExamples

@@ -1,6 +1,7 @@
--- Examples that hold the definitions where the small lexicon cannot: letters of several states, unequal emissions, S ≠ K, the word aa,
--- impossible scores, both sides of limits, two conditions at once. Each was computed apart, from the paper alone. Assumes nothing.
-use Prim.Native.Nat.{ℕ, _+_, _-_}
+-- Examples that hold the definitions where the small lexicon cannot: letters of several states, unequal emissions,
+-- S ≠ K, the word aa, links by letter, impossible scores, both sides of limits, two conditions at once. Each was
+-- computed apart, from the paper alone. Assumes nothing.
+use Prim.Native.Nat.{ℕ, _+_, _-_, _*_}
 use mathlib.Core.Path.{_≡_}
 use mathlib.Core.Bool.{true, false}
 use mathlib.Core.List.{List, [], _∷_, _++_, map, flatMap}
@@ -11,6 +12,7 @@ use Rattle.call.specs.declared.Refusal.the-variants.{Frames}
 use Rattle.call.specs.Table.{value, refused, signedAnswer}
 use Rattle.call.specs.Buffers.{cleared}
 use Rattle.voice.specs.Fields.{verdict, wrongLength, outOfRange}
+use Rattle.voice.specs.Voice.{letterCount, linksAt, linkScore, symbolsAt}
 use Rattle.lexicon.specs.Lexicon.{successorPart, arcFields}
 use Rattle.graph.specs.Graph.{graphOf}
 use Rattle.graph.specs.Conditions.{placeCount, manyPlaces, longWord, manyWords}
@@ -23,7 +25,7 @@ use Rattle.ranking.specs.Hits.{Hit, hit}
 use Rattle.decoder.specs.Decoding.{hits, decodeAnswer, decodeOut}
 use Rattle.report.specs.Report.{countIn, hitLine, report}
 use Rattle.report.specs.Arcs.{arcsText}
-use Rattle.examples.specs.SmallLexicon.{voice, P, it, work, minus, thirdRow}
+use Rattle.examples.specs.SmallLexicon.{voice, P, it, work, minus, thirdRow, thirdRowPrinted}
 
 -- ---- small images
 
@@ -81,6 +83,22 @@ layers n =
     ++ 2 ∷ 0 ∷ 1 ∷ 0 ∷ 2 ∷ 0
     ∷ flatMap (λ i. 2 ∷ 0 ∷ (i + i + 1) ∷ 0 ∷ (i + i + 2) ∷ 0 ∷ 2 ∷ 0 ∷ (i + i + 1) ∷ 0 ∷ (i + i + 2) ∷ 0 ∷ []) (from 1 (n - 1))
     ++ 1 ∷ 0 ∷ (n + n + 1) ∷ 0 ∷ 1 ∷ 0 ∷ (n + n + 1) ∷ 0 ∷ 0 ∷ 0 ∷ []
+
+-- the section Links with n scores that are all the same
+abbrev pub alike : ℕ → ℕ → ℕ → List ℕ
+alike n k k′ = n ∷ flatMap (λ i. k ∷ k′ ∷ []) (from 0 n)
+
+-- n letters with one state each, n at most 64, K = 1, with this section Links; all other scores are 0
+abbrev pub letters : ℕ → List ℕ → List ℕ
+letters n links =
+    n ∷ flatMap (λ i. (33 + i) ∷ 1 ∷ []) (from 0 n)
+    ++ n ∷ 0 ∷ replicate (4 * n) 0
+    ++ links
+    ++ 1 ∷ replicate (2 * n) 0
+
+-- voice or fiveStates with another section Links: in both it stands at 27 and ends at 30
+abbrev pub linked : List ℕ → List ℕ → List ℕ
+linked v links = take 27 v ++ links ++ drop 30 v
 
 -- what checking answers to C
 unfoldable pub checkVoice : List ℕ → ℤ
@@ -167,6 +185,76 @@ pub record ScoreExamples : Type 0 where
   pub impossible-link : hitsOf (oneLetter 253 255 0 128 0 0) wordsAA (0 ∷ 0 ∷ []) ≡ hit (minus 3) 0 ∷ []
   pub impossible-step : hitsOf (1 ∷ 97 ∷ 2 ∷ 2 ∷ 0 ∷ 0 ∷ 0 ∷ 0 ∷ 128 ∷ 0 ∷ 0 ∷ 0 ∷ 0 ∷ 1 ∷ 0 ∷ 0 ∷ 1 ∷ 0 ∷ 0 ∷ 0 ∷ 0 ∷ []) wordA (0 ∷ 0 ∷ []) ≡ []
   pub sum-is-possible : hitsOf (oneLetter 0 0 0 0 0 192) wordA (0 ∷ 0 ∷ []) ≡ hit (minus 32768) 0 ∷ []
+
+-- ---- links: one score for all letters, or one for each (document 02, request 2)
+
+pub record LinkExamples : Type 0 where
+  -- 1 and L are in range, for L = 1, 2, 4 and 64; as many scores as the count says stand behind it
+  pub links-of-one-letter : map (λ c. checkVoice (letters 1 (alike c 251 255))) (0 ∷ 1 ∷ 2 ∷ 255 ∷ [])
+      ≡ minus 3 ∷ pos 1 ∷ minus 3 ∷ minus 3 ∷ []
+  pub links-of-two-letters : map (λ c. checkVoice (letters 2 (alike c 251 255))) (0 ∷ 1 ∷ 2 ∷ 3 ∷ 255 ∷ [])
+      ≡ minus 3 ∷ pos 1 ∷ pos 1 ∷ minus 3 ∷ minus 3 ∷ []
+  pub links-of-four-letters : map (λ c. checkVoice (letters 4 (alike c 251 255))) (0 ∷ 1 ∷ 2 ∷ 3 ∷ 4 ∷ 5 ∷ 255 ∷ [])
+      ≡ minus 3 ∷ pos 1 ∷ minus 3 ∷ minus 3 ∷ pos 1 ∷ minus 3 ∷ minus 3 ∷ []
+  pub links-of-most-letters : map (λ c. checkVoice (letters 64 (alike c 251 255))) (1 ∷ 63 ∷ 64 ∷ 65 ∷ [])
+      ≡ pos 1 ∷ minus 3 ∷ pos 1 ∷ minus 3 ∷ []
+  -- four letters, and the image ends behind the count: it is judged before its scores are missing
+  pub link-count-alone : map (λ c. checkVoice (take 27 (letters 4 []) ++ c ∷ [])) (0 ∷ 1 ∷ 2 ∷ 3 ∷ 4 ∷ 5 ∷ 255 ∷ [])
+      ≡ minus 3 ∷ minus 2 ∷ minus 3 ∷ minus 3 ∷ minus 2 ∷ minus 3 ∷ minus 3 ∷ []
+  -- four links: the image ends at every byte from the count on, is whole, and goes on
+  pub links-cut :
+      map (λ n. checkVoice (take n (letters 4 (alike 4 251 255)))) (from 27 19)
+      ++ checkVoice (letters 4 (alike 4 251 255) ++ 0 ∷ []) ∷ []
+      ≡ replicate 18 (minus 2) ++ pos 1 ∷ minus 2 ∷ []
+  -- with one letter both forms are the same bytes
+  pub one-letter-same-bytes : take (linksAt A) A ++ alike (letterCount A) 251 255 ++ drop (symbolsAt A) A ≡ A
+  -- the link of each letter of voice: one for all; four in letter order
+  pub letter-order :
+      map (λ links. map (linkScore (linked voice links)) (from 0 4))
+      ((1 ∷ 254 ∷ 255 ∷ []) ∷ (4 ∷ 254 ∷ 255 ∷ 253 ∷ 255 ∷ 156 ∷ 255 ∷ 56 ∷ 255 ∷ []) ∷ [])
+      ≡ (minus 2 ∷ minus 2 ∷ minus 2 ∷ minus 2 ∷ []) ∷ (minus 2 ∷ minus 3 ∷ minus 100 ∷ minus 200 ∷ []) ∷ []
+  -- P, frames 0 2; links of a and i -2 and -3, then -3 and -2: at leaves a and in leaves i, and they change places
+  pub letter-left :
+      map (λ links. hitsOf (linked voice links) P (0 ∷ 2 ∷ []))
+      ((4 ∷ 254 ∷ 255 ∷ 253 ∷ 255 ∷ 156 ∷ 255 ∷ 56 ∷ 255 ∷ [])
+      ∷ (4 ∷ 253 ∷ 255 ∷ 254 ∷ 255 ∷ 156 ∷ 255 ∷ 56 ∷ 255 ∷ [])
+      ∷ [])
+      ≡ (hit (minus 2) 0 ∷ hit (minus 12) 1 ∷ hit (minus 13) 3 ∷ hit (minus 21) 2 ∷ hit (minus 23) 4 ∷ [])
+      ∷ (hit (minus 3) 0 ∷ hit (minus 12) 3 ∷ hit (minus 13) 1 ∷ hit (minus 21) 2 ∷ hit (minus 22) 4 ∷ [])
+      ∷ []
+  -- letters of several states; links of a and b -19 and -22, then -22 and -19: ab and ba change places
+  pub five-states-linked :
+      map (λ links. hitsOf (linked fiveStates links) fiveWords (0 ∷ 0 ∷ 1 ∷ 1 ∷ 0 ∷ []))
+      ((2 ∷ 237 ∷ 255 ∷ 234 ∷ 255 ∷ []) ∷ (2 ∷ 234 ∷ 255 ∷ 237 ∷ 255 ∷ []) ∷ [])
+      ≡ (hit (minus 923) 0 ∷ hit (minus 2764) 1 ∷ hit (minus 2766) 4 ∷ hit (minus 3341) 3 ∷ [])
+      ∷ (hit (minus 923) 0 ∷ hit (minus 2763) 4 ∷ hit (minus 2767) 1 ∷ hit (minus 3341) 3 ∷ [])
+      ∷ []
+  -- aaa, aai, aia, aii, iaa, iai, iia, iii over frames 0 1 0: two links each; that of a is -3, that of i -5
+  pub two-links :
+      hitsOf (linked voice (4 ∷ 253 ∷ 255 ∷ 251 ∷ 255 ∷ 156 ∷ 255 ∷ 56 ∷ 255 ∷ [])) (layers 3) (0 ∷ 1 ∷ 0 ∷ [])
+      ≡ hit (minus 8) 2 ∷ hit (minus 16) 0 ∷ hit (minus 18) 3 ∷ hit (minus 20) 6
+      ∷ hit (minus 26) 1 ∷ hit (minus 28) 4 ∷ hit (minus 30) 7 ∷ hit (minus 38) 5 ∷ []
+  -- the same with 32,767 and -32,767, which are scores like others
+  pub links-at-limits :
+      hitsOf (linked voice (4 ∷ 255 ∷ 127 ∷ 1 ∷ 128 ∷ 156 ∷ 255 ∷ 56 ∷ 255 ∷ [])) (layers 3) (0 ∷ 1 ∷ 0 ∷ [])
+      ≡ hit (pos 65524) 0 ∷ hit (pos 65514) 1 ∷ hit (pos 0) 2 ∷ hit (minus 10) 3
+      ∷ hit (minus 20) 4 ∷ hit (minus 30) 5 ∷ hit (minus 65544) 6 ∷ hit (minus 65554) 7 ∷ []
+  -- P, frames 0 2; the link of a impossible, that of i, those of n and t: no word goes on from such a letter, and words
+  -- that end in it are hits
+  pub impossible-links :
+      map (λ links. hitsOf (linked voice links) P (0 ∷ 2 ∷ []))
+      ((4 ∷ 0 ∷ 128 ∷ 254 ∷ 255 ∷ 254 ∷ 255 ∷ 254 ∷ 255 ∷ [])
+      ∷ (4 ∷ 254 ∷ 255 ∷ 0 ∷ 128 ∷ 254 ∷ 255 ∷ 254 ∷ 255 ∷ [])
+      ∷ (4 ∷ 254 ∷ 255 ∷ 254 ∷ 255 ∷ 0 ∷ 128 ∷ 0 ∷ 128 ∷ [])
+      ∷ [])
+      ≡ (hit (minus 12) 3 ∷ hit (minus 21) 2 ∷ hit (minus 22) 4 ∷ [])
+      ∷ (hit (minus 2) 0 ∷ hit (minus 12) 1 ∷ hit (minus 21) 2 ∷ [])
+      ∷ (hit (minus 2) 0 ∷ hit (minus 12) 1 ∷ hit (minus 12) 3 ∷ hit (minus 21) 2 ∷ hit (minus 22) 4 ∷ [])
+      ∷ []
+  -- four links of -2 give the list that one link of -2 gives, and the program prints the third row
+  pub links-alike : map (λ n. hitsOf (linked voice (alike n 254 255)) P (0 ∷ 2 ∷ [])) (1 ∷ 4 ∷ [])
+      ≡ replicate 2 (hit (minus 2) 0 ∷ hit (minus 12) 1 ∷ hit (minus 12) 3 ∷ hit (minus 21) 2 ∷ hit (minus 22) 4 ∷ [])
+  pub links-printed : report (69 ∷ 0 ∷ linked voice (alike 4 254 255) ++ 36 ∷ 0 ∷ P ++ 3 ∷ 0 ∷ 2 ∷ []) ≡ thirdRowPrinted
 
 -- ---- decoding: its bytes, its refusals
 

@@ -208,11 +208,11 @@ pub(crate) fn take_turn(
         (now (gains .entry)) (now (links .entry)) node (now (store .entry))) → TurnDone t (now (store .exit))) ⌝ }
 {
     let letter = lexicon[1 + node] as usize;
-    let states = voice[2 + 2 * letter] as usize;
     let link = Score(links[letter]);
-    let first = vertices[node][FIRST_SLOT] as usize;
     // the place of its last state ends where the next vertex's begins
     let last = vertices[node + 1][FIRST_SLOT] as usize - n;
     pass_on(lexicon, n, vertices, link, node, last, store);
+    let states = voice[2 + 2 * letter] as usize;
+    let first = vertices[node][FIRST_SLOT] as usize;
     renew_node(store, n, first, states, &gains[letter]);
 }
