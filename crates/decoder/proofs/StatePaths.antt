@@ -114,7 +114,7 @@ module _ (v word frames : List ℕ) where
   unfolding moveScore
   score-steps i s = rw (eq-eqb i i refl, ne-eqb (suc s) s (omega arith))
 
-  score-links : (i s : ℕ) → moveScore v word (spot i s) (spot (suc i) 0) ≡ linkScore v (letterAt word i)
+  pub score-links : (i s : ℕ) → moveScore v word (spot i s) (spot (suc i) 0) ≡ linkScore v (letterAt word i)
   unfolding moveScore
   score-links i s = rw (ne-eqb (suc i) i (omega arith))
 

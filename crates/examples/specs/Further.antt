@@ -12,7 +12,7 @@ use Rattle.call.specs.declared.Refusal.the-variants.{Frames}
 use Rattle.call.specs.Table.{value, refused, signedAnswer}
 use Rattle.call.specs.Buffers.{cleared}
 use Rattle.voice.specs.Fields.{verdict, wrongLength, outOfRange}
-use Rattle.voice.specs.Voice.{letterCount, linksAt, linkScore, symbolsAt}
+use Rattle.voice.specs.Voice.{linkScore}
 use Rattle.lexicon.specs.Lexicon.{successorPart, arcFields}
 use Rattle.graph.specs.Graph.{graphOf}
 use Rattle.graph.specs.Conditions.{placeCount, manyPlaces, longWord, manyWords}
@@ -89,8 +89,8 @@ abbrev pub alike : ℕ → ℕ → ℕ → List ℕ
 alike n k k′ = n ∷ flatMap (λ i. k ∷ k′ ∷ []) (from 0 n)
 
 -- n letters with one state each, n at most 64, K = 1, with this section Links; all other scores are 0
-abbrev pub letters : ℕ → List ℕ → List ℕ
-letters n links =
+abbrev pub model : ℕ → List ℕ → List ℕ
+model n links =
     n ∷ flatMap (λ i. (33 + i) ∷ 1 ∷ []) (from 0 n)
     ++ n ∷ 0 ∷ replicate (4 * n) 0
     ++ links
@@ -190,30 +190,41 @@ pub record ScoreExamples : Type 0 where
 
 pub record LinkExamples : Type 0 where
   -- 1 and L are in range, for L = 1, 2, 4 and 64; as many scores as the count says stand behind it
-  pub links-of-one-letter : map (λ c. checkVoice (letters 1 (alike c 251 255))) (0 ∷ 1 ∷ 2 ∷ 255 ∷ [])
+  pub links-of-one-letter : map (λ c. checkVoice (model 1 (alike c 251 255))) (0 ∷ 1 ∷ 2 ∷ 255 ∷ [])
       ≡ minus 3 ∷ pos 1 ∷ minus 3 ∷ minus 3 ∷ []
-  pub links-of-two-letters : map (λ c. checkVoice (letters 2 (alike c 251 255))) (0 ∷ 1 ∷ 2 ∷ 3 ∷ 255 ∷ [])
+  pub links-of-two-letters : map (λ c. checkVoice (model 2 (alike c 251 255))) (0 ∷ 1 ∷ 2 ∷ 3 ∷ 255 ∷ [])
       ≡ minus 3 ∷ pos 1 ∷ pos 1 ∷ minus 3 ∷ minus 3 ∷ []
-  pub links-of-four-letters : map (λ c. checkVoice (letters 4 (alike c 251 255))) (0 ∷ 1 ∷ 2 ∷ 3 ∷ 4 ∷ 5 ∷ 255 ∷ [])
+  pub links-of-four-letters : map (λ c. checkVoice (model 4 (alike c 251 255))) (0 ∷ 1 ∷ 2 ∷ 3 ∷ 4 ∷ 5 ∷ 255 ∷ [])
       ≡ minus 3 ∷ pos 1 ∷ minus 3 ∷ minus 3 ∷ pos 1 ∷ minus 3 ∷ minus 3 ∷ []
-  pub links-of-most-letters : map (λ c. checkVoice (letters 64 (alike c 251 255))) (1 ∷ 63 ∷ 64 ∷ 65 ∷ [])
+  pub links-of-most-letters : map (λ c. checkVoice (model 64 (alike c 251 255))) (1 ∷ 63 ∷ 64 ∷ 65 ∷ [])
       ≡ pos 1 ∷ minus 3 ∷ pos 1 ∷ minus 3 ∷ []
   -- four letters, and the image ends behind the count: it is judged before its scores are missing
-  pub link-count-alone : map (λ c. checkVoice (take 27 (letters 4 []) ++ c ∷ [])) (0 ∷ 1 ∷ 2 ∷ 3 ∷ 4 ∷ 5 ∷ 255 ∷ [])
+  pub link-count-alone : map (λ c. checkVoice (take 27 (model 4 []) ++ c ∷ [])) (0 ∷ 1 ∷ 2 ∷ 3 ∷ 4 ∷ 5 ∷ 255 ∷ [])
       ≡ minus 3 ∷ minus 2 ∷ minus 3 ∷ minus 3 ∷ minus 2 ∷ minus 3 ∷ minus 3 ∷ []
   -- four links: the image ends at every byte from the count on, is whole, and goes on
   pub links-cut :
-      map (λ n. checkVoice (take n (letters 4 (alike 4 251 255)))) (from 27 19)
-      ++ checkVoice (letters 4 (alike 4 251 255) ++ 0 ∷ []) ∷ []
+      map (λ n. checkVoice (take n (model 4 (alike 4 251 255)))) (from 27 19)
+      ++ checkVoice (model 4 (alike 4 251 255) ++ 0 ∷ []) ∷ []
       ≡ replicate 18 (minus 2) ++ pos 1 ∷ minus 2 ∷ []
-  -- with one letter both forms are the same bytes
-  pub one-letter-same-bytes : take (linksAt A) A ++ alike (letterCount A) 251 255 ++ drop (symbolsAt A) A ≡ A
+  -- voice: the count is 4 and one score stands behind it, 1 and four do; K is read behind as many as the count says
+  pub links-miscounted :
+      map (λ links. checkVoice (linked voice links))
+      ((4 ∷ 254 ∷ 255 ∷ []) ∷ (1 ∷ 254 ∷ 255 ∷ 253 ∷ 255 ∷ 254 ∷ 255 ∷ 254 ∷ 255 ∷ [])
+      ∷ (1 ∷ 254 ∷ 255 ∷ 4 ∷ 0 ∷ 254 ∷ 255 ∷ 254 ∷ 255 ∷ []) ∷ [])
+      ≡ minus 3 ∷ minus 3 ∷ minus 2 ∷ []
+  -- K behind four links, with nothing behind it
+  pub symbol-counts-behind : map (λ k. checkVoice (take 36 (model 4 (alike 4 251 255)) ++ k ∷ [])) (0 ∷ 1 ∷ 64 ∷ 65 ∷ [])
+      ≡ minus 3 ∷ minus 2 ∷ minus 2 ∷ minus 3 ∷ []
   -- the link of each letter of voice: one for all; four in letter order
   pub letter-order :
       map (λ links. map (linkScore (linked voice links)) (from 0 4))
       ((1 ∷ 254 ∷ 255 ∷ []) ∷ (4 ∷ 254 ∷ 255 ∷ 253 ∷ 255 ∷ 156 ∷ 255 ∷ 56 ∷ 255 ∷ []) ∷ [])
       ≡ (minus 2 ∷ minus 2 ∷ minus 2 ∷ minus 2 ∷ []) ∷ (minus 2 ∷ minus 3 ∷ minus 100 ∷ minus 200 ∷ []) ∷ []
-  -- P, frames 0 2; links of a and i -2 and -3, then -3 and -2: at leaves a and in leaves i, and they change places
+  -- 64 links: that of letter i is i
+  pub most-links :
+      map (linkScore (model 64 (64 ∷ flatMap (λ i. i ∷ 0 ∷ []) (from 0 64)))) (0 ∷ 62 ∷ 63 ∷ [])
+      ≡ pos 0 ∷ pos 62 ∷ pos 63 ∷ []
+  -- P, frames 0 2; links of a and i -2 and -3, then -3 and -2: at leaves a and in leaves i, and the better one changes
   pub letter-left :
       map (λ links. hitsOf (linked voice links) P (0 ∷ 2 ∷ []))
       ((4 ∷ 254 ∷ 255 ∷ 253 ∷ 255 ∷ 156 ∷ 255 ∷ 56 ∷ 255 ∷ [])
@@ -222,7 +233,14 @@ pub record LinkExamples : Type 0 where
       ≡ (hit (minus 2) 0 ∷ hit (minus 12) 1 ∷ hit (minus 13) 3 ∷ hit (minus 21) 2 ∷ hit (minus 23) 4 ∷ [])
       ∷ (hit (minus 3) 0 ∷ hit (minus 12) 3 ∷ hit (minus 13) 1 ∷ hit (minus 21) 2 ∷ hit (minus 22) 4 ∷ [])
       ∷ []
-  -- letters of several states; links of a and b -19 and -22, then -22 and -19: ab and ba change places
+  -- the best word changes too: with links of a and i -2 and -30 it is an, and with -30 and -2 it is in
+  pub best-changes :
+      map (λ links. hits (linked voice links) (graphOf P) (0 ∷ 2 ∷ []) 1)
+      ((4 ∷ 254 ∷ 255 ∷ 226 ∷ 255 ∷ 254 ∷ 255 ∷ 254 ∷ 255 ∷ [])
+      ∷ (4 ∷ 226 ∷ 255 ∷ 254 ∷ 255 ∷ 254 ∷ 255 ∷ 254 ∷ 255 ∷ [])
+      ∷ [])
+      ≡ (hit (minus 2) 0 ∷ []) ∷ (hit (minus 12) 3 ∷ []) ∷ []
+  -- letters of several states; links of a and b -19 and -22, then -22 and -19: of ab and ba the better one changes
   pub five-states-linked :
       map (λ links. hitsOf (linked fiveStates links) fiveWords (0 ∷ 0 ∷ 1 ∷ 1 ∷ 0 ∷ []))
       ((2 ∷ 237 ∷ 255 ∷ 234 ∷ 255 ∷ []) ∷ (2 ∷ 234 ∷ 255 ∷ 237 ∷ 255 ∷ []) ∷ [])
@@ -251,6 +269,14 @@ pub record LinkExamples : Type 0 where
       ∷ (hit (minus 2) 0 ∷ hit (minus 12) 1 ∷ hit (minus 21) 2 ∷ [])
       ∷ (hit (minus 2) 0 ∷ hit (minus 12) 1 ∷ hit (minus 12) 3 ∷ hit (minus 21) 2 ∷ hit (minus 22) 4 ∷ [])
       ∷ []
+  -- the eight words again, with the link of i impossible: aaa and aai are left, and aai ends in i
+  pub impossible-inside :
+      hitsOf (linked voice (4 ∷ 253 ∷ 255 ∷ 0 ∷ 128 ∷ 156 ∷ 255 ∷ 56 ∷ 255 ∷ [])) (layers 3) (0 ∷ 1 ∷ 0 ∷ [])
+      ≡ hit (minus 16) 0 ∷ hit (minus 26) 1 ∷ []
+  -- a symbol is below the K that stands behind four links
+  pub symbols-behind :
+      map (λ k. signedAnswer (decodeAnswer (linked voice (alike 4 254 255)) P (0 ∷ k ∷ []) 9 work [])) (3 ∷ 4 ∷ [])
+      ≡ minus 12 ∷ minus 11 ∷ []
   -- four links of -2 give the list that one link of -2 gives, and the program prints the third row
   pub links-alike : map (λ n. hitsOf (linked voice (alike n 254 255)) P (0 ∷ 2 ∷ [])) (1 ∷ 4 ∷ [])
       ≡ replicate 2 (hit (minus 2) 0 ∷ hit (minus 12) 1 ∷ hit (minus 12) 3 ∷ hit (minus 21) 2 ∷ hit (minus 22) 4 ∷ [])

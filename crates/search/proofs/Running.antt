@@ -40,7 +40,7 @@ use Rattle.storing.proofs.Filling.{gains-room, entry-gains, move-gains}
 use Rattle.storing.proofs.Storing.{stored-ext}
 use Rattle.storing.proofs.PassingOn.{lexicon-formed, letter-few}
 use Rattle.search.specs.declared.frames.Numbers.{Numbers}
-use Rattle.search.specs.Running.{Empty, Run, StoredAt, CallNumbers, FrameTables, Frame, FrameHeld, FramesDone}
+use Rattle.search.specs.Running.{Empty, Run, StoredAt, CallNumbers, FrameTables, Frame}
 
 -- ---- stores
 
@@ -259,10 +259,25 @@ pub run-with : {v x frames : List ℕ} {n : ℕ} {vertices vertices′ : List (L
     → VertexTable v x n vertices′ → length b′ ≡ length b → Run v x frames n vertices b → Run v x frames n vertices′ b′
 run-with t e r = record { ready = t; roomy = roomy-same e (r .roomy); accepted = r .accepted }
 
+-- after the first t frames: what the places hold and the tables of the last of them, or an empty store
+pub record FramesDone (v x frames : List ℕ) (t : ℕ) (c : Numbers) (letters gains vertices : List (List ℕ))
+    (b : List ℕ) : Type 0 where
+  pub table : VertexTable v x (c .n) vertices
+  pub room : GainsRoom gains
+  pub empty : t ≡ 0 → Empty b
+  pub stored : 0 < t → StoredAt v x frames (c .n) (t - 1) b
+  pub tables : 0 < t → FrameTables v x (getD frames (t - 1) 0) c letters gains vertices
+
 module _ {v x frames : List ℕ} {c : Numbers} {letters gains vertices : List (List ℕ)} {b : List ℕ} where
   pub frames-start : VertexTable v x (c .n) vertices → GainsRoom gains → Empty b
       → FramesDone v x frames 0 c letters gains vertices b
-  frames-start t r e = record { table = t; room = r; empty = λ z. e; held = λ h. absurd (omega arith) }
+  frames-start t r e = record {
+    table = t;
+    room = r;
+    empty = λ z. e;
+    stored = λ h. absurd (omega arith);
+    tables = λ h. absurd (omega arith);
+  }
 
   -- the next one, once its tables are made
   unfoldable pub frame-of : {t : ℕ} {gains′ vertices′ : List (List ℕ)} {links : List ℕ} → AcceptedFrames v frames
@@ -278,23 +293,26 @@ module _ {v x frames : List ℕ} {c : Numbers} {letters gains vertices : List (L
     emissions = g .emissions;
     linked = linked;
     empty = d .empty;
-    stored = λ k. d .held k .stored;
+    stored = d .stored;
   }
 
-  pub frames-next : {t : ℕ} → FrameHeld v x frames t c letters gains vertices b
+  pub frames-next : (t : ℕ) → StoredAt v x frames (c .n) t b → FrameTables v x (getD frames t 0) c letters gains vertices
       → FramesDone v x frames (t + 1) c letters gains vertices b
-  frames-next {t} d = record {
-    table = d .tables .table;
-    room = gains-room (d .tables .gained);
-    empty = λ z. absurd (omega arith);
-    held = λ h. let e : t + 1 - 1 ≡ t = omega arith in rw e d;
-  }
+  frames-next t d g =
+      let e : t + 1 - 1 ≡ t = omega arith in
+      record {
+        table = g .table;
+        room = gains-room (g .gained);
+        empty = λ z. absurd (omega arith);
+        stored = λ h. rw e d;
+        tables = λ h. rw e g;
+      }
 
   pub frames-end : {t : ℕ} → AcceptedFrames v frames → length frames ≤ t → t ≤ length frames
       → FramesDone v x frames t c letters gains vertices b → StoredAt v x frames (c .n) (length frames - 1) b
   frames-end {t} a h l d =
       let e : length frames - 1 ≡ t - 1 = omega arith in
-      rw e (d .held (omega (arith, frame-count v frames a)) .stored)
+      rw e (d .stored (omega (arith, frame-count v frames a)))
 
 -- what is read for the emissions
 pub nodes-read : {v x : List ℕ} {c : Numbers} {letters vertices : List (List ℕ)} → CallNumbers v x c letters

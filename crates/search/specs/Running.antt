@@ -16,7 +16,7 @@ use Rattle.decoder.specs.Decoding.{AcceptedFrames}
 use Rattle.passing.specs.Tokens.{Store, bestTokens, tokens, ending}
 use Rattle.storing.specs.Slots.{tokenAt, slots}
 use Rattle.storing.specs.Held.{held, Storable}
-use Rattle.storing.specs.Gains.{NodeLetters, LinkTable, GainsRoom, Gained, MoveGains}
+use Rattle.storing.specs.Gains.{NodeLetters, LinkTable, Gained, MoveGains}
 use Rattle.storing.specs.Places.{arcsIn, pathsIn}
 use Rattle.storing.specs.Stored.{VertexTable, NodeEmissions, StoreRoom, Bound, Place, Stored}
 use Rattle.search.specs.declared.frames.Numbers.{Numbers}
@@ -58,20 +58,6 @@ pub record Frame (v x : List ℕ) (t n nodes : ℕ) (vertices gains : List (List
   pub linked : LinkTable v (letterCount v) links
   pub empty : t ≡ 0 → Empty b
   pub stored : 0 < t → StoredAt v x frames n (t - 1) b
-
--- after frame t: what the places hold, and the tables
-pub record FrameHeld (v x frames : List ℕ) (t : ℕ) (c : Numbers) (letters gains vertices : List (List ℕ))
-    (b : List ℕ) : Type 0 where
-  pub stored : StoredAt v x frames (c .n) t b
-  pub tables : FrameTables v x (getD frames t 0) c letters gains vertices
-
--- after the first t frames: what holds after the last of them, or an empty store where there is none
-pub record FramesDone (v x frames : List ℕ) (t : ℕ) (c : Numbers) (letters gains vertices : List (List ℕ))
-    (b : List ℕ) : Type 0 where
-  pub table : VertexTable v x (c .n) vertices
-  pub room : GainsRoom gains
-  pub empty : t ≡ 0 → Empty b
-  pub held : 0 < t → FrameHeld v x frames (t - 1) c letters gains vertices b
 
 -- ---- the end
 

@@ -1,5 +1,5 @@
 // Frame by frame: the root's token enters at the first, and at each later one every node takes its turn, from the last
-// to the first.
+// to the first. A contract that begins with ((f : ..) → ..) speaks of what is known before the call by the record f.
 ghost use Prim.Native.Nat.{_-_, _<_};
 ghost use lib.ListN.{length, getD};
 ghost use Rattle.storing.specs.Gains.{GainsRoom, KnownSymbol};

@@ -1,6 +1,7 @@
-// What is read once a call: a table of the letters that some node has, a row each, with the scores of the letter's
-// moves as `Score`s' numbers, its index, and the number of its first state; and a table of the links. Document 01 has a letter's scores handled
-// as four pairs of loop and step; the step of its last state is never taken, since a word goes on by the link or ends.
+// What is read once a call. A table of the letters that some node has, a row each: the scores of the letter's moves as
+// `Score`s' numbers, its index, and the number of its first state. Document 01 has a letter's scores handled as four
+// pairs of loop and step; the step of its last state is never taken, since a word goes on by the letter's link or ends.
+// And a table of the links, by letter.
 ghost use mathlib.Core.Path.{_≡_};
 ghost use mathlib.Core.Bool.{true, cond};
 ghost use mathlib.Core.List.{[], _∷_};
@@ -100,16 +101,17 @@ fn link_score(voice: &[u8], at: usize, letter: usize) -> i16
     score_at(voice, at + 1 + 2 * letter)
 }
 
-// The table of the links, by letter: a node finds there what it adds to a token that it passes on.
+// The links of all letters, by letter: once read, a node whose link is impossible passes nothing on, and any other finds
+// the score of its arcs in one read.
 pub(crate) fn link_table(voice: &[u8]) -> [u32; 64]
     requires { ⌜ voiceVerdict (now voice) ≡ wellFormed ⌝ }
     ensures { λ r. ⌜ LinkTable (now (voice .entry)) (letterCount (now (voice .entry))) r ⌝ }
 {
     let mut links = [0; 64];
     let at = links_at(voice);
-    let count = voice[0] as usize;
+    let letters = voice[0] as usize;
     let mut letter = 0;
-    while letter < count {
+    while letter < letters {
         let link = Score::from_stored(link_score(voice, at, letter));
         links[letter] = link.0;
         letter += 1;

@@ -1,6 +1,6 @@
--- Gains: what a move and the emission that follows it add to a token, as the number of a score; and the tables of a
--- call and of a frame that hold them for the letters in use, those that some node has. No public contract cites this.
--- Assumes nothing.
+-- Gains: what a move and the emission that follows it add to a token, as the number of a score; the tables of a call and
+-- of a frame that hold them for the letters in use, those that some node has; and a table of all letters' links. No
+-- public contract cites this. Assumes nothing.
 use Prim.Native.Nat.{ℕ, zero, suc, _+_, _-_, _≤_, _<_}
 use mathlib.Core.Path.{_≡_}
 use mathlib.Core.Bool.{Bool, true, false, cond}
@@ -118,7 +118,7 @@ pub record NodeLetters (v x : List ℕ) (n : ℕ) (letters : List (List ℕ)) : 
   pub table : LetterTable v n letters
   pub all : (u : ℕ) → 1 ≤ u → u ≤ nodeCount x → HasRow letters n (nodeLetter x u)
 
--- the links of the first n letters, by letter
+-- the numbers of the first n letters' links, by letter; no entry behind them is read
 pub record LinkTable (v : List ℕ) (n : ℕ) (links : List ℕ) : Type 0 where
   pub long : length links ≡ 64
   pub link : (l : ℕ) → l < n → getD links l 0 ≡ linkNumber v l

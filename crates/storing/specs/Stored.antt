@@ -118,8 +118,8 @@ pub record PassedOn {x : List ℕ} {n : ℕ} {vertices : List (List ℕ)} {link 
 
 -- ---- a node's turn
 
-pub record Turn (v x : List ℕ) (n : ℕ) (vertices gains : List (List ℕ)) (links : List ℕ) (w : ℕ) (b : List ℕ) : Type 0
-    where
+pub record Turn (v x : List ℕ) (n : ℕ) (vertices gains : List (List ℕ)) (links : List ℕ) (w : ℕ)
+    (b : List ℕ) : Type 0 where
   pub k : ℕ
   pub M : ℕ
   pub P : Store

@@ -3,26 +3,29 @@
 -- the output and its `..Work` in the work space. v is a voice model, x a lexicon, g its graph; out and work are what
 -- output and work space held before the call. That a call reads and writes nothing else, and keeps the length of what
 -- it is lent, is no statement here: the checker proves it of every function. Assumes nothing.
-use Prim.Native.Nat.{ℕ, _*_, _%_, _-_, _^_, _≤_, _<_}
-use mathlib.Core.Path.{_≡_, refl}
+use Prim.Native.Nat.{ℕ, suc, _+_, _*_, _%_, _-_, _^_, _≤_, _<_}
+use mathlib.Core.Path.{_≡_, refl, _∙_}
 use mathlib.Core.Bool.{true}
-use mathlib.Core.Logic.{_↔_}
+use mathlib.Core.Logic.{_↔_, _⊎_, inl, inr, ⊎-elim}
 use mathlib.Core.List.{List, [], _∷_, _++_, map, flatMap, List·Memᴰ}
 use mathlib.Core.Option.{some}
 use lib.IntN.{ℤ, pos, natAbs, _-ℤ_, _*ℤ_}
 use lib.Signed.{_≤ℤ_}
 use lib.ListN.{length, take, getD}
 use Rattle.endian.specs.Lists.{from, isNone}
-use Rattle.endian.specs.Bytes.{Bytes, u32Bytes}
+use Rattle.endian.specs.Bytes.{Bytes, i16, u32Bytes}
 use Rattle.call.specs.declared.Refusal.the-variants.{Frames}
 use Rattle.call.specs.Table.{value, on, numbers, AnswersBy}
 use Rattle.call.specs.Limits.{badFrameCount}
 use Rattle.call.specs.Buffers.{Clears, Writes}
 use Rattle.call.proofs.Table.{answers-by}
 use Rattle.call.proofs.Buffers.{clears, writes}
+use Rattle.voice.specs.Voice.{letterCount, linksAt, linkCount}
+use Rattle.voice.proofs.Theorems.{links-are-by-letter}
 use Rattle.graph.specs.Graph.{Graph, graphOf, FullPath, fullPaths, wordCount, pathCode, pathLetters}
 use Rattle.graph.specs.Words.{LexiconWord, pathOfWord, codeOf, wordOfCode}
 use Rattle.graph.specs.Checking.{Accepted, firstRows, checkAnswer, checkWork}
+use Rattle.graph.proofs.Accepted.{accepted as images}
 use Rattle.graph.proofs.Theorems.{path-theorems, check-numbers}
 use Rattle.packing.specs.Width.{width, givenRows, widthAnswer}
 use Rattle.packing.specs.Packing.{packedSize, packed, unpacked, paddedWithZeros}
@@ -40,10 +43,11 @@ use Rattle.ranking.specs.Hits.{Hit, hitBytes, hitsRead}
 use Rattle.ranking.specs.Mean.{mean, meanAnswer}
 use Rattle.ranking.proofs.Hits.{length-read}
 use Rattle.ranking.proofs.Nearest.{mean-is-nearest}
-use Rattle.decoder.specs.StatePaths.{Attains, scoreLimit}
+use Rattle.decoder.specs.StatePaths.{spot, letterAt, moveScore, Attains, scoreLimit}
 use Rattle.decoder.specs.TrueScore.{trueScore}
 use Rattle.decoder.specs.Decoding.{AcceptedFrames, hits, decodeRows, decodeAnswer, decodeOut, decodeWork}
 use Rattle.decoder.specs.Demand.{Demand3, FirstOfRow, Off, HasNoPath}
+use Rattle.decoder.proofs.StatePaths.{score-links}
 use Rattle.decoder.proofs.Theorems.{score-theorems, accepted-decodes, decode-numbers}
 use Rattle.decoder.proofs.Demanded.{left-meets, demand-3-determines}
 use Rattle.passing.specs.Tokens.{decoded}
@@ -147,6 +151,18 @@ module _ (v x : List ℕ) where
     true-score : (path frames : List ℕ) (a : ℤ) → (trueScore v (pathLetters g path) frames ≡ some a)
         ↔ (Attains v (pathLetters g path) frames a × ((b : ℤ) → Attains v (pathLetters g path) frames b → b ≤ℤ a))
     true-score path frames = score-theorems v x frames path accepted .highest
+
+    -- Passing to the next letter takes the link of the letter that is left: with one link that one, else there are L, in
+    -- letter order.
+    link-left : (word : List ℕ) (i s : ℕ) → letterAt word i < letterCount v
+        → ((linkCount v ≡ 1) × (moveScore v word (spot i s) (spot (suc i) 0) ≡ i16 v (linksAt v + 1)))
+        ⊎ ((linkCount v ≡ letterCount v)
+        × (moveScore v word (spot i s) (spot (suc i) 0) ≡ i16 v (linksAt v + 1 + 2 * letterAt word i)))
+    link-left word i s h =
+        let links = links-are-by-letter v (images accepted .voice) in
+        let taken = score-links v word [] i s in
+        ⊎-elim (λ e. inl (e, taken ∙ links .one e (letterAt word i)))
+        (λ e. inr (e, taken ∙ links .each e (letterAt word i) h)) (links .one-or-each)
 
     -- Scores lie within ±65,501,233.
     scores-within : (path frames : List ℕ) (a : ℤ) → length frames ≤ 1000 → Attains v (pathLetters g path) frames a

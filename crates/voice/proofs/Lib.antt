@@ -5,3 +5,4 @@ pub mod Letters
 pub mod Scores
 pub mod Walk
 pub mod Refusals
+pub mod Theorems

@@ -16,7 +16,7 @@ use Rattle.endian.proofs.Booleans.{or-cases}
 use Rattle.endian.proofs.Ranges.{bounds}
 use Rattle.voice.specs.Fields.{Field, field, wellFormed}
 use Rattle.voice.specs.Voice.{letterCount, states, firstState, statesAt, stateCount, linksAt, linkCount, linkIndex}
-use Rattle.voice.specs.Voice.{symbolsAt, symbolCount, oneOrEach, letterFields, stateFields, voiceFields}
+use Rattle.voice.specs.Voice.{symbolsAt, symbolCount, goodLinkCount, letterFields, stateFields, voiceFields}
 use Rattle.voice.specs.Voice.{voiceVerdict}
 use Rattle.voice.proofs.Fields.{Good, well-formed-says}
 use Rattle.voice.proofs.Tiling.{firstState-suc}
@@ -51,7 +51,7 @@ module _ (v : List ℕ) (accepted : voiceVerdict v ≡ wellFormed) where
 
   abbrev last : List Field
   last =
-      field (linksAt v) 1 (oneOrEach (letterCount v) (linkCount v))
+      field (linksAt v) 1 (goodLinkCount v)
       ∷ field (linksAt v + 1) (2 * linkCount v) true
       ∷ field (symbolsAt v) 1 (within 1 64 (symbolCount v))
       ∷ field (symbolsAt v + 1) (2 * (stateCount v * symbolCount v)) true
@@ -80,8 +80,8 @@ module _ (v : List ℕ) (accepted : voiceVerdict v ≡ wellFormed) where
   state-known {l} h k = omega (arith, states-end v {l = l} {m = letterCount v} h, states-sum)
 
   -- one link score for all letters, or one for each
-  one-or-each : (linkCount v ≡ 1) ⊎ (linkCount v ≡ letterCount v)
-  unfolding oneOrEach
+  pub one-or-each : (linkCount v ≡ 1) ⊎ (linkCount v ≡ letterCount v)
+  unfolding goodLinkCount
   one-or-each = ⊎-elim (λ h. inl (eqb-true _ _ h)) (λ h. inr (eqb-true _ _ h))
       (or-cases (eqb (linkCount v) 1) (eqb (linkCount v) (letterCount v)) (last-good (here refl) .inRange))
 

@@ -20,7 +20,7 @@ use Rattle.endian.proofs.Lists.{mem-flatMap, from-in}
 use Rattle.endian.proofs.Ranges.{bounds}
 use Rattle.voice.specs.Fields.{Field, field, end, Verdict, wellFormed, wrongLength, outOfRange, verdictOf, verdict}
 use Rattle.voice.specs.Voice.{letterCount, printByte, states, firstState, statesAt, stateCount, linksAt, linkCount}
-use Rattle.voice.specs.Voice.{symbolsAt, symbolCount, rising, oneOrEach, letterFields, stateFields, voiceFields}
+use Rattle.voice.specs.Voice.{symbolsAt, symbolCount, rising, goodLinkCount, letterFields, stateFields, voiceFields}
 use Rattle.voice.specs.Voice.{voiceVerdict}
 use Rattle.voice.specs.Sections.{fieldVerdict, andThen, firstBad, lettersPart, statesPart, lastPart}
 use Rattle.voice.specs.declared.Verdict as declared
@@ -177,13 +177,13 @@ module _ (v : List ℕ) where
 
   -- links and symbols: the link scores need not be judged, since K stands behind them
   pub last-first : (done : ℕ) → verdict (length v) done (lastPart v)
-      ≡ andThen (fieldVerdict (length v) (linksAt v + 1) (oneOrEach (letterCount v) (linkCount v)))
+      ≡ andThen (fieldVerdict (length v) (linksAt v + 1) (goodLinkCount v))
       (andThen (fieldVerdict (length v) (symbolsAt v + 1) (within 1 64 (symbolCount v)))
       (cond (eqb (symbolsAt v + 1 + 2 * (stateCount v * symbolCount v)) (length v)) wellFormed wrongLength))
   unfolding lastPart symbolsAt
   last-first done =
       rw (verdict-cons (length v), verdict-cons (length v), verdict-cons (length v), verdict-last (length v))
-      (ap (andThen (fieldVerdict (length v) (linksAt v + 1) (oneOrEach (letterCount v) (linkCount v))))
+      (ap (andThen (fieldVerdict (length v) (linksAt v + 1) (goodLinkCount v)))
       (free-field (length v) _ _ _ _ (omega arith)))
 
   -- the print bytes before and at i are compared

@@ -1,3 +1,4 @@
 pub mod Fields
 pub mod Voice
 pub mod Sections
+pub mod Theorems

@@ -7,7 +7,7 @@ use lib.Dec.{eqb, leb}
 use Rattle.endian.specs.Lists.{within, from}
 use Rattle.voice.specs.Fields.{Field, field, end, Verdict, wellFormed, wrongLength, outOfRange}
 use Rattle.voice.specs.Voice.{letterCount, states, firstState, statesAt, stateCount, linksAt, linkCount, symbolsAt}
-use Rattle.voice.specs.Voice.{symbolCount, oneOrEach, letterFields, stateFields}
+use Rattle.voice.specs.Voice.{symbolCount, goodLinkCount, letterFields, stateFields}
 
 -- the verdict of a field by itself, from where its bytes end; well formed where it is good
 unfoldable pub fieldVerdict : ℕ → ℕ → Bool → Verdict
@@ -39,7 +39,7 @@ statesPart v = flatMap (λ i. stateFields v (firstState v i) (states v i)) (from
 -- the sections Links and Symbols
 unfoldable pub lastPart : List ℕ → List Field
 lastPart v =
-    field (linksAt v) 1 (oneOrEach (letterCount v) (linkCount v))
+    field (linksAt v) 1 (goodLinkCount v)
     ∷ field (linksAt v + 1) (2 * linkCount v) true
     ∷ field (symbolsAt v) 1 (within 1 64 (symbolCount v))
     ∷ field (symbolsAt v + 1) (2 * (stateCount v * symbolCount v)) true

@@ -54,11 +54,11 @@ linksAt v = statesAt v + 2 + 4 * stateCount v
 unfoldable pub linkCount : List ℕ → ℕ
 linkCount v = u8 v (linksAt v)
 
--- which of the link scores is that of a letter: one score is that of all, and L scores stand in letter order
+-- which of the link scores is a letter's: the one that there is, or of L, which stand in letter order, its own
 unfoldable pub linkIndex : List ℕ → ℕ → ℕ
 linkIndex v letter = cond (eqb (linkCount v) 1) 0 letter
 
--- the link from a letter to the next: the score of the letter that is left
+-- what passing to the next letter scores, by the letter that is left
 unfoldable pub linkScore : List ℕ → ℕ → ℤ
 linkScore v letter = i16 v (linksAt v + 1 + 2 * linkIndex v letter)
 
@@ -91,10 +91,6 @@ letterFields v i =
     ∷ field (2 + 2 * i) 1 (within 1 4 (states v i))
     ∷ []
 
--- a number of links that n letters may have: one for all, or one for each
-unfoldable pub oneOrEach : ℕ → ℕ → Bool
-oneOrEach n count = eqb count 1 || eqb count n
-
 -- the n states of one letter that are left, from number s on; the last has step 0
 unfoldable pub stateFields : List ℕ → ℕ → ℕ → List Field
 stateFields v s zero = []
@@ -103,13 +99,17 @@ stateFields v s (suc n) =
     ∷ field (statesAt v + 4 + 4 * s) 2 (ltb 0 n || eqb (u16 v (statesAt v + 4 + 4 * s)) 0)
     ∷ stateFields v (suc s) n
 
+-- the number of links is 1 or L
+unfoldable pub goodLinkCount : List ℕ → Bool
+goodLinkCount v = eqb (linkCount v) 1 || eqb (linkCount v) (letterCount v)
+
 unfoldable pub voiceFields : List ℕ → List Field
 voiceFields v =
     field 0 1 (within 1 64 (letterCount v))
     ∷ flatMap (letterFields v) (from 0 (letterCount v))
     ++ field (statesAt v) 2 (eqb (stateCount v) (firstState v (letterCount v)))
     ∷ flatMap (λ i. stateFields v (firstState v i) (states v i)) (from 0 (letterCount v))
-    ++ field (linksAt v) 1 (oneOrEach (letterCount v) (linkCount v))
+    ++ field (linksAt v) 1 (goodLinkCount v)
     ∷ field (linksAt v + 1) (2 * linkCount v) true
     ∷ field (symbolsAt v) 1 (within 1 64 (symbolCount v))
     ∷ field (symbolsAt v + 1) (2 * (stateCount v * symbolCount v)) true

@@ -1,12 +1,13 @@
 // The voice model of document 01: how its bytes are judged, field by field. Its definitions are in specs/.
 ghost use mathlib.Core.Path.{_≡_};
-ghost use mathlib.Core.Bool.{_&&_};
+ghost use mathlib.Core.Bool.{_&&_, _||_};
 ghost use Prim.Native.Nat.{_<_};
+ghost use lib.Dec.{eqb};
 ghost use lib.ListN.{length};
 ghost use Rattle.endian.specs.Lists.{within};
 ghost use Rattle.endian.specs.Bytes.{u8};
 ghost use Rattle.voice.specs.Fields.{wellFormed, verdictOf, verdict};
-ghost use Rattle.voice.specs.Voice.{letterCount, printByte, rising, letterFields, linksAt, oneOrEach};
+ghost use Rattle.voice.specs.Voice.{printByte, rising, letterFields, linksAt};
 ghost use Rattle.voice.specs.Voice.{voiceRefusal, voiceRefused};
 ghost use Rattle.voice.specs.Sections.{fieldVerdict, firstBad, lettersPart, statesPart, lastPart};
 use call::inside;
@@ -113,14 +114,14 @@ fn judge_states(voice: &[u8]) -> Verdict
     Verdict::WellFormed
 }
 
-// One link score for all letters, or one for each.
-fn good_link_count(voice: &[u8], count: u8) -> bool
-    ensures { λ r. ⌜ r ≡ oneOrEach (letterCount (now (voice .entry))) count ⌝ }
+// The number of links is 1 or L.
+fn good_link_count(letters: u8, count: u8) -> bool
+    ensures { λ r. ⌜ r ≡ eqb count 1 || eqb count letters ⌝ }
 {
     if count == 1 {
         return true;
     }
-    count == byte_at(voice, 0)
+    count == letters
 }
 
 // Links and symbols. The link scores have no range, so they are judged with K behind them; the emissions have none, so
@@ -129,19 +130,20 @@ fn judge_last(voice: &[u8]) -> Verdict
     ensures { λ r. ⌜ verdictOf r ≡ verdict (length (now (voice .entry))) (linksAt (now (voice .entry)))
         (lastPart (now (voice .entry))) ⌝ }
 {
-    let states_at = 1 + 2 * (byte_at(voice, 0) as usize);
+    let letters = byte_at(voice, 0);
+    let states_at = 1 + 2 * (letters as usize);
     let states = u16_at(voice, states_at) as usize;
-    let at = states_at + 2 + 4 * states;
-    let count = byte_at(voice, at);
-    let links = judge_field(voice.len(), at + 1, good_link_count(voice, count));
-    let Verdict::WellFormed = links else {
-        return links;
+    let links_at = states_at + 2 + 4 * states;
+    let links = byte_at(voice, links_at);
+    let count = judge_field(voice.len(), links_at + 1, good_link_count(letters, links));
+    let Verdict::WellFormed = count else {
+        return count;
     };
-    let symbols_at = at + 1 + 2 * (count as usize);
+    let symbols_at = links_at + 1 + 2 * (links as usize);
     let symbols = byte_at(voice, symbols_at);
-    let known = judge_field(voice.len(), symbols_at + 1, inside(symbols as usize, 1, 64));
-    let Verdict::WellFormed = known else {
-        return known;
+    let count = judge_field(voice.len(), symbols_at + 1, inside(symbols as usize, 1, 64));
+    let Verdict::WellFormed = count else {
+        return count;
     };
     if symbols_at + 1 + 2 * (states * (symbols as usize)) == voice.len() {
         return Verdict::WellFormed;

@@ -11,6 +11,7 @@ use lib.Dec.{eqb}
 use lib.ListN.{length}
 use Rattle.voice.specs.Fields.{wellFormed, wrongLength, verdictOf, verdict}
 use Rattle.voice.specs.Voice.{statesAt, stateCount, linksAt, linkCount, symbolsAt, symbolCount}
+use Rattle.voice.specs.Voice.{goodLinkCount}
 use Rattle.voice.specs.Sections.{andThen, lastPart}
 use Rattle.voice.proofs.Walk.{stands, last-first}
 use Rattle.voice.proofs.judge_last.Statement.{statement}
@@ -30,13 +31,19 @@ linked : (c : tie.After-byte-at2) → linkCount (c .before .before .before .befo
 unfolding linkCount
 linked c = rw (placed (c .before)) (sym (c .byte-at2 .ensures))
 
+judged : (c : tie.After-good-link-count) →
+    goodLinkCount (c .before .before .before .before .before .args .voice .now) ≡ c .good-link-count .result
+unfolding goodLinkCount
+judged c =
+    let l = c .before in
+    rw (linked l, ← l .before .before .byte-at .ensures) (sym (c .good-link-count .ensures))
+
 returns : tie.Need-returns
 returns c =
     let d = c .before in
     let l = d .before .before in
     let v = l .before .before .before .before .args .voice .now in
-    rw (last-first v (linksAt v), placed (l .before), linked l, ← d .before .good-link-count .ensures,
-    ← d .judge-field .ensures) (sym (stands (d .judge-field .result) (c .match .keys2) _))
+    rw (last-first v (linksAt v), placed (l .before), judged (d .before), ← d .judge-field .ensures) (sym (stands (d .judge-field .result) (c .match .keys2) _))
 
 -- where the links are good, K stands behind them
 symbols-placed : (c : tie.After-byte-at3) →
@@ -70,9 +77,18 @@ from-symbols c =
     let d = e .before .before in
     let l = d .before .before in
     let v = l .before .before .before .before .args .voice .now in
-    rw (last-first v (linksAt v), placed (l .before), linked l, counted (l .before), symbols-placed k,
-    symbols-counted k, ← d .before .good-link-count .ensures, ← d .judge-field .ensures, e .enum-told .given .1,
-    ← c .before .inside .ensures, ← c .judge-field2 .ensures)
+    rw (
+      last-first v (linksAt v),
+      placed (l .before),
+      judged (d .before),
+      counted (l .before),
+      symbols-placed k,
+      symbols-counted k,
+      ← d .judge-field .ensures,
+      e .enum-told .given .1,
+      ← c .before .inside .ensures,
+      ← c .judge-field2 .ensures,
+    )
 
 returns-2 : tie.Need-returns-2
 returns-2 c =

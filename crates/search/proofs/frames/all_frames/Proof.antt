@@ -9,9 +9,9 @@ use lib.ListN.{length, replicate, getD-replicate}
 use Rattle.lexicon.specs.Lexicon.{nodeCount}
 use Rattle.graph.proofs.Accepted.{AcceptedImages, accepted}
 use Rattle.storing.specs.Gains.{GainsRoom}
-use Rattle.search.specs.Running.{CallNumbers, FramesDone, Frame}
+use Rattle.search.specs.Running.{CallNumbers, Frame}
 use Rattle.search.proofs.Running.{roomy-same, frame-count, known-symbol, frames-start, frame-of, frames-next}
-use Rattle.search.proofs.Running.{frames-end}
+use Rattle.search.proofs.Running.{FramesDone, frames-end}
 use Rattle.search.proofs.frames.all_frames.Statement.{statement}
 use Rattle.search.proofs.frames.all_frames.Tie as tie
 
@@ -74,7 +74,7 @@ frame-tables-requires c κs =
     let s = l .before in
     let d = l .loop .inv .0 in
     let h = i .loop-test .taken in
-    ((h, known-symbol (start s .pre .0) (l .loop .t) h), (numbers s, (d .table, d .room, λ k. d .held k .tables)))
+    ((h, known-symbol (start s .pre .0) (l .loop .t) h), (numbers s, (d .table, d .room, d .tables)))
 
 abbrev turn : tie.After-frame-tables Inv-loop μ-loop → tie.In-loop Inv-loop μ-loop
 turn g = g .before .before .before .before
@@ -107,7 +107,7 @@ loop-again c =
     let f = c .before .before in
     let g = made c in
     let i = turn g in (
-      frames-next (record { stored = f .frame .ensures (this-frame g); tables = g .frame-tables .ensures }),
+      frames-next (i .before .loop .t) (f .frame .ensures (this-frame g)) (g .frame-tables .ensures),
       omega (arith, i .loop-test .taken),
       f .frame .kept .1 .1 .1 .1 .1 .1 .1 .0 ∙ i .before .loop .inv .2,
     )

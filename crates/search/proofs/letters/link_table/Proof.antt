@@ -17,10 +17,10 @@ use Rattle.search.proofs.letters.link_table.Statement.{statement}
 use Rattle.search.proofs.letters.link_table.Tie as tie
 
 abbrev Inv-loop : tie.InvT-loop
-Inv-loop voice links₀ at count letter₀ links letter = LinkTable voice letter links × (letter ≤ count)
+Inv-loop voice links₀ at letters letter₀ links letter = LinkTable voice letter links × (letter ≤ letters)
 
 abbrev μ-loop : tie.MeasureT-loop
-μ-loop voice links₀ at count letter₀ links letter = count - letter
+μ-loop voice links₀ at letters letter₀ links letter = letters - letter
 
 abbrev start : tie.After-shared-slice-known2 Inv-loop μ-loop → tie.Start Inv-loop μ-loop
 start c = c .before .before .before
