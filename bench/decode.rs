@@ -1,6 +1,6 @@
 //! Times the product's decoding, with all its checking, beside a plain token-passing decoder that checks nothing, and
-//! beside decoding word by word, on the same inputs, in turn; prints the medians and the ratios, then three
-//! series, which are also written to a file, from which bench/plot draws.
+//! beside decoding word by word, on the same inputs, in turn; prints the medians and the ratios for each form of links,
+//! then three series with one link, which are also written to a file, from which bench/plot draws.
 
 mod decode_cases;
 mod decode_inputs;
@@ -20,6 +20,7 @@ mod sketch;
 mod wundaleth;
 
 use decode_cases::{cases, Case, Decode, Series};
+use decode_inputs::Links;
 use wundaleth::wundaleth_decode;
 
 macro_rules! decoders {
@@ -133,12 +134,12 @@ fn shown(time: Option<f64>) -> String {
 
 /// All inputs, T and n; returns the worst ratio to the plain decoder for T = 50 and for more frames: of the scope
 /// paper's five words, where a frame takes some 50 nanoseconds, and of all larger lexicons.
-fn table(cases: &[Case], work: &mut [u8]) -> [[f64; 2]; 2] {
+fn table(form: &str, cases: &[Case], work: &mut [u8]) -> [[f64; 2]; 2] {
     let head = ["product µs", "plain µs", "ratio", "words µs", "ratio"];
     let head: String = head.iter().map(|name| format!("{name:>12}")).collect();
     println!(
-        "{:<24}{:>7}{:>6}{:>8}{:>6}{:>3}{head}",
-        "decoding", "places", "arcs", "words", "T", "n"
+        "{form:<24}{:>7}{:>6}{:>8}{:>6}{:>3}{head}",
+        "places", "arcs", "words", "T", "n"
     );
     let mut worst = [[0f64; 2]; 2];
     for case in cases {
@@ -163,6 +164,23 @@ fn table(cases: &[Case], work: &mut [u8]) -> [[f64; 2]; 2] {
     worst
 }
 
+/// The table of one form of links, and its worst ratios. A library may be older than the form.
+fn print_form(links: Links, work: &mut [u8]) {
+    let cases = cases(links);
+    let form = links.name();
+    if cases.are_refused(wundaleth_decode, work) {
+        println!("{form}: refused by this library, left out");
+        return;
+    }
+    let worst = table(form, &cases.table, work);
+    for (name, worst) in ["five words", "from 20 nodes up"].iter().zip(worst) {
+        println!(
+            "worst ratio to plain, {form}, {name}: {:.2} for T = 50, {:.2} for T of 300 and 1,000",
+            worst[0], worst[1]
+        );
+    }
+}
+
 /// One series: what grows, and the times. They are printed and added to the file's rows.
 fn print_series(series: &Series, work: &mut [u8], rows: &mut String) {
     let name = series.name;
@@ -184,16 +202,11 @@ fn print_series(series: &Series, work: &mut [u8], rows: &mut String) {
 fn main() {
     let file = std::env::args().nth(1).unwrap_or("series.csv".to_string());
     let work = &mut vec![0; 64_000];
-    let cases = cases();
-    let worst = table(&cases.table, work);
-    for (name, worst) in ["five words", "from 20 nodes up"].iter().zip(worst) {
-        println!(
-            "worst ratio to plain, {name}: {:.2} for T = 50, {:.2} for T of 300 and 1,000",
-            worst[0], worst[1]
-        );
-    }
+    print_form(Links::One, work);
+    println!();
+    print_form(Links::ByLetter, work);
     let mut rows = "series,size,product,plain,word by word\n".to_string();
-    for series in &cases.series {
+    for series in &cases(Links::One).series {
         print_series(series, work, &mut rows);
     }
     match std::fs::write(&file, rows) {

@@ -1,7 +1,7 @@
 //! The calls that bench/decode times and bench/instructions counts: an input with its frames and n. One seed makes them
-//! all.
+//! all; those with one link and those with a link a letter differ in the links alone.
 
-use crate::decode_inputs::{inputs, over_arcs, over_words, Input};
+use crate::decode_inputs::{inputs, over_arcs, over_words, Input, Links};
 use crate::random::Random;
 use std::rc::Rc;
 
@@ -21,6 +21,7 @@ pub type Decode = unsafe extern "C" fn(
 
 pub struct Case {
     pub input: Rc<Input>,
+    pub links: Links,
     pub frames: Vec<u8>,
     pub n: u32,
 }
@@ -38,17 +39,18 @@ pub struct Cases {
 }
 
 impl Case {
-    fn of(input: &Rc<Input>, length: usize, n: u32, random: &mut Random) -> Case {
+    fn of(input: &Rc<Input>, links: Links, length: usize, n: u32, random: &mut Random) -> Case {
         let frames = (0..length).map(|_| random.below(input.symbols) as u8);
         Case {
             input: input.clone(),
+            links,
             frames: frames.collect(),
             n,
         }
     }
 
     pub fn call(&self, decode: Decode, work: &mut [u8], out: &mut [u8]) -> i32 {
-        let (voice, lexicon) = (&self.input.voice, &self.input.lexicon);
+        let (voice, lexicon) = (self.input.voice(self.links), &self.input.lexicon);
         // Each pointer is valid for its length.
         unsafe {
             decode(
@@ -68,17 +70,24 @@ impl Case {
     }
 }
 
+impl Cases {
+    /// A library from before a link a letter refuses it: a count that is out of range.
+    pub fn are_refused(&self, decode: Decode, work: &mut [u8]) -> bool {
+        self.table[0].call(decode, work, &mut [0; 64]) == -3
+    }
+}
+
 fn shared(inputs: Vec<Input>) -> Vec<Rc<Input>> {
     inputs.into_iter().map(Rc::new).collect()
 }
 
-pub fn cases() -> Cases {
+pub fn cases(links: Links) -> Cases {
     let random = &mut Random::from_seed(1);
     let mut table = Vec::new();
     for input in shared(inputs(random)) {
         for length in [50, 300, 1_000] {
             for n in [1, 3, 8] {
-                table.push(Case::of(&input, length, n, random));
+                table.push(Case::of(&input, links, length, n, random));
             }
         }
     }
@@ -88,7 +97,7 @@ pub fn cases() -> Cases {
         name,
         cases: cases
             .into_iter()
-            .map(|(size, input, length)| (size, Case::of(input, length, 3, random)))
+            .map(|(size, input, length)| (size, Case::of(input, links, length, 3, random)))
             .collect(),
     };
     let lengths = [50, 100, 200, 300, 400, 500, 600, 700, 800, 900, 1_000];

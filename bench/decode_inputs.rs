@@ -1,10 +1,26 @@
 //! What bench/decode decodes: lexicons from the paper's small one to 400 nodes with 4,000 arcs, and series in which one
-//! size grows alone.
+//! size grows alone. Each has a voice model with one link, and the same with a link a letter.
 
 use crate::draw;
 use crate::image::{small_lexicon, small_voice, Lexicon, Voice};
 use crate::random::Random;
 use crate::sketch::Sketch;
+
+/// The two forms of a voice model's links.
+#[derive(Clone, Copy)]
+pub enum Links {
+    One,
+    ByLetter,
+}
+
+impl Links {
+    pub fn name(self) -> &'static str {
+        match self {
+            Links::One => "one link",
+            Links::ByLetter => "a link a letter",
+        }
+    }
+}
 
 pub struct Input {
     pub name: String,
@@ -13,13 +29,20 @@ pub struct Input {
     pub words: u64,
     /// The states of all words together, by which the time of decoding word by word can be foreseen.
     pub states_of_words: u64,
-    pub voice: Vec<u8>,
+    /// With one link, and with a link a letter.
+    pub voices: [Vec<u8>; 2],
     pub lexicon: Vec<u8>,
     pub symbols: usize,
 }
 
-/// Scores as a trained model has them: none is impossible, loops are likely. No token is ever dropped, which is the most
-/// work.
+impl Input {
+    pub fn voice(&self, links: Links) -> &[u8] {
+        &self.voices[links as usize]
+    }
+}
+
+/// Scores as a trained model has them: none is impossible, loops are likely. No token is ever dropped, which is the
+/// most work.
 fn ordinary(random: &mut Random, voice: &mut Voice) {
     let mut at = 0;
     for letter in &voice.letters {
@@ -33,9 +56,21 @@ fn ordinary(random: &mut Random, voice: &mut Voice) {
             at += 1;
         }
     }
-    voice.link = -100;
+    voice.links = vec![-100];
     for emission in &mut voice.emissions {
         *emission = -(random.below(2_000) as i16);
+    }
+}
+
+/// The same model with a link a letter, from -1 to twice its one link. They have a seed of their own, so that whatever
+/// else is drawn is the same with both forms.
+fn by_letter(voice: &Voice) -> Voice {
+    let random = &mut Random::from_seed(2);
+    let twice = 2 * usize::from(voice.links[0].unsigned_abs());
+    let link = |_| -1 - random.below(twice) as i16;
+    Voice {
+        links: (0..voice.letters.len()).map(link).collect(),
+        ..voice.clone()
     }
 }
 
@@ -65,7 +100,7 @@ fn of_images(name: &str, voice: &Voice, lexicon: &Lexicon) -> Input {
         arcs: lexicon.successors.iter().map(Vec::len).sum(),
         words,
         states_of_words,
-        voice: voice.bytes(),
+        voices: [voice.bytes(), by_letter(voice).bytes()],
         lexicon: lexicon.bytes(),
         symbols: voice.symbols.into(),
     }
@@ -129,8 +164,8 @@ pub fn over_arcs(random: &mut Random) -> Vec<Input> {
         .collect()
 }
 
-/// 80 nodes and 160 arcs each time: 40 layers of two nodes, in blocks beside each other. A block of k layers has 2^k words,
-/// so how the layers are shared out decides how many words there are.
+/// 80 nodes and 160 arcs each time: 40 layers of two nodes, in blocks beside each other. A block of k layers has 2^k
+/// words, so how the layers are shared out decides how many words there are.
 pub fn over_words(random: &mut Random) -> Vec<Input> {
     let shares: [&[usize]; 9] = [
         &[2; 20],

@@ -1,8 +1,8 @@
-//! What the bench calls checking with: the paper's small lexicon, the largest lexicons that are accepted, and large ones
-//! that are refused late.
+//! What the bench calls checking with: the paper's small lexicon, the largest lexicons that are accepted, and large
+//! ones that are refused late.
 
 use crate::draw;
-use crate::image::{bytes_of, small_lexicon, small_voice, Voice};
+use crate::image::{small_lexicon, small_voice, Voice};
 use crate::random::Random;
 use crate::sketch::{Sketch, ROOT, SINK};
 
@@ -15,9 +15,11 @@ pub struct Input {
     pub lexicon: Vec<u8>,
 }
 
-/// 64 letters of two states.
-fn voice(random: &mut Random) -> Voice {
-    draw::voice_of(random, &[2; 64], 64)
+/// 64 letters of so many states, with one link.
+fn voice(random: &mut Random, states: u8) -> Voice {
+    let mut voice = draw::voice_of(random, &[states; 64], 64);
+    voice.links = vec![-1];
+    voice
 }
 
 pub fn input(name: &'static str, sketch: &Sketch, random: &mut Random) -> Input {
@@ -25,7 +27,7 @@ pub fn input(name: &'static str, sketch: &Sketch, random: &mut Random) -> Input 
         name,
         nodes: sketch.nodes(),
         arcs: sketch.arcs(),
-        voice: voice(random).bytes(),
+        voice: voice(random, 2).bytes(),
         lexicon: sketch.lexicon(random).bytes(),
     }
 }
@@ -41,6 +43,8 @@ pub fn inputs(random: &mut Random) -> Vec<Input> {
     }];
     inputs.extend(accepted(random));
     inputs.extend(refused(random));
+    // a library that has one link only refuses it: it comes last
+    inputs.push(by_letter(random, &inputs[1]));
     inputs
 }
 
@@ -131,7 +135,7 @@ fn refused(random: &mut Random) -> Vec<Input> {
     let node = orphan.node(0);
     orphan.arc(node, SINK);
     let mut places = input("7", &draw::dense(random, 400, 4_000), random);
-    places.voice = bytes_of(&draw::voice_of(random, &[3; 64], 64).fields());
+    places.voice = voice(random, 3).bytes();
     let mut long = draw::dense(random, 367, 3_960);
     let word = draw::word(random, 64, 33);
     long.chain(ROOT, &word, SINK);
@@ -153,4 +157,16 @@ fn twice(random: &mut Random) -> Sketch {
     let letters: Vec<u8> = path.iter().map(|node| sketch.letters[*node]).collect();
     sketch.chain(ROOT, &letters, SINK);
     sketch
+}
+
+/// The same lexicon, and as many links as there can be.
+fn by_letter(random: &mut Random, large: &Input) -> Input {
+    let mut voice = voice(random, 2);
+    voice.links = vec![-1; 64];
+    Input {
+        name: "4,000 arcs, 64 links",
+        voice: voice.bytes(),
+        lexicon: large.lexicon.clone(),
+        ..*large
+    }
 }

@@ -1,6 +1,8 @@
-//! Calls the product's decoding once with every case of bench/decode, and prints a line for each: its name, and the
-//! answer with a sum over the hits. bench/instructions runs it under callgrind, which counts what each call executes.
+//! Calls the product's decoding once with every case of bench/decode, in both forms of links, and prints a line for
+//! each: its links, its name, and the answer with a sum over the hits. bench/instructions runs it under callgrind,
+//! which counts what each call executes.
 
+#[allow(dead_code)]
 mod decode_cases;
 #[allow(dead_code)]
 mod decode_inputs;
@@ -20,6 +22,7 @@ mod sketch;
 mod wundaleth;
 
 use decode_cases::{cases, Case};
+use decode_inputs::Links;
 
 /// At a page's start: how many instructions memset takes to clear it depends on where it lies.
 #[repr(align(4096))]
@@ -32,27 +35,30 @@ fn print_call(name: &str, case: &Case, work: &mut Work) {
     let sum = out.iter().fold(0u64, |sum, byte| {
         sum.wrapping_mul(31).wrapping_add((*byte).into())
     });
-    println!("{name}\t{answer} {sum:x}");
+    println!("{}\t{name}\t{answer} {sum:x}", case.links.name());
 }
 
-fn print_calls() {
-    let cases = cases();
-    let mut work = Box::new(Work([0; 64_000]));
+fn print_calls(links: Links, work: &mut Work) {
+    let cases = cases(links);
     for case in &cases.table {
         let (input, length, n) = (&case.input, case.frames.len(), case.n);
         let name = format!("{}, {} places, T {length}, n {n}", input.name, input.places);
-        print_call(&name, case, &mut work);
+        print_call(&name, case, work);
     }
     for series in &cases.series {
         for (size, case) in &series.cases {
             let name = format!("series over {}, {size}", series.name);
-            print_call(&name, case, &mut work);
+            print_call(&name, case, work);
         }
     }
 }
 
 /// A thread's stack begins at a page too, whatever the environment holds.
 fn main() {
-    let calls = std::thread::spawn(print_calls);
+    let calls = std::thread::spawn(|| {
+        let mut work = Box::new(Work([0; 64_000]));
+        print_calls(Links::One, &mut work);
+        print_calls(Links::ByLetter, &mut work);
+    });
     assert!(calls.join().is_ok());
 }

@@ -1,5 +1,5 @@
-/* The parts of checking as one would write them in C: nothing proved. For plain_check.c and plain_codes.c, each of which calls
-   `judge` in one place, so that the compiler makes one function of it all. */
+/* The parts of checking as one would write them in C: nothing proved. For plain_check.c and plain_codes.c, each of which
+   calls `judge` in one place, so that the compiler makes one function of it all. */
 #include <stddef.h>
 #include <stdint.h>
 #include <string.h>
@@ -96,7 +96,7 @@ static int judge_moves(struct reader *reader, const struct voice *voice)
 /* 0, 2 or 3. */
 static int judge_voice(struct reader reader, struct voice *voice)
 {
-    unsigned symbols;
+    unsigned links, symbols;
     int refusal = judge_letters(&reader, voice);
 
     if (refusal == 0)
@@ -105,14 +105,16 @@ static int judge_voice(struct reader reader, struct voice *voice)
         return refusal;
     if (is_short(&reader, 1))
         return 2;
-    if (*reader.at++ != 1)
+    links = *reader.at++;
+    if (links != 1 && links != voice->letters)
         return 3;
-    if (is_short(&reader, 3))
+    if (is_short(&reader, 2 * links + 1))
         return 2;
-    symbols = reader.at[2];
+    reader.at += 2 * links;
+    symbols = *reader.at++;
     if (symbols < 1 || symbols > 64)
         return 3;
-    return (size_t)(reader.end - reader.at - 3) == (size_t)2 * voice->sum * symbols ? 0 : 2;
+    return (size_t)(reader.end - reader.at) == (size_t)2 * voice->sum * symbols ? 0 : 2;
 }
 
 static int judge_nodes(struct reader *reader, unsigned letters, struct graph *graph)

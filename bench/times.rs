@@ -1,5 +1,5 @@
 //! Times two libraries' decoding in turn on the cases of bench/decode with 300 frames, and prints a line for each: its
-//! name, and the time of the one called new in percent of the old one's. bench/times links it with both.
+//! links, its name, and the time of the one called new in percent of the old one's. bench/times links it with both.
 
 #[allow(dead_code)]
 mod decode_cases;
@@ -19,6 +19,7 @@ mod random;
 mod sketch;
 
 use decode_cases::{cases, Case, Decode};
+use decode_inputs::Links;
 
 macro_rules! decoders {
     ($($name:ident)*) => {
@@ -96,13 +97,24 @@ fn percent(case: &Case, work: &mut Work) -> f64 {
     100.0 * least[1] / least[0]
 }
 
+/// A form of links that the old library does not know has no lines.
+fn print_form(links: Links, work: &mut Work) {
+    let cases = cases(links);
+    if cases.are_refused(old_decode, &mut work.0) {
+        return;
+    }
+    for case in cases.table.iter().filter(|case| case.frames.len() == 300) {
+        let (form, input, n) = (links.name(), &case.input, case.n);
+        let percent = percent(case, work);
+        println!(
+            "{form}\t{}, {} places, n {n}\t{percent:.2}",
+            input.name, input.places
+        );
+    }
+}
+
 fn main() {
     let mut work = Box::new(Work([0; 64_000]));
-    for case in cases().table.iter().filter(|case| case.frames.len() == 300) {
-        let name = format!(
-            "{}, {} places, n {}",
-            case.input.name, case.input.places, case.n
-        );
-        println!("{name}\t{:.2}", percent(case, &mut work));
-    }
+    print_form(Links::One, &mut work);
+    print_form(Links::ByLetter, &mut work);
 }

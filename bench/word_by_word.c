@@ -1,5 +1,5 @@
-/* Decoding word by word: for each word of the lexicon its own best state path, from the first frame on. It checks nothing
-   and is for bench/decode only. */
+/* Decoding word by word: for each word of the lexicon its own best state path, from the first frame on. It checks
+   nothing and is for bench/decode only. */
 #include <stddef.h>
 #include <stdint.h>
 
@@ -11,7 +11,8 @@ enum { MOST_VERTICES = 402, MOST_LETTERS = 32, MOST_SPOTS = 4 * MOST_LETTERS, MO
 struct voice {
     uint8_t states[64];
     uint16_t first[64]; /* the first state of each letter */
-    int32_t loop[MOST_STATES], step[MOST_STATES], link;
+    int32_t loop[MOST_STATES], step[MOST_STATES];
+    int32_t link[64]; /* of leaving each letter */
     unsigned symbols;
     const uint8_t *emissions;
 };
@@ -45,7 +46,7 @@ static int32_t score_at(const uint8_t *bytes)
 
 static void read_voice(struct voice *voice, const uint8_t *at)
 {
-    unsigned letters = *at++, sum = 0;
+    unsigned letters = *at++, sum = 0, links;
 
     for (unsigned k = 0; k < letters; k++, at += 2) {
         voice->first[k] = (uint16_t)sum;
@@ -57,9 +58,12 @@ static void read_voice(struct voice *voice, const uint8_t *at)
         voice->loop[s] = score_at(at);
         voice->step[s] = score_at(at + 2);
     }
-    voice->link = score_at(at + 1);
-    voice->symbols = at[3];
-    voice->emissions = at + 4;
+    links = *at++;
+    for (unsigned k = 0; k < letters; k++)
+        voice->link[k] = score_at(links == 1 ? at : at + 2 * k);
+    at += 2 * links;
+    voice->symbols = *at++;
+    voice->emissions = at;
 }
 
 static int32_t sum(int32_t score, int32_t more)
@@ -72,13 +76,15 @@ static unsigned spots_of(const struct search *search, unsigned length, uint16_t 
 {
     const struct voice *voice = &search->voice;
     unsigned spots = 0;
+    int32_t link = NO_SCORE;
 
     for (unsigned k = 0; k < length; k++) {
         unsigned letter = search->word[k];
         for (unsigned s = 0; s < voice->states[letter]; s++, spots++) {
             state[spots] = (uint16_t)(voice->first[letter] + s);
-            enter[spots] = s == 0 ? voice->link : voice->step[state[spots] - 1];
+            enter[spots] = s == 0 ? link : voice->step[state[spots] - 1];
         }
+        link = voice->link[letter];
     }
     return spots;
 }
@@ -139,8 +145,9 @@ static void walk(struct search *search, unsigned vertex, unsigned length)
     }
 }
 
-int32_t word_by_word(const uint8_t *voice, size_t voice_len, const uint8_t *lexicon, size_t lexicon_len, const uint8_t *frames,
-                     size_t frames_len, uint32_t n, uint8_t *work, size_t work_len, uint8_t *out, size_t out_len)
+int32_t word_by_word(const uint8_t *voice, size_t voice_len, const uint8_t *lexicon, size_t lexicon_len,
+                     const uint8_t *frames, size_t frames_len, uint32_t n, uint8_t *work, size_t work_len, uint8_t *out,
+                     size_t out_len)
 {
     static struct search search;
     const uint8_t *at;

@@ -5,7 +5,8 @@
  * output.
  *
  * Images. docs/FORMAT.md has the voice model and the lexicon byte by byte, and which refusal each rule of theirs
- * gives. Every call with a lexicon checks both images anew; none has to be checked before.
+ * gives. Every call with a lexicon checks both images anew; none has to be checked before. A voice model has one link
+ * score for all letters, or since 1.1 one for each letter, which counts where that letter is left.
  *
  * Answers. A call answers a value, 0 or above, or a refusal's number made negative: -WUNDALETH_LEXICON_LENGTH is -4,
  * so compare with the constant made negative. Of the refusals that apply the lowest number is answered. Within one
@@ -38,7 +39,7 @@ extern "C" {
 
 /* The version of this interface. */
 #define WUNDALETH_VERSION_MAJOR 1
-#define WUNDALETH_VERSION_MINOR 0
+#define WUNDALETH_VERSION_MINOR 1
 #define WUNDALETH_VERSION_PATCH 0
 
 /* Sizes. */

@@ -9,7 +9,7 @@
 static const uint8_t voice[] = {
     4, 'a', 1, 'i', 1, 'n', 1, 't', 1,                                    /* L letters: print byte, number of states */
     4, 0, 255, 255, 0, 0, 255, 255, 0, 0, 255, 255, 0, 0, 255, 255, 0, 0, /* S states: loop -1, step 0 */
-    1, 254, 255,                                                          /* links: always 1; link score -2 */
+    1, 254, 255,                                                          /* links: one for all letters, -2 */
     4,                                                                    /* K symbols; then the emissions of */
     0, 0, 246, 255, 246, 255, 246, 255, 246, 255, 0, 0, 246, 255, 246, 255, /* a and i: 0 at the own symbol, else -10 */
     246, 255, 246, 255, 0, 0, 246, 255, 246, 255, 246, 255, 246, 255, 0, 0, /* n and t */

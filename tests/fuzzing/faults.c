@@ -2,6 +2,9 @@
  * fault is added to what the library does. -DFAULT=k chooses it. */
 #include "../../include/wundaleth.h"
 
+#include <stdbool.h>
+#include <string.h>
+
 /* The library's own function, and the one that is called in its place, of the type that the header gives it. */
 #define WRAPPED(name) extern __typeof__(wundaleth_##name) __real_wundaleth_##name, __wrap_wundaleth_##name
 
@@ -69,13 +72,54 @@ int32_t __wrap_wundaleth_list(const uint8_t *voice, size_t voice_length, const u
     return answer;
 }
 
+/* The first link is taken for all letters: the voice model with that one alone. Answers its length. */
+static size_t first_link(const uint8_t *voice, size_t length, uint8_t *changed)
+{
+    size_t states = 1 + 2 * (size_t)voice[0], links = states + 2 + 4 * (voice[states] + 256u * voice[states + 1]);
+    size_t rest = links + 1 + 2 * (size_t)voice[links];
+    memcpy(changed, voice, links + 3);
+    changed[links] = 1;
+    memcpy(changed + links + 3, voice + rest, length - rest);
+    return links + 3 + length - rest;
+}
+
+/* The hit's word ends in a letter whose link is impossible. */
+static bool ends_there(const uint8_t *voice, const uint8_t *word, int32_t length)
+{
+    size_t states = 1 + 2 * (size_t)voice[0], links = states + 2 + 4 * (voice[states] + 256u * voice[states + 1]);
+    size_t letter = 0;
+    while (voice[1 + 2 * letter] != word[length - 1])
+        letter++;
+    const uint8_t *link = voice + links + 1 + (voice[links] == 1 ? 0 : 2 * letter);
+    return link[0] == 0 && link[1] == 128;
+}
+
 int32_t __wrap_wundaleth_decode(const uint8_t *voice, size_t voice_length, const uint8_t *lexicon,
                                 size_t lexicon_length, const uint8_t *frames, size_t frames_length, uint32_t n,
                                 uint8_t *work, size_t work_length, uint8_t *out, size_t out_length)
 {
-    uint8_t old = work_length > 0 ? work[0] : 0;
+    static uint8_t changed[40 << 10];
+    uint8_t word[32], held[64], old = work_length > 0 ? work[0] : 0;
+    memcpy(held, out, out_length < 64 ? out_length : 64);
     int32_t answer = __real_wundaleth_decode(voice, voice_length, lexicon, lexicon_length, frames, frames_length, n,
                                              work, work_length, out, out_length);
+    if (FAULT == 17 && answer > 0) {
+        size_t length = first_link(voice, voice_length, changed);
+        answer = __real_wundaleth_decode(changed, length, lexicon, lexicon_length, frames, frames_length, n, work,
+                                         work_length, out, out_length);
+    }
+    /* a word is no hit if its last letter cannot be left */
+    for (int32_t k = 0; FAULT == 18 && k < answer;) {
+        struct wundaleth_hit hit = wundaleth_hit_at(out, (size_t)k);
+        int32_t length = __real_wundaleth_code_to_word(voice, voice_length, lexicon, lexicon_length, hit.code, work,
+                                                       work_length, word, 32);
+        if (ends_there(voice, word, length)) {
+            answer--;
+            memmove(out + 8 * k, out + 8 * k + 8, 8 * (size_t)(answer - k));
+            memcpy(out + 8 * answer, held + 8 * answer, 8);
+        } else
+            k++;
+    }
     /* the hits depend on what the work space held */
     if (FAULT == 11 && answer > 0 && old < 8)
         out[0] ^= 1;

@@ -35,6 +35,10 @@ enum { IMAGE = 40 << 10, OUTPUT = 700 << 10, LISTED = 3000 };
 enum { SHOWN = 20 };
 
 static unsigned long long counts[FUNCTIONS][17], findings;
+
+/* Accepted voice models by their links: of one letter, where both forms are the same; else with one link, and with one
+ * for each letter. And hits that were held to the sum of their links. */
+static unsigned long long one_letter, one_link, link_for_each, added_up;
 static unsigned long long seed, first_round, round_now;
 static enum function called;
 
@@ -67,7 +71,9 @@ static void print_counts(void)
             else
                 printf("%9s", "");
     }
-    printf("\nfindings %llu\n", findings);
+    printf("\naccepted voice models: %llu with one letter; with more, ", one_letter);
+    printf("%llu with one link and %llu with a link for each\n", one_link, link_for_each);
+    printf("hits held to the sum of their links: %llu\nfindings %llu\n", added_up, findings);
     fflush(stdout);
 }
 

@@ -35,8 +35,10 @@ static void draw_voice(uint32_t letters, uint32_t most_states, uint32_t symbols)
             put_number(&voice, score());
             put_number(&voice, s == states[k] ? 0 : score());
         }
-    put(&voice, 1);
-    put_number(&voice, score());
+    uint32_t links = once_in(2) ? 1 : letters;
+    put(&voice, links);
+    for (uint32_t k = 0; k < links; k++)
+        put_number(&voice, score());
     put(&voice, symbols);
     for (uint32_t k = 0; k < all * symbols; k++)
         put_number(&voice, score());
@@ -116,9 +118,10 @@ static void draw_lexicon(void)
     put_number(&lexicon, 0);
 }
 
-/* The small lexicon of the scope paper: an, at, i, in, it. */
+/* The small lexicon of the scope paper: an, at, i, in, it. Its link is -2, for all letters or stored for each. */
 static void small(void)
 {
+    uint32_t links = once_in(2) ? 1 : 4;
     static const uint8_t arcs[] = {4, 0, 0, 1, 2, 3, 2, 0, 1, 0, 2, 0, 2, 0, 3, 0, 4, 0,
                                    3, 0, 5, 0, 3, 0, 4, 0, 1, 0, 5, 0, 1, 0, 5, 0, 0, 0};
     memcpy(lexicon.at, arcs, lexicon.length = sizeof arcs);
@@ -133,28 +136,58 @@ static void small(void)
         put_number(&voice, 65535);
         put_number(&voice, 0);
     }
-    put(&voice, 1);
-    put_number(&voice, 65534);
+    put(&voice, links);
+    for (uint32_t k = 0; k < links; k++)
+        put_number(&voice, 65534);
     put(&voice, 4);
     for (int k = 0; k < 16; k++)
         put_number(&voice, k % 5 == 0 ? 0 : 65526);
 }
 
-/* Where the links of a whole voice model begin; K stands three bytes after. */
+/* Where the links of a whole voice model begin, with their count. */
 static size_t links_at(void)
 {
     size_t states = 1 + 2 * (size_t)voice.at[0];
     return states + 2 + 4 * (voice.at[states] + 256u * voice.at[states + 1]);
 }
 
+/* Where K stands in a whole voice model: behind the links, however many they are. */
+static size_t symbols_at(void)
+{
+    return links_at() + 1 + 2 * (size_t)voice.at[links_at()];
+}
+
+/* Puts other links into a whole voice model: this count, and so many scores, drawn or 0. */
+static void put_links(uint32_t count, uint32_t scores, bool drawn)
+{
+    static struct bytes old;
+    size_t rest = symbols_at();
+    old = voice;
+    voice.length = links_at();
+    put(&voice, count);
+    for (uint32_t k = 0; k < scores; k++)
+        put_number(&voice, drawn ? score() : 0);
+    for (; rest < old.length; rest++)
+        put(&voice, old.at[rest]);
+}
+
+/* Another count of links, with as many scores or about as many. */
+static void damage_links(void)
+{
+    uint32_t letters = voice.at[0], counts[] = {0, 1, 2, letters - 1, letters, letters + 1, 255};
+    uint32_t count = counts[below(7)];
+    put_links(count, once_in(2) ? count : (uint32_t)around(count), true);
+}
+
 /* Where a field of a whole image begins, and its size: in a voice model a count, a print byte, a number of states, a
- * step or the links. */
+ * step, a link or K. */
 static size_t voice_field(size_t *size)
 {
     size_t letters = voice.at[0], states = 1 + 2 * letters, links = links_at();
-    size_t fields[] = {0, 1 + below(2 * (uint32_t)letters), states, states + 4, links - 2, links, links + 3};
-    uint32_t which = below(7);
-    *size = which >= 2 && which <= 4 ? 2 : 1;
+    size_t link = links + 1 + 2 * below(voice.at[links]);
+    size_t fields[] = {0, 1 + below(2 * (uint32_t)letters), states, states + 4, links - 2, link, links, symbols_at()};
+    uint32_t which = below(8);
+    *size = which >= 2 && which <= 5 ? 2 : 1;
     return fields[which];
 }
 
@@ -212,11 +245,16 @@ static void damage(struct bytes *image)
 {
     if (once_in(12))
         fill(image->at, image->length = below(once_in(4) ? 3000 : 40));
+    else if (image == &voice && once_in(6))
+        damage_links();
     else if (once_in(2))
         damage_field(image);
     else
         damage_bytes(image);
 }
+
+/* The voice model is as it was drawn. */
+static bool voice_is_whole;
 
 static void draw_images(void)
 {
@@ -232,7 +270,8 @@ static void draw_images(void)
         draw_voice(shape.letters, between(1, 4), once_in(12) ? between(1, 64) : between(1, 4));
         draw_lexicon();
     }
-    if (once_in(4))
+    voice_is_whole = !once_in(4);
+    if (!voice_is_whole)
         damage(&voice);
     if (once_in(4))
         damage(&lexicon);

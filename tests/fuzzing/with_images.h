@@ -39,6 +39,12 @@ static void test_check(void)
     struct call call = with_images(CHECK, NULL, 0, 0);
     verdict = twice(&call);
     must(verdict != 0 && verdict <= WUNDALETH_MOST_WORDS, "W is out of its range");
+    must(!voice_is_whole || (verdict != -2 && verdict != -3), "a voice model is refused as it was drawn");
+    if (verdict > 0) {
+        uint32_t letters = voice.at[0], links = voice.at[links_at()];
+        must(links == 1 || links == letters, "a number of links is accepted that is neither 1 nor L");
+        *(letters == 1 ? &one_letter : links == 1 ? &one_link : &link_for_each) += 1;
+    }
     call.work = work_bytes();
     int32_t answer = once(&call, NULL);
     must(answer == -1 || answer == verdict, "W or the refusal depends on the work space");
@@ -168,7 +174,7 @@ static void test_code_to_word(void)
 /* K of an accepted voice model. */
 static uint32_t symbols(void)
 {
-    return voice.at[links_at() + 3];
+    return voice.at[symbols_at()];
 }
 
 static void draw_frames(struct bytes *frames)
@@ -216,6 +222,57 @@ static void test_hits(const uint8_t *hits, int32_t count)
     }
 }
 
+/* Adds up the links of a word's letters, all but the last. False if one of them is impossible. */
+static bool add_links(const struct bytes *word, int32_t *sum)
+{
+    size_t links = links_at();
+    *sum = 0;
+    for (size_t k = 0; k + 1 < word->length; k++) {
+        size_t letter = 0;
+        while (letter < voice.at[0] && voice.at[1 + 2 * letter] != word->at[k])
+            letter++;
+        const uint8_t *at = voice.at + links + 1 + (voice.at[links] == 1 ? 0 : 2 * letter);
+        int32_t link = at[0] + 256 * at[1] - (at[1] < 128 ? 0 : 65536);
+        if (link == -32768)
+            return false;
+        *sum += link;
+    }
+    return true;
+}
+
+/* Every state path of a word leaves each of its letters but the last once. So a word's score is what it is if all links
+ * are 0, and its links beside. Both lists are for n = 8; the one without links has them in the other form. */
+static void test_links(struct bytes *frames, const uint8_t *hits, int32_t count)
+{
+    static struct bytes kept, word;
+    static uint8_t without[64];
+    struct call call = with_images(DECODE, frames, 8, 64);
+    kept = voice;
+    uint32_t links = voice.at[links_at()] == 1 ? voice.at[0] : 1;
+    put_links(links, links, false);
+    int32_t all = once(&call, without), listed = 0;
+    voice = kept;
+    for (int32_t k = 0; k < all; k++) {
+        struct wundaleth_hit plain = wundaleth_hit_at(without, (size_t)k);
+        int32_t sum;
+        spelled(plain.code, &word);
+        called = DECODE;
+        bool possible = add_links(&word, &sum), is_listed = false;
+        for (int32_t i = 0; i < count; i++) {
+            struct wundaleth_hit hit = wundaleth_hit_at(hits, (size_t)i);
+            if (hit.code != plain.code)
+                continue;
+            is_listed = true;
+            listed++;
+            must(possible, "a hit leaves a letter that cannot be left");
+            must(!possible || hit.score == plain.score + sum, "a score is not the sum of its links and the rest");
+        }
+        must(is_listed || !possible || verdict > 8, "a word is missing that has its links and the rest");
+    }
+    must(listed == count || verdict > 8, "a word is listed that has no score without its links");
+    added_up += (unsigned)listed;
+}
+
 static void test_decode(void)
 {
     static struct bytes frames;
@@ -239,6 +296,10 @@ static void test_decode(void)
     int32_t all = once(&call, first_written);
     must(all >= answer && (answer == (int32_t)n || all == answer), "n = 8 has not the hits that a smaller n has");
     must(memcmp(hits, first_written, 8 * (size_t)answer) == 0, "n = 8 has other hits than a smaller n");
+    if (all >= 0 && all <= 8) {
+        memcpy(hits, first_written, 8 * (size_t)all);
+        test_links(&frames, hits, all);
+    }
 }
 
 #endif

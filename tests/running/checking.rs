@@ -5,8 +5,8 @@ mod limits;
 mod several;
 
 use crate::buffers::{cut, whole, Buffer, Lent};
-use crate::counts::Counts;
-use crate::damage::{damaged, with_field, EDGES};
+use crate::counts::{Counts, Forms};
+use crate::damage::{damaged, damaged_voice, link_counts, with_every_links, with_field, EDGES};
 use crate::draw;
 use crate::faults::faulty_images;
 use crate::image::{bytes_of, small_lexicon, small_voice, Field, Lexicon, Voice};
@@ -26,6 +26,7 @@ struct Checking {
     lexicon: Buffer,
     work: Work,
     counts: Counts,
+    forms: Forms,
     differences: usize,
 }
 
@@ -38,6 +39,7 @@ pub fn run(seed: u64) -> usize {
         voice: Buffer::new(),
         lexicon: Buffer::new(),
         counts: Counts::of(&ALL[1..]),
+        forms: Forms::default(),
         differences: 0,
     };
     checking.examples();
@@ -45,14 +47,16 @@ pub fn run(seed: u64) -> usize {
     checking.any_bytes(4_000);
     checking.damaged_images(60_000);
     checking.every_length(120);
-    checking.every_field(16);
+    checking.every_field(14);
+    checking.links(24);
     checking.equal_spellings(20_000);
     checking.work_spaces(300);
     checking.limits(6);
     checking.several_at_once(20_000);
     checking.large(30);
-    let missing = checking.counts.missing();
+    let missing = checking.counts.missing() + checking.forms.missing();
     checking.counts.print("accepted");
+    checking.forms.print("accepted voice models");
     println!(
         "checking: {} calls, {} differences",
         checking.counts.calls(),
@@ -82,6 +86,9 @@ impl Checking {
             ));
         }
         self.counts.add(expected);
+        if expected > 0 {
+            self.forms.add(reference::letters_and_links(voice.bytes));
+        }
         expected
     }
 
@@ -146,7 +153,7 @@ impl Checking {
             let (voice, lexicon) = draw::images(&mut self.random);
             let (mut voice_bytes, mut lexicon_bytes) = (voice.bytes(), lexicon.bytes());
             if self.random.once_in(40) {
-                voice_bytes = damaged(&mut self.random, &voice.fields());
+                voice_bytes = damaged_voice(&mut self.random, &voice);
             }
             if self.random.once_in(40) {
                 lexicon_bytes = damaged(&mut self.random, &lexicon.fields());
@@ -185,7 +192,7 @@ impl Checking {
             let (mut voice, mut lexicon) = (images.0.bytes(), images.1.bytes());
             let which = self.random.below(8);
             if which < 3 {
-                voice = damaged(&mut self.random, &images.0.fields());
+                voice = damaged_voice(&mut self.random, &images.0);
             }
             if which > 1 {
                 lexicon = damaged(&mut self.random, &images.1.fields());
@@ -227,15 +234,51 @@ impl Checking {
         for _ in 0..pairs {
             let (voice, lexicon) = self.short_images();
             let (voice_fields, lexicon_fields) = (voice.fields(), lexicon.fields());
+            let links_at = voice.fields_before_links().len();
+            let counts = link_counts(voice.letters.len());
             let (voice, lexicon) = (voice.bytes(), lexicon.bytes());
             for index in 0..voice_fields.len() {
-                for value in values_for(voice_fields[index]) {
+                let mut values = values_for(voice_fields[index]);
+                if index == links_at {
+                    values.extend(counts.iter().map(|count| *count as u16));
+                }
+                for value in values {
                     self.call_with(&with_field(&voice_fields, index, value), &lexicon);
                 }
             }
             for index in 0..lexicon_fields.len() {
                 for value in values_for(lexicon_fields[index]) {
                     self.call_with(&voice, &with_field(&lexicon_fields, index, value));
+                }
+            }
+        }
+    }
+
+    /// Links in both forms and in none, with more scores than their count and with fewer; and the voice model cut at
+    /// every length in and about its links, with what was cut off behind it in memory.
+    fn links(&mut self, models: usize) {
+        self.counts.begin("links", &[0, 2, 3]);
+        for k in 0..models {
+            let any = self.random.between(4, 63);
+            let letters = [1, 2, 3, 64, any, 5][k % 6];
+            let states: Vec<u8> = (0..letters)
+                .map(|_| self.random.between(1, 4) as u8)
+                .collect();
+            let mut voice = draw::voice_of(&mut self.random, &states, 1 + k / 6);
+            let lexicon = Sketch::of_words(&[vec![letters as u8 - 1]]);
+            let lexicon = lexicon.lexicon(&mut self.random).bytes();
+            for (voice, known) in with_every_links(&voice) {
+                let answer = self.call(whole(&voice), whole(&lexicon), WORK_SPACE);
+                let known = known.map(|refusal| if refusal == 0 { 1 } else { -refusal });
+                self.hold_reference_to(known.unwrap_or(answer), answer);
+            }
+            let links_at = bytes_of(&voice.fields_before_links()).len();
+            for count in [1, letters] {
+                voice.links.resize(count, -1);
+                let voice = voice.bytes();
+                for length in links_at - 2..(links_at + 2 * count + 6).min(voice.len()) {
+                    let answer = self.call(cut(&voice, length), whole(&lexicon), WORK_SPACE);
+                    self.hold_reference_to(-2, answer);
                 }
             }
         }

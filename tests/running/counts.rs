@@ -1,5 +1,6 @@
 //! Counts of answers, for each group of calls: how often a value, and how often each refusal. A group says which
-//! answers it has to show; a count of 0 there is a fault of the test.
+//! answers it has to show; a count of 0 there is a fault of the test. And counts of voice models by the form of their
+//! links.
 
 struct Row {
     group: &'static str,
@@ -82,6 +83,46 @@ impl Counts {
                 println!("never seen: {column}");
                 missing += 1;
             }
+        }
+        missing
+    }
+}
+
+/// Voice models by the form of their links. With one letter both forms are the same.
+#[derive(Default)]
+pub struct Forms {
+    one_letter: u64,
+    one_link: u64,
+    link_for_each: u64,
+}
+
+impl Forms {
+    pub fn add(&mut self, (letters, links): (usize, usize)) {
+        let form = match (letters, links) {
+            (1, _) => &mut self.one_letter,
+            (_, 1) => &mut self.one_link,
+            _ => &mut self.link_for_each,
+        };
+        *form += 1;
+    }
+
+    pub fn print(&self, what: &str) {
+        println!(
+            "{what}: {} with one letter; with more, {} with one link and {} with a link for each",
+            self.one_letter, self.one_link, self.link_for_each
+        );
+    }
+
+    /// Says how many were seen too rarely, and prints it then: each form has to be a quarter of all, one letter a
+    /// hundredth.
+    pub fn missing(&self) -> usize {
+        let all = self.one_letter + self.one_link + self.link_for_each;
+        let rare = |seen: u64, least: u64| usize::from(seen < least.max(1));
+        let missing = rare(self.one_letter, all / 100)
+            + rare(self.one_link, all / 4)
+            + rare(self.link_for_each, all / 4);
+        if missing > 0 {
+            self.print("seen too rarely");
         }
         missing
     }

@@ -2,6 +2,7 @@
 //! byte of the output and of the work space, and every byte of what is only read and around the buffers.
 
 mod large;
+mod links;
 mod lists;
 mod refusals;
 mod scores;
@@ -21,6 +22,9 @@ use word_by_word::{Hit, Images};
 const ALL: [usize; 14] = [0, 1, 2, 3, 4, 5, 6, 7, 8, 9, 10, 11, 12, 16];
 const SHOWN_DIFFERENCES: usize = 10;
 const SHOWN_BYTES: usize = 400;
+/// Up to so many words and frames, some lists are also made by other readings of the links.
+const FEW_WORDS: usize = 48;
+const FEW_FRAMES: usize = 60;
 
 /// The arguments of one call.
 #[derive(Clone, Copy)]
@@ -90,6 +94,7 @@ pub fn run(seed: u64) -> usize {
         differences: 0,
     };
     decoding.examples();
+    decoding.links();
     decoding.small(26_000);
     decoding.damaged_images(20_000);
     decoding.any_bytes(2_000);
@@ -156,12 +161,25 @@ impl Decoding {
         );
         let (frames, work, out) = (call.frames.bytes, call.work_length, call.out_length);
         let list = word_by_word::decode(images, frames, call.n, work, out);
-        if let Ok(list) = &list {
+        if let (Ok(images), Ok(list)) = (images, &list) {
             self.lists.add(list, call.n);
+            self.count_links(images, frames, call.n, &list.hits);
         }
         let hits = list.map(|list| list.hits);
         self.compare(call.n, answer, &hits);
         hits
+    }
+
+    /// What links the list comes from. For some lists of few words all readings of the links are made, and the right
+    /// one has to give the list again.
+    fn count_links(&mut self, images: &Images, frames: &[u8], n: u32, hits: &[Hit]) {
+        let is_small = images.words.len() <= FEW_WORDS && frames.len() <= FEW_FRAMES;
+        let is_tried = images.stored_links > 1 && is_small && self.random.once_in(4);
+        let readings = is_tried.then(|| images.readings(frames, n));
+        if readings.as_ref().is_some_and(|lists| lists.left != hits) {
+            self.difference("the reference lists otherwise if it adds up the links by themselves");
+        }
+        self.lists.add_links(images, hits, readings.as_ref());
     }
 
     fn compare(&mut self, n: u32, answer: i32, hits: &Result<Vec<Hit>, Number>) {

@@ -15,6 +15,14 @@ fn score(random: &mut Random) -> i16 {
     }
 }
 
+/// One link for all letters or one for each, as often. They are drawn from a seed of their own, so that whatever else
+/// is drawn does not depend on how many they are.
+fn links(random: &mut Random, letters: usize) -> Vec<i16> {
+    let mut random = Random::from_seed(random.next() ^ random.next());
+    let count = *random.pick(&[1, letters]);
+    (0..count).map(|_| score(&mut random)).collect()
+}
+
 /// A voice model whose letters have these numbers of states. Nothing of it is out of range, if these numbers are not.
 pub fn voice_of(random: &mut Random, states: &[u8], symbols: usize) -> Voice {
     let mut print_bytes: Vec<u8> = (34..=125).collect();
@@ -40,7 +48,7 @@ pub fn voice_of(random: &mut Random, states: &[u8], symbols: usize) -> Voice {
     }
     Voice {
         letters: letters.collect(),
-        link: score(random),
+        links: links(random, states.len()),
         symbols: symbols as u8,
         emissions: (0..moves.len() * symbols).map(|_| score(random)).collect(),
         moves,

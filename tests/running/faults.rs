@@ -1,6 +1,6 @@
 //! Images with several faults at once, any set of the conditions 2 to 10.
 
-use crate::damage::damaged;
+use crate::damage::{damaged, is_link_count, link_counts};
 use crate::draw;
 use crate::image::{bytes_of, Field, Lexicon, Voice};
 use crate::random::Random;
@@ -10,8 +10,13 @@ use crate::sketch::{ROOT, SINK};
 pub fn faulty_images(random: &mut Random, several: usize) -> (Vec<u8>, Vec<u8>) {
     let has = |number: usize| several >> (number - 2) & 1 == 1;
     let (voice, lexicon) = faulty_graph(random, has);
+    let (links_at, letters) = (voice.fields_before_links().len(), voice.letters.len());
     let (mut voice, mut lexicon) = (voice.fields(), lexicon.fields());
-    if has(3) {
+    if has(3) && random.once_in(6) {
+        let mut counts = link_counts(letters);
+        counts.retain(|count| !is_link_count(*count, letters));
+        voice[links_at].value = *random.pick(&counts) as u16;
+    } else if has(3) {
         set_out_of_range(random, &mut voice);
     }
     if has(5) {

@@ -15,6 +15,12 @@ const FRAMES: [u8; 2] = [0, 2];
 const HITS: u32 = 3;
 const WORDS: u32 = 5;
 const CODES: [u32; 3] = [0, 1, 3];
+/// The links of the page's model in the other form, where they stand, how far they move what follows, and the scores
+/// that the page's words then have.
+const LINKS: [i16; 4] = [-2, -3, -4, -5];
+const LINKS_AT: usize = 27;
+const MOVED_BY: usize = 6;
+const LINKED_SCORES: [i32; 3] = [-2, -12, -13];
 
 struct Page {
     random: Random,
@@ -65,13 +71,18 @@ impl Page {
         }
     }
 
-    /// The bytes of an example's table, whose cells are offset, decimal, hex and meaning. Instead of bytes a row may
-    /// have the name of an image, for all its bytes.
+    /// The bytes of an example's table, from the first on.
     fn bytes(&mut self, example: &str) -> Vec<u8> {
+        self.bytes_from(0, example)
+    }
+
+    /// The bytes of an example's table, whose cells are offset, decimal, hex and meaning, and whose first row stands at
+    /// this offset. Instead of bytes a row may have the name of an image, for all its bytes.
+    fn bytes_from(&mut self, start: usize, example: &str) -> Vec<u8> {
         let mut bytes = Vec::new();
         for row in rows(example) {
             let what = format!("{example}, the row of offset {}", row[0]);
-            let is_here = row[0].parse() == Ok(bytes.len());
+            let is_here = row[0].parse() == Ok(start + bytes.len());
             self.compare(&what, is_here);
             match row[1] {
                 "voice model" => bytes.extend_from_slice(&self.voice),
@@ -96,6 +107,14 @@ impl Page {
     fn images(&mut self) {
         let voice = self.bytes("voice model");
         self.compare("the voice model", voice == self.voice);
+        let mut linked = small_voice();
+        linked.links = LINKS.to_vec();
+        let linked = linked.bytes();
+        let section = self.bytes_from(LINKS_AT, "links by letter");
+        let end = LINKS_AT + section.len();
+        self.compare("links by letter", !section.is_empty() && linked[LINKS_AT..end] == section);
+        self.compare("links by letter, behind them", linked[end..] == self.voice[end - MOVED_BY..]);
+        self.linked_hits(&linked);
         let lexicon = self.bytes("lexicon");
         self.compare("the lexicon", lexicon == self.lexicon);
         let file = self.bytes("file");
@@ -158,6 +177,22 @@ impl Page {
         let (mut frames, mut out) = (self.lent(&FRAMES), self.lent(&[0; 8 * HITS as usize]));
         library::decode(&mut v, &mut l, &mut frames, HITS, &mut work, &mut out);
         self.compare("the hits", hits == out.contents());
+    }
+
+    fn linked_hits(&mut self, voice: &[u8]) {
+        let [_, mut l, mut work] = self.lent_images();
+        let (mut v, mut frames) = (self.lent(voice), self.lent(&FRAMES));
+        let mut out = self.lent(&[0; 8 * HITS as usize]);
+        library::decode(&mut v, &mut l, &mut frames, HITS, &mut work, &mut out);
+        let numbers: Vec<i32> = out
+            .contents()
+            .chunks(4)
+            .map(|four| i32::from_le_bytes(four.try_into().unwrap()))
+            .collect();
+        let due: Vec<i32> = LINKED_SCORES.into_iter().zip(CODES).flat_map(|(score, code)| [score, code as i32]).collect();
+        self.compare("links by letter, the hits", numbers == due);
+        let said = "an -2, at -12, in -13";
+        self.compare("links by letter, the hits as said", PAGE.contains(said));
     }
 
     fn packed(&mut self) {

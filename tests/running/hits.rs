@@ -2,6 +2,8 @@
 //! papers alone. The program is the first argument; a seed may be the second.
 
 #[allow(dead_code)]
+mod counts;
+#[allow(dead_code)]
 mod damage;
 #[allow(dead_code)]
 mod draw;
@@ -21,6 +23,7 @@ mod sketch;
 #[path = "decoding/word_by_word.rs"]
 mod word_by_word;
 
+use counts::Forms;
 use image::{small_lexicon, small_voice, Lexicon};
 use random::Random;
 use sketch::{Sketch, ROOT, SINK};
@@ -48,6 +51,8 @@ struct Program {
     seen: BTreeMap<String, usize>,
     /// How many means were due at an exact half, by its sign and the way it goes.
     halves: BTreeMap<&'static str, usize>,
+    /// How the links of the voice models were stored for which words were due.
+    forms: Forms,
     runs: usize,
     differences: usize,
 }
@@ -62,10 +67,12 @@ fn main() -> ExitCode {
         random: Random::from_seed(seed.unwrap_or(SEED)),
         seen: BTreeMap::new(),
         halves: BTreeMap::new(),
+        forms: Forms::default(),
         runs: 0,
         differences: 0,
     };
     program.examples();
+    program.links_printed();
     program.numbers_printed();
     program.means_printed();
     program.every_length();
@@ -84,6 +91,7 @@ fn main() -> ExitCode {
     for (way, times) in &program.halves {
         println!("a half {way:<18}{times:>6}");
     }
+    program.forms.print("voice models of lists");
     println!(
         "hits: {} runs, {} means at an exact half, {} differences, {:.1} s",
         program.runs,
@@ -124,11 +132,13 @@ fn take_image<'a>(input: &mut &'a [u8]) -> &'a [u8] {
     image
 }
 
-/// What has to be printed, and the scores in it with the number of frames.
+/// What has to be printed, and the scores in it with the number of frames; of an accepted voice model its numbers of
+/// letters and links.
 struct Report {
     text: String,
     scores: Vec<i64>,
     frames: i64,
+    form: Option<(usize, usize)>,
 }
 
 fn report(mut input: &[u8]) -> Report {
@@ -144,11 +154,13 @@ fn report(mut input: &[u8]) -> Report {
             text: lines(voice, &images, &list, frames),
             scores: list.hits.iter().map(|hit| hit.score).collect(),
             frames,
+            form: Some((images.letter_count(), images.stored_links)),
         },
         (_, list) => Report {
             text: format!("refused {}\n", list.err().unwrap_or(0)),
             scores: vec![],
             frames,
+            form: None,
         },
     }
 }
@@ -202,6 +214,9 @@ impl Program {
             if let Some(way) = way_of_half(*score, expected.frames) {
                 *self.halves.entry(way).or_default() += 1;
             }
+        }
+        if let Some(form) = expected.form {
+            self.forms.add(form);
         }
         self.run_for(&expected.text, input);
     }
@@ -298,6 +313,45 @@ impl Program {
             let input = input(&voice, lexicon, n, frames);
             self.run_for(printed, &input);
             self.run(&input);
+        }
+    }
+
+    /// A link for each of a, i, n and t, and what is printed of P for frames 0 2.
+    fn links_printed(&mut self) {
+        let lexicon = small_lexicon().bytes();
+        let mut voice = small_voice();
+        for (links, hits, lines) in [
+            (
+                [-2, -2, 900, -900],
+                5,
+                "0 -2 -1 an\n1 -12 -6 at\n3 -12 -6 in\n2 -21 -10 i\n4 -22 -11 it\n",
+            ),
+            (
+                [-5, -1, 7, 9],
+                5,
+                "0 -5 -2 an\n3 -11 -6 in\n1 -15 -8 at\n2 -21 -10 i\n4 -21 -10 it\n",
+            ),
+            (
+                [-30, 0, 0, 0],
+                5,
+                "3 -10 -5 in\n4 -20 -10 it\n2 -21 -10 i\n0 -30 -15 an\n1 -40 -20 at\n",
+            ),
+            (
+                [-2, -32_768, -2, -2],
+                3,
+                "0 -2 -1 an\n1 -12 -6 at\n2 -21 -10 i\n",
+            ),
+        ] {
+            voice.links = links.to_vec();
+            let input = input(&voice.bytes(), &lexicon, 8, &[0, 2]);
+            self.run_for(&format!("hits {hits} words 5 bits 3\n{lines}"), &input);
+            self.run(&input);
+        }
+        // counts that are neither 1 nor 4, with as many scores
+        for count in [0, 2, 3, 5, 6, 255] {
+            voice.links.resize(count, -2);
+            let input = input(&voice.bytes(), &lexicon, 8, &[0, 2]);
+            self.run_for("refused 3\n", &input);
         }
     }
 
@@ -399,7 +453,13 @@ impl Program {
 
     /// Cut at every length: a length of which a byte is missing leaves an empty image, a missing n is 0 and no frames.
     fn every_length(&mut self) {
-        let (voice, lexicon) = (small_voice().bytes(), small_lexicon().bytes());
+        let (mut voice, lexicon) = (small_voice(), small_lexicon().bytes());
+        voice.links = vec![-2, -3, -4, -5];
+        let whole = input(&voice.bytes(), &lexicon, 3, &[0, 2]);
+        for length in 0..=whole.len() {
+            self.run(&whole[..length]);
+        }
+        let voice = small_voice().bytes();
         let whole = input(&voice, &lexicon, 3, &[0, 2]);
         for length in 0..=whole.len() {
             self.run(&whole[..length]);
@@ -516,11 +576,14 @@ impl Program {
             let mut frames = random.bytes(length);
             frames.iter_mut().for_each(|frame| *frame %= voice.symbols);
             let n = random.between(1, 8) as u8;
-            let mut lexicon_bytes = lexicon.bytes();
+            let (mut voice_bytes, mut lexicon_bytes) = (voice.bytes(), lexicon.bytes());
             if k % 5 == 0 {
                 lexicon_bytes = damage::damaged(random, &lexicon.fields());
             }
-            self.run(&input(&voice.bytes(), &lexicon_bytes, n, &frames));
+            if k % 7 == 0 {
+                voice_bytes = damage::damaged_voice(random, &voice);
+            }
+            self.run(&input(&voice_bytes, &lexicon_bytes, n, &frames));
         }
     }
 
@@ -533,7 +596,7 @@ impl Program {
             let mut voice = draw::voice_of(random, &vec![1; letters], 4);
             let mut score = || random.below(19) as i16 - 9;
             voice.moves.fill_with(|| [score(), 0]);
-            voice.link = score();
+            voice.links.fill_with(&mut score);
             voice.emissions.fill_with(score);
             let lexicon = sketch.lexicon(random);
             let length = 2 * random.between(1, 4);
@@ -558,7 +621,9 @@ impl Program {
         scores::set_all(&mut voice, -32_767, -32_767);
         let lexicon = sketch.lexicon(&mut self.random).bytes();
         self.run(&input(&voice.bytes(), &lexicon, 8, &[63; 60]));
-        let voice = draw::voice_of(&mut self.random, &[4; 64], 64).bytes();
+        let mut voice = draw::voice_of(&mut self.random, &[4; 64], 64);
+        voice.links.resize(64, -7);
+        let voice = voice.bytes();
         let lexicon = draw::dense(&mut self.random, 250, 3_900);
         let lexicon = lexicon.lexicon(&mut self.random).bytes();
         self.run(&input(&voice, &lexicon, 8, &[63; 1_000]));
@@ -580,6 +645,6 @@ impl Program {
         for way in &few {
             println!("fewer than {HALVES} halves {way}");
         }
-        never.len() + few.len()
+        never.len() + few.len() + self.forms.missing()
     }
 }

@@ -15,7 +15,8 @@ pub struct Voice {
     pub letters: Vec<Letter>,
     /// One for each state, letter by letter.
     pub moves: Vec<Moves>,
-    pub link: i16,
+    /// One for all letters, or one for each.
+    pub links: Vec<i16>,
     pub symbols: u8,
     /// State by state, one for each symbol.
     pub emissions: Vec<i16>,
@@ -67,6 +68,20 @@ pub fn bytes_of(fields: &[Field]) -> Vec<u8> {
 
 impl Voice {
     pub fn fields(&self) -> Vec<Field> {
+        self.fields_with_links(self.links.len(), &self.links)
+    }
+
+    /// The fields with other links. Their count is stored as it is given, whatever the number of scores.
+    pub fn fields_with_links(&self, count: usize, links: &[i16]) -> Vec<Field> {
+        let mut fields = self.fields_before_links();
+        fields.push(byte(count));
+        fields.extend(links.iter().copied().map(score));
+        fields.push(byte(self.symbols.into()));
+        fields.extend(self.emissions.iter().copied().map(score));
+        fields
+    }
+
+    pub fn fields_before_links(&self) -> Vec<Field> {
         let mut fields = vec![byte(self.letters.len())];
         for letter in &self.letters {
             fields.push(byte(letter.print_byte.into()));
@@ -76,10 +91,6 @@ impl Voice {
         for moves in &self.moves {
             fields.extend(moves.map(score));
         }
-        fields.push(byte(1));
-        fields.push(score(self.link));
-        fields.push(byte(self.symbols.into()));
-        fields.extend(self.emissions.iter().copied().map(score));
         fields
     }
 
@@ -117,7 +128,7 @@ pub fn small_voice() -> Voice {
             })
             .to_vec(),
         moves: vec![[-1, 0]; 4],
-        link: -2,
+        links: vec![-2],
         symbols: symbols as u8,
         emissions: (0..4 * symbols).map(emission).collect(),
     }

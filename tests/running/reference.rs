@@ -138,8 +138,10 @@ pub fn read_voice(bytes: &[u8]) -> Result<Voice, Number> {
             fields.number(|step| !is_last || step == 0)?;
         }
     }
-    fields.byte(|links| links == 1)?;
-    fields.number(any)?;
+    let links = fields.byte(|links| links == 1 || links == letters)?;
+    for _ in 0..links {
+        fields.number(any)?;
+    }
     let symbols = fields.byte(|k| (1..=64).contains(&k))?;
     for _ in 0..sum * symbols {
         fields.number(any)?;
@@ -149,6 +151,13 @@ pub fn read_voice(bytes: &[u8]) -> Result<Voice, Number> {
         print_bytes,
         states,
     })
+}
+
+/// L and the number of links of an accepted voice model.
+pub fn letters_and_links(voice: &[u8]) -> (usize, usize) {
+    let letters = usize::from(voice[0]);
+    let states: usize = (1..=letters).map(|k| usize::from(voice[2 * k])).sum();
+    (letters, voice[3 + 2 * letters + 4 * states].into())
 }
 
 pub fn read_lexicon(bytes: &[u8], letters: usize) -> Result<Lexicon, Number> {

@@ -48,7 +48,7 @@ module _ (v : List ℕ) (g : Graph) where
   unfoldable pub symbolScore : ℕ → ℕ → ℕ → Option ℤ
   symbolScore k u s = possible (emission v (stateOf u s) k)
 
-  -- what an arc scores: from the root to node u; from node w to node u, the link; from node w to the sink
+  -- what an arc scores: from the root to node u; from node w to node u, the link of w's letter; from node w to the sink
   unfoldable pub initialScore : ℕ → Option ℤ
   initialScore u = some (pos 0)
 

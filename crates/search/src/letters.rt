@@ -101,8 +101,7 @@ fn link_score(voice: &[u8], at: usize, letter: usize) -> i16
     score_at(voice, at + 1 + 2 * letter)
 }
 
-// The links of all letters, by letter: once read, a node whose link is impossible passes nothing on, and any other finds
-// the score of its arcs in one read.
+// The links of all letters, by letter, as `Score`s' numbers: a node's turn takes that of its own letter in one read.
 pub(crate) fn link_table(voice: &[u8]) -> [u32; 64]
     requires { ⌜ voiceVerdict (now voice) ≡ wellFormed ⌝ }
     ensures { λ r. ⌜ LinkTable (now (voice .entry)) (letterCount (now (voice .entry))) r ⌝ }

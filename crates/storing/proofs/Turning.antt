@@ -185,7 +185,7 @@ module _ {v x : List ℕ} {n : ℕ} {vertices gains : List (List ℕ)} {links : 
     }
 
     same-turn : renewal renewing ≡ turned t
-    unfolding passedOn turned passing-on renewing renewal passNode entryScore linkScore states nodeLetter
+    unfolding passedOn turned passing-on renewing renewal passNode entryScore states nodeLetter
     same-turn = refl
 
     -- nodes below hold what they held
@@ -206,7 +206,7 @@ module _ {v x : List ℕ} {n : ℕ} {vertices gains : List (List ℕ)} {links : 
         (best-from hits-strict n _ h (rw (turned-own l) at i))
 
     turned-above : {u : ℕ} (s : ℕ) → w < u → turned t u s ≡ passedOn passing-on u s
-    unfolding turned passNode passedOn passing-on entryScore linkScore
+    unfolding turned passNode passedOn passing-on entryScore
     turned-above {u} s l = renew-apart v g n (t .k) w _ _ {w = u} {r = s} (λ q. omega arith)
 
     pub turn-done : {b″ : List ℕ} → ((r : Renewal n (firstIn vertices w) count (getD gains letter []) b′)

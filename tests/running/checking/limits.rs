@@ -59,6 +59,7 @@ impl Checking {
             self.print_bytes_and_states();
             self.every_two();
         }
+        self.counts_of_links();
         self.longest_images();
     }
 
@@ -221,6 +222,24 @@ impl Checking {
         }
     }
 
+    /// Every number of links from 0 to 255, with as many scores; and the same cut behind the number, which is judged
+    /// before the scores can be missing.
+    fn counts_of_links(&mut self) {
+        let lexicon = one_word(&[0]).lexicon(&mut self.random);
+        for letters in [1, 2, 3, 32, 63, 64] {
+            let mut voice = draw::voice_of(&mut self.random, &vec![1; letters], 2);
+            let end = bytes_of(&voice.fields_before_links()).len() + 1;
+            for count in 0..=255 {
+                let is_right = count == 1 || count == letters;
+                voice.links.resize(count, -7);
+                self.call_for(if is_right { 1 } else { -3 }, &voice, &lexicon);
+                let voice = voice.bytes();
+                let answer = self.call(cut(&voice, end), whole(&lexicon.bytes()), WORK_SPACE);
+                self.hold_reference_to(if is_right { -2 } else { -3 }, answer);
+            }
+        }
+    }
+
     fn print_bytes_and_states(&mut self) {
         let lexicon = one_word(&[0]).lexicon(&mut self.random);
         for states in 0..=6 {
@@ -248,9 +267,11 @@ impl Checking {
         }
     }
 
-    /// The longest voice model and a lexicon of 400 nodes and 4,000 arcs, cut here and there.
+    /// The longest voice model, with 64 links, and a lexicon of 400 nodes and 4,000 arcs, cut here and there.
     fn longest_images(&mut self) {
-        let voice = draw::voice_of(&mut self.random, &[4; 64], 64).bytes();
+        let mut voice = draw::voice_of(&mut self.random, &[4; 64], 64);
+        voice.links.resize(64, -7);
+        let voice = voice.bytes();
         let short = one_word(&[63]).lexicon(&mut self.random).bytes();
         let one_state = draw::voice_of(&mut self.random, &[1; 64], 1).bytes();
         let long = draw::dense(&mut self.random, 400, 4_000);

@@ -3,7 +3,7 @@
 
 use super::{Codes, Images, OF_IMAGES, ROOM};
 use crate::buffers::whole;
-use crate::damage::damaged;
+use crate::damage::{damaged, damaged_voice};
 use crate::draw;
 use crate::faults::faulty_images;
 use crate::image::{small_lexicon, small_voice, Lexicon, Voice};
@@ -49,7 +49,7 @@ impl Codes {
             let code = self.random.below(good.count());
             let word = good.word(code);
             let images = if self.random.once_in(3) {
-                Images::new(damaged(&mut self.random, &voice.fields()), lexicon.bytes())
+                Images::new(damaged_voice(&mut self.random, voice), lexicon.bytes())
             } else {
                 Images::new(voice.bytes(), damaged(&mut self.random, &lexicon.fields()))
             };

@@ -198,7 +198,7 @@ impl Decoding {
             for emission in &mut voice.emissions {
                 *emission = -(self.random.below(scores) as i16);
             }
-            voice.link = -1;
+            voice.links.fill_with(|| -1 - self.random.below(3) as i16);
             voice.moves.fill([-2, 0]);
             let lexicon = sketch.lexicon(&mut self.random);
             let pair = Pair::of(voice.bytes(), lexicon.bytes());

@@ -1,4 +1,5 @@
 //! The scores of a voice model, drawn anew: few values, so that ties are frequent; extreme ones; impossible ones anywhere.
+//! How many links it has stays.
 
 use crate::image::Voice;
 use crate::random::Random;
@@ -25,6 +26,9 @@ const VALUES: [&[i16]; 16] = [
     &[255, 256, -256, -255],
 ];
 
+/// Links that differ much from letter to letter.
+const FAR_APART: [i16; 8] = [-32_767, -3_000, -100, -7, 0, 40, 500, 32_767];
+
 /// How often a score is impossible, in a hundred.
 const IMPOSSIBLES: [usize; 12] = [0, 0, 0, 0, 0, 2, 5, 10, 20, 30, 50, 90];
 
@@ -50,9 +54,21 @@ pub fn draw(random: &mut Random, voice: &mut Voice) {
     for moves in &mut voice.moves {
         moves[0] = score(random, values, shares[0]);
     }
-    voice.link = score(random, values, shares[2]);
+    draw_links(random, &mut voice.links, values, shares[2]);
     for emission in &mut voice.emissions {
         *emission = score(random, values, shares[3]);
+    }
+}
+
+/// Links of the same row, or far apart. Now and then that of one letter is impossible and the others are not.
+fn draw_links(random: &mut Random, links: &mut [i16], values: &[i16], share: usize) {
+    let far_apart = links.len() > 1 && random.once_in(4);
+    let values = if far_apart { &FAR_APART } else { values };
+    let one_impossible = links.len() > 1 && random.once_in(6);
+    let share = if one_impossible { 0 } else { share };
+    links.fill_with(|| score(random, values, share));
+    if one_impossible {
+        *random.pick_mut(links) = IMPOSSIBLE;
     }
 }
 
@@ -75,6 +91,6 @@ pub fn set_all(voice: &mut Voice, moves: i16, emissions: i16) {
         voice.moves[next - 1][1] = 0;
         at = next;
     }
-    voice.link = moves;
+    voice.links.fill(moves);
     voice.emissions.fill(emissions);
 }

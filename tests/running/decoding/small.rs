@@ -1,7 +1,7 @@
 //! Small cases, by far the most of all calls, and damaged images.
 
 use super::{scores, Decoding, Pair};
-use crate::damage::damaged;
+use crate::damage::{damaged, damaged_voice};
 use crate::draw;
 use crate::image::{Lexicon, Voice};
 use crate::reference::{self, WORK_SPACE};
@@ -96,7 +96,7 @@ impl Decoding {
             let (mut voice, mut lexicon) = (images.0.bytes(), images.1.bytes());
             let which = self.random.below(8);
             if which < 3 {
-                voice = damaged(&mut self.random, &images.0.fields());
+                voice = damaged_voice(&mut self.random, &images.0);
             }
             if which > 1 {
                 lexicon = damaged(&mut self.random, &images.1.fields());

@@ -1,6 +1,7 @@
 //! What decoding has to answer, by the words of the scope paper: every word of the lexicon by itself. The best state path
 //! of a word is found over (position of the letter, state of the letter) in 64 bits; where a word has few rows of states,
 //! all of them are also written out, and both have to agree. No graph, no tokens, and nothing is cut before the end.
+//! Passing to the next letter takes the link of the letter left, or the only one if one is stored for all.
 
 use crate::reference::{self, Number, WORK_SPACE};
 use std::cmp::Reverse;
@@ -33,8 +34,21 @@ pub struct Images {
     pub symbols: usize,
     /// The letters of every word, in the order of the codes.
     pub words: Vec<Vec<u8>>,
+    /// How many links are stored: one for all letters, or one for each.
+    pub stored_links: usize,
     letters: Vec<Vec<State>>,
-    link: Score,
+    /// For each letter the score of leaving it.
+    links: Vec<Score>,
+}
+
+/// What is listed if links are taken in one way or another.
+pub struct Readings {
+    /// The link of the letter that is left: the list.
+    pub left: Vec<Hit>,
+    /// The link of the letter that is entered.
+    pub entered: Vec<Hit>,
+    /// The first letter's link, whatever is left.
+    pub first: Vec<Hit>,
 }
 
 /// What decoding lists.
@@ -49,6 +63,7 @@ pub struct List {
 /// A state of a letter of a word.
 struct Spot<'a> {
     position: usize,
+    letter: usize,
     state: usize,
     is_last: bool,
     of: &'a State,
@@ -99,14 +114,20 @@ impl Images {
         let (model, graph, _) = reference::accepted(voice, lexicon)?;
         let states: usize = model.states.iter().sum();
         let moves_at = 1 + 2 * model.states.len() + 2;
-        let link_at = moves_at + 4 * states + 1;
-        let symbols = usize::from(voice[link_at + 2]);
+        let links_at = moves_at + 4 * states + 1;
+        let stored_links = usize::from(voice[links_at - 1]);
+        let symbols_at = links_at + 2 * stored_links;
+        let symbols = usize::from(voice[symbols_at]);
         let state = |k: usize| State {
             stay: score_at(voice, moves_at + 4 * k),
             step: score_at(voice, moves_at + 4 * k + 2),
             emissions: (k * symbols..(k + 1) * symbols)
-                .map(|emission| score_at(voice, link_at + 3 + 2 * emission))
+                .map(|emission| score_at(voice, symbols_at + 1 + 2 * emission))
                 .collect(),
+        };
+        let link = |letter: usize| {
+            let index = if stored_links == 1 { 0 } else { letter };
+            score_at(voice, links_at + 2 * index)
         };
         let mut known = 0;
         let mut letters = Vec::new();
@@ -118,9 +139,24 @@ impl Images {
         Ok(Images {
             symbols,
             words: paths.iter().map(|path| graph.spelling(path)).collect(),
+            stored_links,
+            links: (0..letters.len()).map(link).collect(),
             letters,
-            link: score_at(voice, link_at),
         })
+    }
+
+    pub fn letter_count(&self) -> usize {
+        self.letters.len()
+    }
+
+    /// Each letter has a link of its own, and that of some letter, but not of all, is impossible.
+    pub fn has_some_impossible_link(&self) -> bool {
+        self.links.iter().any(Option::is_none) && self.links.iter().any(Option::is_some)
+    }
+
+    /// A word that ends in a letter that no other letter can follow.
+    pub fn ends_at_impossible_link(&self, word: &[u8]) -> bool {
+        self.links[usize::from(word[word.len() - 1])].is_none()
     }
 
     /// How many states a word has: the fewest frames for which it has a state path.
@@ -134,37 +170,69 @@ impl Images {
         let mut row = Vec::new();
         let mut written_out = 0;
         for (code, word) in self.words.iter().enumerate() {
-            let spots = self.spots(word);
+            let spots = self.spots(word, &self.links);
             let score = true_score(&spots, frames);
             let rows = spots.len().checked_pow(frames.len() as u32);
             if rows.is_some_and(|rows| rows <= FEW_ROWS) {
                 assert_eq!(score, self.by_all_rows(&spots, frames), "{word:?}");
                 written_out += 1;
             }
-            let code = code as u32;
-            row.extend(score.map(|score| Hit { score, code }));
+            row.extend(hit(score, code));
         }
-        row.sort_unstable_by_key(|hit| (Reverse(hit.score), hit.code));
+        sort(&mut row);
         (row, written_out)
     }
 
-    fn spots(&self, word: &[u8]) -> Vec<Spot<'_>> {
+    fn spots(&self, word: &[u8], links: &[Score]) -> Vec<Spot<'_>> {
         let mut spots: Vec<Spot> = Vec::new();
         for (position, letter) in word.iter().enumerate() {
-            let states = &self.letters[usize::from(*letter)];
+            let letter = usize::from(*letter);
+            let states = &self.letters[letter];
             for (state, of) in states.iter().enumerate() {
-                let before = spots.last();
-                let step = before.and_then(|spot| spot.of.step);
+                let leave = |spot: &Spot| {
+                    if state > 0 {
+                        spot.of.step
+                    } else {
+                        links[spot.letter]
+                    }
+                };
                 spots.push(Spot {
                     position,
+                    letter,
                     state,
                     is_last: state + 1 == states.len(),
                     of,
-                    enter: if state > 0 { step } else { self.link },
+                    enter: spots.last().and_then(leave),
                 });
             }
         }
         spots
+    }
+
+    /// Every state path of a word leaves each of its letters but the last once. So the links can be added up apart from
+    /// the rest of the score, in any way.
+    pub fn readings(&self, frames: &[u8], n: u32) -> Readings {
+        let no_links = vec![Some(0); self.links.len()];
+        let [mut left, mut entered, mut first] = [(); 3].map(|()| Vec::new());
+        for (code, word) in self.words.iter().enumerate() {
+            let without = true_score(&self.spots(word, &no_links), frames);
+            let link = |letter: &u8| self.links[usize::from(*letter)];
+            let plus = |links: &[Score]| links.iter().copied().fold(without, sum);
+            let links: Vec<Score> = word.iter().map(link).collect();
+            let left_letters = links.len() - 1;
+            left.extend(hit(plus(&links[..left_letters]), code));
+            entered.extend(hit(plus(&links[1..]), code));
+            first.extend(hit(plus(&vec![self.links[0]; left_letters]), code));
+        }
+        for row in [&mut left, &mut entered, &mut first] {
+            sort(row);
+            row.truncate(n as usize);
+        }
+        Readings {
+            left,
+            entered,
+            first,
+        }
     }
 
     /// The same score as `true_score`, by looking at every row of T states.
@@ -209,11 +277,20 @@ impl Images {
         } else if (to.position, to.state) == (position, state + 1) {
             from.of.step
         } else if (to.position, to.state) == (position + 1, 0) && from.is_last {
-            self.link
+            self.links[from.letter]
         } else {
             None
         }
     }
+}
+
+fn hit(score: Score, code: usize) -> Option<Hit> {
+    let code = code as u32;
+    score.map(|score| Hit { score, code })
+}
+
+fn sort(row: &mut [Hit]) {
+    row.sort_unstable_by_key(|hit| (Reverse(hit.score), hit.code));
 }
 
 fn sum(first: Score, second: Score) -> Score {
