@@ -5,7 +5,7 @@
 ghost use mathlib.Core.Path.{_≡_};
 ghost use mathlib.Core.Bool.{true, false};
 ghost use Prim.Native.Nat.{suc, _+_, _*_, _≤_, _<_};
-ghost use lib.ListN.{length};
+ghost use lib.ListN.{length, getD};
 ghost use Rattle.endian.specs.Bytes.{u16};
 ghost use Rattle.graph.specs.Graph.{graphOf};
 ghost use Rattle.decoder.specs.Score.{bias};
@@ -67,24 +67,28 @@ fn pass_over(
     offer_from(store, n, from, slot, up, down);
 }
 
-// Passes the tokens of a node's last state, n from slot `from` on, to the first state of each node that it leads to.
+// Passes the tokens of a node's last state, n from slot `from` on, to the first state of each node that it leads to. The
+// link of its letter is looked up only where there is a token.
 fn pass_on(
     lexicon: &[u8],
     n: usize,
     vertices: &[[u32; 4]; 402],
-    link: Score,
+    links: &[u32; 64],
+    letter: usize,
     node: usize,
     from: usize,
     store: &mut [u8],
 )
-    requires { ⌜ PassingOn (now lexicon) n (now vertices) (link .0) node false from (now store) ⌝ }
-    ensures { λ _. ⌜ ((t : PassingOn (now (lexicon .entry)) n (now (vertices .entry)) (link .0) node false from
-        (now (store .entry))) → PassedOn t (now (store .exit))) ⌝ }
+    requires { ⌜ PassingOn (now lexicon) n (now vertices) (getD (now links) letter 0) node false from (now store) ⌝ }
+    requires { ⌜ letter < 64 ⌝ }
+    ensures { λ _. ⌜ ((t : PassingOn (now (lexicon .entry)) n (now (vertices .entry)) (getD (now (links .entry)) letter 0)
+        node false from (now (store .entry))) → PassedOn t (now (store .exit))) ⌝ }
 {
     let first = token_at(store, from);
     if first.is_none() {
         return;
     }
+    let link = Score(links[letter]);
     if link.is_impossible() {
         return;
     }
@@ -208,10 +212,9 @@ pub(crate) fn take_turn(
         (now (gains .entry)) (now (links .entry)) node (now (store .entry))) → TurnDone t (now (store .exit))) ⌝ }
 {
     let letter = lexicon[1 + node] as usize;
-    let link = Score(links[letter]);
     // the place of its last state ends where the next vertex's begins
     let last = vertices[node + 1][FIRST_SLOT] as usize - n;
-    pass_on(lexicon, n, vertices, link, node, last, store);
+    pass_on(lexicon, n, vertices, links, letter, node, last, store);
     let states = voice[2 + 2 * letter] as usize;
     let first = vertices[node][FIRST_SLOT] as usize;
     renew_node(store, n, first, states, &gains[letter]);

@@ -12,14 +12,11 @@ use Rattle.search.proofs.turns.take_turn.Tie as tie
 abbrev begin : tie.After-shared-slice-known3 → tie.Start
 begin c = c .before .before .before .before
 
-abbrev at-link : tie.After-last → tie.Start
-at-link c = begin (c .before)
-
-abbrev at-last : tie.After-last2 → tie.Start
-at-last c = at-link (c .before)
+abbrev at-last : tie.After-last → tie.Start
+at-last c = begin (c .before)
 
 pass-on-requires : tie.Need-pass-on-requires
-pass-on-requires c κs = passing-on (at-last (c .before) .pre)
+pass-on-requires c κs = let t = at-last (c .before) .pre in (passing-on t, letter-small t)
 
 abbrev start : tie.After-pass-on → tie.Start
 start o = at-last (o .before .before)
@@ -55,11 +52,9 @@ take-turn-spec =
     (λ c. after-fits _ (node-few (c .before .before .before .pre)))
     (λ c. node-there (begin c .pre))
     (λ c. less-fits _ (letter-small (begin c .pre)) refl)
-    (λ c. bytes-before _ 4 (letter-small (begin c .pre)) refl)
-    (λ c. letter-small (begin c .pre))
-    (λ c. less-fits _ (next-below (node-few (at-link c .pre))) refl)
-    (λ c. bytes-before _ 16 (next-below (node-few (at-link c .pre))) refl)
-    (λ c. next-below (node-few (at-link c .pre)))
+    (λ c. less-fits _ (next-below (node-few (begin c .pre))) refl)
+    (λ c. bytes-before _ 16 (next-below (node-few (begin c .pre))) refl)
+    (λ c. next-below (node-few (begin c .pre)))
     (λ c. search needs)
     (λ c. most-fits _ (at-end (at-last c .pre) .small) refl)
     (λ c. at-end (at-last c .pre) .long)
@@ -76,5 +71,5 @@ take-turn-spec =
     (λ c. letter-small (renewed c .pre))
     renew-node-requires
     (λ c. let r = c .before .before in r .renew-node .kept .0
-    ∙ sent (r .before .before) .pass-on .kept .1 .1 .1 .1 .1 .1 .0)
+    ∙ sent (r .before .before) .pass-on .kept .1 .1 .1 .1 .1 .1 .1 .0)
     returns)
