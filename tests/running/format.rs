@@ -189,7 +189,8 @@ impl Page {
             .chunks(4)
             .map(|four| i32::from_le_bytes(four.try_into().unwrap()))
             .collect();
-        let due: Vec<i32> = LINKED_SCORES.into_iter().zip(CODES).flat_map(|(score, code)| [score, code as i32]).collect();
+        let hits = LINKED_SCORES.into_iter().zip(CODES);
+        let due: Vec<i32> = hits.flat_map(|(score, code)| [score, code as i32]).collect();
         self.compare("links by letter, the hits", numbers == due);
         let said = "an -2, at -12, in -13";
         self.compare("links by letter, the hits as said", PAGE.contains(said));

@@ -67,8 +67,8 @@ fn pass_over(
     offer_from(store, n, from, slot, up, down);
 }
 
-// Passes the tokens of a node's last state, n from slot `from` on, to the first state of each node that it leads to. The
-// link of its letter is looked up only where there is a token.
+// Passes the tokens of a node's last state, n from slot `from` on, to the first state of each node that it leads to.
+// The link of its letter is looked up only where there is a token.
 fn pass_on(
     lexicon: &[u8],
     n: usize,
@@ -81,8 +81,8 @@ fn pass_on(
 )
     requires { ⌜ PassingOn (now lexicon) n (now vertices) (getD (now links) letter 0) node false from (now store) ⌝ }
     requires { ⌜ letter < 64 ⌝ }
-    ensures { λ _. ⌜ ((t : PassingOn (now (lexicon .entry)) n (now (vertices .entry)) (getD (now (links .entry)) letter 0)
-        node false from (now (store .entry))) → PassedOn t (now (store .exit))) ⌝ }
+    ensures { λ _. ⌜ ((t : PassingOn (now (lexicon .entry)) n (now (vertices .entry))
+        (getD (now (links .entry)) letter 0) node false from (now (store .entry))) → PassedOn t (now (store .exit))) ⌝ }
 {
     let first = token_at(store, from);
     if first.is_none() {
