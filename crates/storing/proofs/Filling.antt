@@ -1,26 +1,23 @@
 -- The tables of a call and of a frame while they are filled: state by state, letter by letter; and what they say of the
 -- letters of nodes. Assumes nothing.
 use Prim.Native.Nat.{ℕ, suc, _+_, _-_, _*_, _≤_, _<_}
-use mathlib.Core.Path.{_≡_, refl, sym, ap, _∙_}
+use mathlib.Core.Path.{_≡_, sym, ap, _∙_}
 use mathlib.Core.Bool.{Bool, true, false, false≢true}
 use mathlib.Core.List.{List, []}
-use mathlib.Core.Option.{some}
 use native.Mathlib.Omega.{arith}
 use native.Mathlib.Decide.{ℕ-discrete}
 use native.Mathlib.Nat.{add-suc, suc-mul}
 use borrow.Author.Tests.{lt-ltb}
-use lib.IntN.{ℤ, pos}
-use lib.Signed.{mag}
+use lib.IntN.{ℤ}
 use lib.ListN.{length, getD, set, length-set}
 use lib.Seq.{getD-set-same, getD-set-other}
-use Rattle.endian.specs.Integers.{eqZ}
 use Rattle.endian.specs.Bytes.{i16}
 use Rattle.endian.proofs.Bytes.{i16-range}
 use Rattle.voice.specs.Fields.{wellFormed}
-use Rattle.voice.specs.Voice.{letterCount, states, firstState, loopScore, stepScore, linkScore, symbolsAt, symbolCount}
-use Rattle.voice.specs.Voice.{impossible, emission, voiceVerdict}
+use Rattle.voice.specs.Voice.{letterCount, states, firstState, loopScore, stepScore, symbolsAt, symbolCount}
+use Rattle.voice.specs.Voice.{emission, voiceVerdict}
 use Rattle.voice.proofs.Letters.{states-range}
-use Rattle.voice.proofs.Scores.{letters-few, emission-there}
+use Rattle.voice.proofs.Scores.{emission-there}
 use Rattle.lexicon.specs.Lexicon.{nodeCount, nodeLetter}
 use Rattle.decoder.specs.Score.{numberOf, possible}
 use Rattle.storing.specs.Gains.{NearBias, numberSum, letterPairs, pairScore, loopNumber, stepNumber, loopGain}

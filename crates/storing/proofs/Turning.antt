@@ -1,7 +1,7 @@
 -- A node's turn: its last tokens are passed on, and then its states are renewed. What each call asks, and what is left.
 -- Bounds are those of the definitions: renewed tokens moved once, and nodes below hold what they held. Assumes nothing.
 use Prim.Native.Nat.{ℕ, zero, suc, _+_, _-_, _*_, _≤_, _<_}
-use mathlib.Core.Path.{_≡_, refl, sym, ap, _∙_}
+use mathlib.Core.Path.{_≡_, refl, ap, _∙_}
 use mathlib.Core.Bool.{false, false≢true}
 use mathlib.Core.Logic.{⊎-elim}
 use mathlib.Core.List.{List, [], List·Memᴰ, List·Memᴰ·append-cases as append-cases}

@@ -9,7 +9,7 @@ use mathlib.Core.List.{List, [], _∷_, _++_, append-assoc, flatMap, List·Mem�
 use native.Mathlib.Nat.{sub-zero}
 use native.Mathlib.Omega.{arith}
 use native.Mathlib.Numerals.{add-one}
-use borrow.Author.Tests.{eqb-true, leb-true, leb-false, lt-ltb, ne-eqb}
+use borrow.Author.Tests.{leb-true, leb-false, lt-ltb, ne-eqb}
 use types.Run.{OneOf}
 use denote.Enum.Declared.{tagOf}
 use lib.Dec.{eqb, leb, ltb}
@@ -19,7 +19,7 @@ use Rattle.endian.specs.Bytes.{u8, u16}
 use Rattle.endian.proofs.Lists.{mem-flatMap, from-in}
 use Rattle.endian.proofs.Ranges.{bounds}
 use Rattle.voice.specs.Fields.{Field, field, end, Verdict, wellFormed, wrongLength, outOfRange, verdictOf, verdict}
-use Rattle.voice.specs.Voice.{letterCount, printByte, states, firstState, statesAt, stateCount, linksAt, linkCount}
+use Rattle.voice.specs.Voice.{letterCount, printByte, states, firstState, statesAt, stateCount, linksAt}
 use Rattle.voice.specs.Voice.{symbolsAt, symbolCount, rising, goodLinkCount, letterFields, stateFields, voiceFields}
 use Rattle.voice.specs.Voice.{voiceVerdict}
 use Rattle.voice.specs.Sections.{fieldVerdict, andThen, firstBad, lettersPart, statesPart, lastPart}

@@ -1,5 +1,4 @@
 -- `good_link_count` meets its contract: 1 is tested first, and then the number of letters. Assumes nothing.
-use borrow.Author.Needs.{needs}
 use borrow.Author.Tests.{eq-eqb, ne-eqb}
 use Rattle.voice.proofs.good_link_count.Statement.{statement}
 use Rattle.voice.proofs.good_link_count.Tie as tie
