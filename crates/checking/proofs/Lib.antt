@@ -1,4 +1,5 @@
 pub mod Tables
+pub mod Chains
 pub mod Columns
 pub mod Arcs
 pub mod Increments

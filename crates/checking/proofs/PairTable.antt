@@ -18,7 +18,7 @@ use Rattle.graph.proofs.Sound.{Sound}
 use Rattle.checking.specs.Tables.{WithOffsets}
 use Rattle.checking.specs.Bits.{bit, BitSet}
 use Rattle.checking.specs.Pairs.{common, meets, clashAt, clash}
-use Rattle.checking.specs.PairTable.{pairBit, PairsMarked, MaskOf, Gathered, maskTells, PairSet, RowDone}
+use Rattle.checking.specs.PairTable.{pairBit, PairsMarked, MaskOf, Gathered, PairSet, RowDone, FirstAlike}
 use Rattle.checking.proofs.Common.{common-self, common-sym, common-below, common-sink}
 use Rattle.checking.proofs.Bits.{below-next, bit-zeroed}
 use Rattle.checking.proofs.Masks.{few-vertices}
@@ -54,6 +54,13 @@ done-other u v s t n = elim (ℕ-discrete (min s t) u) [
 pub record RowMarked (g : Graph) (u v : ℕ) (b : List ℕ) : Type 0 where
   pub long : length b ≡ 20502
   pub bits : (s t : ℕ) → s ≤ sink g → t ≤ sink g → pairBit b s t ≡ done u v s t && common g s t
+
+-- the pairs of u with the vertices below v are marked, and v is the next node with u's letter, or the sink
+pub record RowAt (g : Graph) (u v : ℕ) (b : List ℕ) : Type 0 where
+  pub above : u < v
+  pub inside : v ≤ sink g
+  pub alike : v < sink g → g .letter v ≡ g .letter u
+  pub marked : RowMarked g u v b
 
 module _ (g : Graph) (few : sink g < 402) where
   -- the pair of the sink with itself
@@ -99,25 +106,68 @@ module _ (g : Graph) (few : sink g < 402) where
       ]
 
 module _ {g : Graph} (ok : Sound g) (few : sink g < 402) {u : ℕ} (node : 1 ≤ u) (below : u < sink g) where
-  -- what the mask tells of a later vertex
-  mask-tells : {mask : List ℕ} {v : ℕ} → MaskOf g u mask → u < v → v < sink g → maskTells g mask u v ≡ common g u v
-  mask-tells {mask} {v} m h k =
-      ap (λ (t : Bool). eqb (g .letter u) (g .letter v) && t)
-      (any-same (bit mask) (meets g (g .successors u)) (g .successors v) (λ y i. let r = ok .rises k i in m .bits y (omega arith) (r .1)))
-      ∙ sym (common-below ok node (omega arith) below k (omega arith))
+  -- what the mask tells of a later node with u's letter
+  mask-tells : {mask : List ℕ} {v : ℕ} → MaskOf g u mask → u < v → v < sink g → g .letter v ≡ g .letter u
+      → any (bit mask) (g .successors v) ≡ common g u v
+  mask-tells {mask} {v} m h k e =
+      any-same (bit mask) (meets g (g .successors u)) (g .successors v)
+      (λ y i. let r = ok .rises k i in m .bits y (omega arith) (r .1))
+      ∙ sym (common-below ok node (omega arith) below k (omega arith) ∙ rw (eq-eqb (g .letter u) (g .letter v) (sym e)))
 
-  pub row-next : {v : ℕ} {mask b after : List ℕ} → u < v → v < sink g → MaskOf g u mask → RowMarked g u v b → length after ≡ length b
-      → PairSet u v (maskTells g mask u v) b after → RowMarked g u (v + 1) after
-  unfolding pairBit
-  row-next {v} {mask} {b} {after} h k m r l d = record {
-    long = l ∙ r .long;
-    bits = λ s t i j. d .bits (s * 408 + t) ∙ rw (mask-tells m h k, r .bits s t i j) (go s t i j);
+  -- one with another letter has nothing in common with u
+  unlike : {v : ℕ} → u < v → v < sink g → ¬ (g .letter v ≡ g .letter u) → common g u v ≡ false
+  unlike {v} h k n =
+      common-below ok node (omega arith) below k (omega arith)
+      ∙ rw (ne-eqb (g .letter u) (g .letter v) (λ e. n (sym e)))
+
+  -- from v on to the next node with u's letter
+  pub row-skip : {v w e : ℕ} {b : List ℕ} → u < v → v ≡ w → FirstAlike g (g .letter u) w e → RowMarked g u v b
+      → RowAt g u e b
+  row-skip {v} {w} {e} h is f r = record {
+    above = omega (arith, f .from);
+    inside = f .inside;
+    alike = f .same;
+    marked = record { long = r .long; bits = λ s t i j. r .bits s t i j ∙ go s t i j (ℕ-discrete (min s t) u) };
   }
     where
-      go : (s t : ℕ) → s ≤ sink g → t ≤ sink g
-          → ((eqb (u * 408 + v) (s * 408 + t) || eqb (v * 408 + u) (s * 408 + t)) && common g u v) || (done u v s t && common g s t)
-          ≡ done u (v + 1) s t && common g s t
-      go s t i j = elim (ℕ-discrete (u * 408 + v) (s * 408 + t)) [
+      skipped : (s t : ℕ) → min s t ≡ u → v ≤ max s t → max s t < e → common g s t ≡ false
+      skipped s t m k l = elim (ℕ-discrete s u) [
+        | yes p ↦
+            let q : t ≡ max s t = omega arith in
+            rw p (unlike {v = t} (omega arith) (omega (arith, f .inside)) (f .none-before t (omega arith) (omega arith)))
+        | no p ↦
+            let q : t ≡ u = omega arith in
+            let i = f .inside in
+            common-sym ok (omega arith) (omega arith) (omega arith) (omega arith)
+            ∙ rw q (unlike {v = s} (omega arith) (omega arith) (f .none-before s (omega arith) (omega arith)))
+      ]
+
+      go : (s t : ℕ) → s ≤ sink g → t ≤ sink g → Dec (min s t ≡ u)
+          → done u v s t && common g s t ≡ done u e s t && common g s t
+      go s t i j (no o) = rw (done-off u v s t o, done-off u e s t o)
+      go s t i j (yes m) = rw (done-at u v s t m, done-at u e s t m) (elim (ℕ-discrete (v - max s t) 0) [
+        | no z ↦ rw (lt-ltb (max s t) v (omega arith), lt-ltb (max s t) e (omega (arith, f .from)))
+        | yes z ↦ rw (le-ltb (max s t) v (omega arith)) (elim (ℕ-discrete (e - max s t) 0) [
+          | yes y ↦ rw (le-ltb (max s t) e (omega arith))
+          | no y ↦ rw (lt-ltb (max s t) e (omega arith)) (sym (skipped s t m (omega arith) (omega arith)))
+        ])
+      ])
+
+  pub row-next : {v : ℕ} {mask b after : List ℕ} → RowAt g u v b → v < sink g → MaskOf g u mask
+      → length after ≡ length b → PairSet u v (any (bit mask) (g .successors v)) b after → RowMarked g u (v + 1) after
+  unfolding pairBit
+  row-next {v} {mask} {b} {after} p k m l d =
+      let r = p .marked in
+      let h = p .above in
+      record {
+        long = l ∙ r .long;
+        bits = λ s t i j. d .bits (s * 408 + t) ∙ rw (mask-tells m h k (p .alike k), r .bits s t i j) (go s t i j h);
+      }
+    where
+      go : (s t : ℕ) → s ≤ sink g → t ≤ sink g → u < v
+          → ((eqb (u * 408 + v) (s * 408 + t) || eqb (v * 408 + u) (s * 408 + t)) && common g u v)
+          || (done u v s t && common g s t) ≡ done u (v + 1) s t && common g s t
+      go s t i j h = elim (ℕ-discrete (u * 408 + v) (s * 408 + t)) [
         | yes e ↦
             let p : s ≡ u = omega arith in
             let q : t ≡ v = omega arith in
@@ -163,17 +213,14 @@ module _ {g : Graph} (ok : Sound g) (few : sink g < 402) {u : ℕ} (node : 1 ≤
 
 -- ---- one pair
 
-module _ {u v : ℕ} (m n : ℕ) (test : Bool) where
-  pub pair-unlike : (b : List ℕ) → (m ≡ n → ⊥) → PairSet u v (eqb m n && test) b b
-  pair-unlike b o = record { bits = λ i. rw (ne-eqb m n o, and-false (eqb (u * 408 + v) i || eqb (v * 408 + u) i)) }
+module _ {u v : ℕ} (test : Bool) where
+  pub pair-unmet : (b : List ℕ) → test ≡ false → PairSet u v test b b
+  pair-unmet b e = record { bits = λ i. rw (e, and-false (eqb (u * 408 + v) i || eqb (v * 408 + u) i)) }
 
-  pub pair-unmet : (b : List ℕ) → test ≡ false → PairSet u v (eqb m n && test) b b
-  pair-unmet b e = record { bits = λ i. rw (e, and-false (eqb m n), and-false (eqb (u * 408 + v) i || eqb (v * 408 + u) i)) }
-
-  pub pair-met : {b mid after : List ℕ} → m ≡ n → test ≡ true → BitSet (u * 408 + v) b mid → BitSet (v * 408 + u) mid after
-      → PairSet u v (eqb m n && test) b after
-  pair-met {b} l e d f = record {
-    bits = λ i. f .bits i ∙ rw (d .bits i, e, eq-eqb m n l) (go (eqb (u * 408 + v) i) (eqb (v * 408 + u) i) (bit b i));
+  pub pair-met : {b mid after : List ℕ} → test ≡ true → BitSet (u * 408 + v) b mid → BitSet (v * 408 + u) mid after
+      → PairSet u v test b after
+  pair-met {b} e d f = record {
+    bits = λ i. f .bits i ∙ rw (d .bits i, e) (go (eqb (u * 408 + v) i) (eqb (v * 408 + u) i) (bit b i));
   }
     where
       go : (p q c : Bool) → q || (p || c) ≡ ((p || q) && true) || c

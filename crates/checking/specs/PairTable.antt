@@ -1,12 +1,12 @@
--- The table of pairs, one bit each: a row for each vertex, and in it a bit for each. The vocabulary of the contracts of private functions; no
--- public contract cites it. Assumes nothing.
-use Prim.Native.Nat.{ℕ, _+_, _*_, _≤_, _<_, min}
+-- The table of pairs, one bit each: a row for each vertex, and in it a bit for each; and the chains of nodes with one
+-- letter, by which a row is marked. The vocabulary of the contracts of private functions; no public contract cites it.
+-- Assumes nothing.
+use Prim.Native.Nat.{ℕ, suc, _+_, _*_, _≤_, _<_, min}
 use mathlib.Core.Path.{_≡_}
 use mathlib.Core.Bool.{Bool, false, _&&_, _||_}
 use mathlib.Core.List.{List}
-use lib.ListN.{length}
+use lib.ListN.{length, getD}
 use lib.Dec.{eqb, leb}
-use Rattle.endian.specs.Lists.{any}
 use Rattle.graph.specs.Graph.{Graph, sink}
 use Rattle.checking.specs.Bits.{bit}
 use Rattle.checking.specs.Pairs.{common, meets, clashAt}
@@ -29,10 +29,6 @@ pub record Gathered (g : Graph) (u : ℕ) (mask : List ℕ) (answer : Bool) : Ty
   pub tells : answer ≡ clashAt g u
   pub made : answer ≡ false → MaskOf g u mask
 
--- v has u's letter, and the mask has a successor of v
-abbrev pub maskTells : Graph → List ℕ → ℕ → ℕ → Bool
-maskTells g mask u v = eqb (g .letter u) (g .letter v) && any (bit mask) (g .successors v)
-
 -- the pair of u and v, both ways, was marked if the test says so
 pub record PairSet (u v : ℕ) (test : Bool) (b after : List ℕ) : Type 0 where
   pub bits : (i : ℕ) → bit after i ≡ ((eqb (u * 408 + v) i || eqb (v * 408 + u) i) && test) || bit b i
@@ -41,3 +37,23 @@ pub record PairSet (u v : ℕ) (test : Bool) (b after : List ℕ) : Type 0 where
 pub record RowDone (g : Graph) (u : ℕ) (b : List ℕ) (answer : Bool) : Type 0 where
   pub tells : answer ≡ clashAt g u
   pub marked : answer ≡ false → PairsMarked g u b
+
+-- ---- chains
+
+-- e is the first node from k on with letter l, or the sink if there is none
+pub record FirstAlike (g : Graph) (l k e : ℕ) : Type 0 where
+  pub from : k ≤ e
+  pub inside : e ≤ sink g
+  pub same : e < sink g → g .letter e ≡ l
+  pub none-before : (w : ℕ) → k ≤ w → w < e → ¬ (g .letter w ≡ l)
+
+-- each node from k on has the next one with its letter
+pub record Chained (g : Graph) (k : ℕ) (nexts : List ℕ) : Type 0 where
+  pub long : length nexts ≡ 402
+  pub next : (v : ℕ) → k ≤ v → v < sink g → FirstAlike g (g .letter v) (suc v) (getD nexts v 0)
+
+-- and each letter has the first one
+pub record Chains (g : Graph) (k : ℕ) (firsts nexts : List ℕ) : Type 0 where
+  pub long : length firsts ≡ 64
+  pub first : (l : ℕ) → l < 64 → FirstAlike g l k (getD firsts l 0)
+  pub chained : Chained g k nexts

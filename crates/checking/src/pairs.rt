@@ -1,17 +1,19 @@
-// Refusal 10: two different full paths with the same letters. The paths part at some vertex, into two successors that have something in common:
-// ways to the sink with the same letters. Which vertices have something in common is kept in a table of bits, filled from vertex N down.
+// Refusal 10: two different full paths with the same letters. The paths part at some vertex, into two successors that
+// have something in common: ways to the sink with the same letters. Which vertices have something in common is kept in a
+// table of bits, filled from vertex N down. Only nodes with one letter can have, so these are chained: a table has the
+// first of each letter, another the next after each, and the sink stands for none.
 ghost use mathlib.Core.Path.{_≡_};
 ghost use mathlib.Core.Bool.{false};
-ghost use Prim.Native.Nat.{suc, _+_, _*_, _≤_, _<_};
+ghost use Prim.Native.Nat.{ℕ, suc, _+_, _*_, _≤_, _<_};
 ghost use lib.ListN.{length, replicate};
 ghost use Rattle.endian.specs.Lists.{any};
 ghost use Rattle.call.specs.Buffers.{zeroed};
-ghost use Rattle.lexicon.specs.Lexicon.{nodeCount, successors};
+ghost use Rattle.lexicon.specs.Lexicon.{nodeCount, nodeLetter, successors};
 ghost use Rattle.graph.specs.Graph.{graphOf};
 ghost use Rattle.graph.specs.Conditions.{orphan, sameLetters};
-ghost use Rattle.checking.specs.Tables.{WithOffsets};
+ghost use Rattle.checking.specs.Tables.{WellFormed, WithOffsets};
 ghost use Rattle.checking.specs.Bits.{bit, BitSet, Joined};
-ghost use Rattle.checking.specs.PairTable.{PairsMarked, MaskOf, Gathered, maskTells, PairSet, RowDone};
+ghost use Rattle.checking.specs.PairTable.{PairsMarked, MaskOf, Gathered, PairSet, RowDone, Chained, Chains};
 use crate::offsets::number_at;
 use call::zero;
 
@@ -90,7 +92,7 @@ fn meets_mask(lexicon: &[u8], offsets: &[u16; 402], v: usize, mask: &[u8; 51]) -
     false
 }
 
-// Marks the pair of u and v, both ways, if they have something in common.
+// Marks the pair of u and v, two nodes with one letter, both ways, if they have something in common.
 fn mark_pair(
     lexicon: &[u8],
     offsets: &[u16; 402],
@@ -101,11 +103,9 @@ fn mark_pair(
 )
     requires { ⌜ WithOffsets (now lexicon) (now offsets) × (u ≤ nodeCount (now lexicon)) × (v ≤ nodeCount (now lexicon))
         × (length (now pairs) ≡ 20502) ⌝ }
-    ensures { λ _. ⌜ PairSet u v (maskTells (graphOf (now (lexicon .entry))) (now (mask .entry)) u v) (now (pairs .entry)) (now (pairs .exit)) ⌝ }
+    ensures { λ _. ⌜ PairSet u v (any (bit (now (mask .entry))) (successors (now (lexicon .entry)) v))
+        (now (pairs .entry)) (now (pairs .exit)) ⌝ }
 {
-    if lexicon[1 + u] != lexicon[1 + v] {
-        return;
-    }
     if meets_mask(lexicon, offsets, v, mask) {
         set_bit(pairs, u * ROW_BITS + v);
         set_bit(pairs, v * ROW_BITS + u);
@@ -113,35 +113,62 @@ fn mark_pair(
 }
 
 // Marks the pairs of u and the vertices from u on.
-fn mark_row(lexicon: &[u8], offsets: &[u16; 402], u: usize, mask: &[u8; 51], pairs: &mut [u8])
+fn mark_row(
+    lexicon: &[u8],
+    offsets: &[u16; 402],
+    nexts: &[u16; 402],
+    u: usize,
+    mask: &[u8; 51],
+    pairs: &mut [u8],
+)
     requires { ⌜ WithOffsets (now lexicon) (now offsets) × (1 ≤ u) × (u ≤ nodeCount (now lexicon))
         × MaskOf (graphOf (now lexicon)) u (now mask) × PairsMarked (graphOf (now lexicon)) (suc u) (now pairs) ⌝ }
+    requires { ⌜ Chained (graphOf (now lexicon)) u (now nexts) ⌝ }
     ensures { λ _. ⌜ PairsMarked (graphOf (now (lexicon .entry))) u (now (pairs .exit)) ⌝ }
 {
     let nodes = number_at(lexicon, 0);
     set_bit(pairs, u * ROW_BITS + u);
-    let mut v = u + 1;
+    let mut v = nexts[u] as usize;
     while v <= nodes {
         mark_pair(lexicon, offsets, u, v, mask, pairs);
-        v += 1;
+        v = nexts[v] as usize;
     }
 }
 
 // Whether two successors of u have something in common; if not, the pairs with u are marked.
-fn add_row(lexicon: &[u8], offsets: &[u16; 402], u: usize, pairs: &mut [u8]) -> bool
+fn add_row(
+    lexicon: &[u8],
+    offsets: &[u16; 402],
+    nexts: &[u16; 402],
+    u: usize,
+    pairs: &mut [u8],
+) -> bool
     requires { ⌜ WithOffsets (now lexicon) (now offsets) × (1 ≤ u) × (u ≤ nodeCount (now lexicon))
         × PairsMarked (graphOf (now lexicon)) (suc u) (now pairs) ⌝ }
+    requires { ⌜ Chained (graphOf (now lexicon)) u (now nexts) ⌝ }
     ensures { λ r. ⌜ RowDone (graphOf (now (lexicon .entry))) u (now (pairs .exit)) r ⌝ }
 {
     let mut mask = [0; 51];
     if gather(lexicon, offsets, u, &pairs[..], &mut mask) {
         return true;
     }
-    mark_row(lexicon, offsets, u, &mask, pairs);
+    mark_row(lexicon, offsets, nexts, u, &mask, pairs);
     false
 }
 
-// The pair of the sink with itself alone is marked. No row after the sink's is ever read, so only those up to it are made zero.
+// Puts node u at the beginning of its letter's chain, in which the nodes above it are.
+fn chain_node(lexicon: &[u8], u: usize, firsts: &mut [u16; 64], nexts: &mut [u16; 402])
+    requires { ⌜ WellFormed (now lexicon) × (u ≤ nodeCount (now lexicon)) × (nodeLetter (now lexicon) u < 64)
+        × Chains (graphOf (now lexicon)) (suc u) (now firsts) (now nexts) ⌝ }
+    ensures { λ _. ⌜ Chains (graphOf (now (lexicon .entry))) u (now (firsts .exit)) (now (nexts .exit)) ⌝ }
+{
+    let letter = lexicon[1 + u] as usize;
+    nexts[u] = firsts[letter];
+    firsts[letter] = u as u16;
+}
+
+// The pair of the sink with itself alone is marked. No row after the sink's is ever read, so only those up to it are
+// made zero.
 fn begin_table(sink: usize, pairs: &mut [u8])
     requires { ⌜ (sink < 402) × (length (now pairs) ≡ 20502) ⌝ }
     ensures { λ _. ⌜ BitSet (sink * 408 + sink) (zeroed (51 * (sink + 1)) (now (pairs .entry))) (now (pairs .exit)) ⌝ }
@@ -150,17 +177,22 @@ fn begin_table(sink: usize, pairs: &mut [u8])
     set_bit(pairs, sink * ROW_BITS + sink);
 }
 
-// Adds the rows from vertex N down, until one finds two successors with something in common. The root has no letter, so it needs no row.
+// Adds the rows from vertex N down, until one finds two successors with something in common. The root has no letter, so
+// it needs no row.
 pub(crate) fn has_same_letters(lexicon: &[u8], offsets: &[u16; 402], pairs: &mut [u8]) -> bool
     requires { ⌜ WithOffsets (now lexicon) (now offsets) × (orphan (graphOf (now lexicon)) ≡ false)
         × (length (now pairs) ≡ 20502) ⌝ }
+    requires { ⌜ ((u : ℕ) → 1 ≤ u → u ≤ nodeCount (now lexicon) → nodeLetter (now lexicon) u < 64) ⌝ }
     ensures { λ r. ⌜ r ≡ sameLetters (graphOf (now (lexicon .entry))) ⌝ }
     ensures { λ _. ⌜ length (now (pairs .exit)) ≡ length (now (pairs .entry)) ⌝ }
 {
     let mut u = number_at(lexicon, 0);
     begin_table(u + 1, pairs);
+    let mut firsts = [(u + 1) as u16; 64];
+    let mut nexts = [0; 402];
     while 0 < u {
-        if add_row(lexicon, offsets, u, pairs) {
+        chain_node(lexicon, u, &mut firsts, &mut nexts);
+        if add_row(lexicon, offsets, &nexts, u, pairs) {
             return true;
         }
         u -= 1;

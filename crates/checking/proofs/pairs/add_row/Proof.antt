@@ -15,7 +15,8 @@ mark-row-requires : tie.Need-mark-row-requires
 mark-row-requires c κs =
     let e = c .before .before in
     let h = e .before .before .before .before .before .before .pre in
-    (h .0, h .1, h .2, e .before .gather .ensures .made (e .if1 .left), h .3)
+    let q = h .0 in
+    ((q .0, q .1, q .2, e .before .gather .ensures .made (e .if1 .left), q .3), h .1)
 
 returns-2 : tie.Need-returns-2
 returns-2 c =

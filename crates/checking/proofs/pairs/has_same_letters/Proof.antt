@@ -1,6 +1,6 @@
--- `has_same_letters` meets its contract: the vertices above u have their rows, and none of them has two successors with something in common.
--- The measure is u. Assumes nothing.
-use Prim.Native.Nat.{_+_}
+-- `has_same_letters` meets its contract: the vertices above u have their rows and are in their chains, and none of them
+-- has two successors with something in common. The measure is u. Assumes nothing.
+use Prim.Native.Nat.{suc, _+_, _-_}
 use mathlib.Core.Path.{_≡_, refl, sym, _∙_}
 use native.Mathlib.Omega.{arith}
 use borrow.Author.Needs.{needs}
@@ -9,7 +9,9 @@ use Rattle.lexicon.specs.Lexicon.{nodeCount}
 use Rattle.graph.specs.Graph.{graphOf, sink}
 use Rattle.graph.specs.Conditions.{sameLetters}
 use Rattle.checking.specs.Pairs.{clash}
+use Rattle.checking.specs.PairTable.{Chains}
 use Rattle.checking.proofs.Arcs.{sound-of, nodes-there}
+use Rattle.checking.proofs.Chains.{chains-start}
 use Rattle.checking.proofs.Forks.{same-letters-clash}
 use Rattle.checking.proofs.Masks.{few-vertices}
 use Rattle.checking.proofs.PairTable.{Rows, rows-start, rows-found, rows-next, rows-all, rows-done}
@@ -17,13 +19,14 @@ use Rattle.checking.proofs.pairs.has_same_letters.Statement.{statement}
 use Rattle.checking.proofs.pairs.has_same_letters.Tie as tie
 
 abbrev Inv-loop : tie.InvT-loop
-Inv-loop lexicon offsets pairs₀ u₀ pairs u = Rows lexicon u pairs
+Inv-loop lexicon offsets pairs₀ u₀ firsts₀ nexts₀ pairs u firsts nexts =
+    Rows lexicon u pairs × Chains (graphOf lexicon) (suc u) firsts nexts
 
 abbrev μ-loop : tie.MeasureT-loop
-μ-loop lexicon offsets pairs₀ u₀ pairs u = u
+μ-loop lexicon offsets pairs₀ u₀ firsts₀ nexts₀ pairs u firsts nexts = u
 
 number-at-requires : tie.Need-number-at-requires Inv-loop μ-loop
-number-at-requires c κs = omega (arith, nodes-there (c .before .before .pre .0 .well-formed))
+number-at-requires c κs = omega (arith, nodes-there (c .before .before .pre .0 .0 .well-formed))
 
 -- the sink is the vertex after the last node
 sink-next : (c : tie.After-number-at Inv-loop μ-loop) → c .number-at .result + 1 ≡ sink (graphOf (c .before .before .before .args .lexicon .now))
@@ -31,11 +34,11 @@ unfolding sink nodeCount
 sink-next c = omega (arith, c .number-at .ensures)
 
 add-begin-table : tie.Need-add-begin-table Inv-loop μ-loop
-add-begin-table c = omega (arith, sink-next c, few-vertices (c .before .before .before .pre .0))
+add-begin-table c = omega (arith, sink-next c, few-vertices (c .before .before .before .pre .0 .0))
 
 begin-table-requires : tie.Need-begin-table-requires Inv-loop μ-loop
 begin-table-requires c κs =
-    let h = c .before .before .before .before .pre in
+    let h = c .before .before .before .before .pre .0 in
     (omega (arith, sink-next (c .before), few-vertices (h .0)), h .2)
 
 loop-holds : tie.Need-loop-holds Inv-loop μ-loop
@@ -44,59 +47,80 @@ loop-holds c =
     let d = c .before .before in
     let n = d .before .before in
     let s = n .before .before .before in
-    let h = s .pre in
-    rows-start (s .args .pairs .now) (h .0) (n .number-at .ensures) (sink-next n)
-    (d .begin-table .kept .1 .0 ∙ h .2) (d .begin-table .ensures)
+    let h = s .pre .0 in
+    let sink-is = sink-next n in (
+      rows-start (s .args .pairs .now) (h .0) (n .number-at .ensures) sink-is (d .begin-table .kept .1 .0 ∙ h .2)
+      (d .begin-table .ensures),
+      chains-start (graphOf (s .args .lexicon .now)) (omega (arith, sink-is)) sink-is refl,
+    )
+
+abbrev start : tie.In-loop Inv-loop μ-loop → tie.Start Inv-loop μ-loop
+start c = c .before .before .before .before .before .before .before .before .before
+
+chain-node-requires : tie.Need-chain-node-requires Inv-loop μ-loop
+chain-node-requires c κs =
+    let l = c .before .before in
+    let h = start l .pre in
+    let i = l .before .loop .inv in
+    let below = i .0 .below in
+    (h .0 .0 .well-formed, below, h .1 (l .before .loop .u) (l .loop-test .taken) below, i .1)
 
 add-row-requires : tie.Need-add-row-requires Inv-loop μ-loop
 add-row-requires c κs =
-    let l = c .before .before in
-    let h = l .before .before .before .before .before .before .before .before .pre in
-    (h .0, c .before .loop-test .taken, l .loop .inv .below, l .loop .inv .marked)
+    let n = c .before .before in
+    let l = n .before .before .before in
+    let h = start l .pre .0 in
+    let i = l .before .loop .inv .0 in
+    ((h .0, l .loop-test .taken, i .below, i .marked), n .chain-node .ensures .chained)
 
 -- what the rows tell is what is asked
 asked : (c : tie.Start Inv-loop μ-loop) → let g = graphOf (c .args .lexicon .now) in sameLetters g ≡ clash g
-asked c = same-letters-clash (sound-of (c .pre .0 .well-formed)) (c .pre .1)
+asked c = same-letters-clash (sound-of (c .pre .0 .0 .well-formed)) (c .pre .0 .1)
+
+abbrev turn : tie.After-add-row Inv-loop μ-loop → tie.In-loop Inv-loop μ-loop
+turn c = c .before .before .before .before .before .before
 
 -- the row of a vertex does not change the length
-same-pairs : (c : tie.After-add-row Inv-loop μ-loop) →
-    let s = c .before .before .before .before .before .before .before .before .before .before .before in
-    length (c .add-row .last .1 .1 .1 .0) ≡ length (s .args .pairs .now)
+same-pairs : (c : tie.After-add-row Inv-loop μ-loop)
+    → length (c .add-row .last .1 .1 .1 .1 .0) ≡ length (start (turn c) .args .pairs .now)
 same-pairs c =
-    let l = c .before .before .before in
-    c .add-row .kept .1 .1 .1 .0 ∙ l .loop .inv .marked .long ∙ sym (l .before .before .before .before .before .before .before .before .pre .2)
+    let l = turn c in
+    c .add-row .kept .1 .1 .1 .1 .0 ∙ l .before .loop .inv .0 .marked .long ∙ sym (start l .pre .0 .2)
 
 returns : tie.Need-returns Inv-loop μ-loop
 returns c =
     let d = c .before .before .before in
-    let l = d .before .before .before in
-    let same = asked (l .before .before .before .before .before .before .before .before) in
-    (sym (same ∙ rows-found (l .loop .inv) (d .add-row .ensures) (c .if1 .taken)), same-pairs d)
+    let l = turn d in
+    (sym (asked (start l) ∙ rows-found (l .before .loop .inv .0) (d .add-row .ensures) (c .if1 .taken)), same-pairs d)
 
 loop-again : tie.Need-loop-again Inv-loop μ-loop
 loop-again c =
     let d = c .before .before .before in
-    let l = d .before .before .before in
-    rows-next (l .loop .inv) (d .before .before .loop-test .taken) (d .add-row .ensures) (c .if1 .left)
+    let l = turn d in
+    let t = l .loop-test .taken in
+    let one-less : l .before .loop .u ≡ suc (l .before .loop .u - 1) = omega arith in (
+      rows-next (l .before .loop .inv .0) t (d .add-row .ensures) (c .if1 .left),
+      rw one-less at (d .before .before .before .chain-node .ensures),
+    )
 
 gather-requires : tie.Need-gather-requires Inv-loop μ-loop
 gather-requires c κs =
     let e = c .before .before in
     let l = e .before in
-    let h = l .before .before .before .before .before .before .before .before .pre in
-    (h .0, omega arith, rows-all (l .loop .inv) (e .loop-test .left), refl)
+    let h = l .before .before .before .before .before .before .before .before .pre .0 in
+    (h .0, omega arith, rows-all (l .loop .inv .0) (e .loop-test .left), refl)
 
 same-length-2 : tie.Need-same-length-2 Inv-loop μ-loop
 same-length-2 c =
     let l = c .before .before .before .before in
-    l .loop .inv .marked .long ∙ sym (l .before .before .before .before .before .before .before .before .pre .2)
+    l .loop .inv .0 .marked .long ∙ sym (l .before .before .before .before .before .before .before .before .pre .0 .2)
 
 returns-2 : tie.Need-returns-2 Inv-loop μ-loop
 returns-2 c =
     let e = c .before .before .before in
     let l = e .before in
     let same = asked (l .before .before .before .before .before .before .before .before) in
-    (sym (same ∙ rows-done (l .loop .inv) (e .loop-test .left) (c .gather .ensures)), same-length-2 c)
+    (sym (same ∙ rows-done (l .loop .inv .0) (e .loop-test .left) (c .gather .ensures)), same-length-2 c)
 
 pub has-same-letters-spec : {M : Type 1} → statement M
 has-same-letters-spec =
@@ -107,7 +131,12 @@ has-same-letters-spec =
     number-at-requires
     add-begin-table
     begin-table-requires
+    (λ c. let n = c .before .before .before .before in add-begin-table n)
+    (λ c.
+        let n = c .before .before .before .before in
+        omega (arith, sink-next n, few-vertices (n .before .before .before .pre .0 .0)))
     loop-holds
+    chain-node-requires
     add-row-requires
     (λ c. same-pairs (c .before .before .before))
     returns
