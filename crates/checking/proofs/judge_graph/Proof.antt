@@ -69,8 +69,7 @@ returns-4 c =
 has-same-letters-requires : tie.Need-has-same-letters-requires
 has-same-letters-requires c κs =
     let d = c .before .before .before .before .before .before .before .before .before .before .before .before in
-    let p = d .before .before .before .before .before .before .before .before .pre in
-    (
+    let p = d .before .before .before .before .before .before .before .before .pre in (
       (search needs, no-orphan d, p .1 .1 .room),
       λ u l h. omega (arith, letter-known _ _ (p .1 .0) u l h, letters-few _ (p .0)),
     )

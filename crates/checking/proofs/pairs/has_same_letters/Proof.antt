@@ -50,7 +50,7 @@ loop-holds c =
     let h = s .pre .0 in
     let sink-is = sink-next n in (
       rows-start (s .args .pairs .now) (h .0) (n .number-at .ensures) sink-is (d .begin-table .kept .1 .0 ∙ h .2)
-      (d .begin-table .ensures),
+          (d .begin-table .ensures),
       chains-start (graphOf (s .args .lexicon .now)) (omega (arith, sink-is)) sink-is refl,
     )
 
@@ -133,8 +133,8 @@ has-same-letters-spec =
     begin-table-requires
     (λ c. let n = c .before .before .before .before in add-begin-table n)
     (λ c.
-        let n = c .before .before .before .before in
-        omega (arith, sink-next n, few-vertices (n .before .before .before .pre .0 .0)))
+    let n = c .before .before .before .before in
+    omega (arith, sink-next n, few-vertices (n .before .before .before .pre .0 .0)))
     loop-holds
     chain-node-requires
     add-row-requires

@@ -132,16 +132,16 @@ mark-row-spec =
     (λ c. omega (arith, small (c .before .before .before .before .before .before .before)))
     (λ c. omega (arith, small (c .before .before .before .before .before .before .before)))
     (λ c.
-        let s = c .before .before .before .before .before .before .before .before in
-        omega (arith, first s .inside, known s .few))
+    let s = c .before .before .before .before .before .before .before .before in
+    omega (arith, first s .inside, known s .few))
     loop-holds
     mark-pair-requires
     (λ c. omega (arith, node-few (c .before .before .before .before)))
     (λ c. omega (arith, node-few (c .before .before .before .before)))
     (λ c. let l = c .before .before .before .before .before in omega (arith, next l .inside, known (start l) .few))
     (λ c.
-        let l = c .before .before .before .before .before in
-        omega (arith, l .loop-test .taken, next l .from))
+    let l = c .before .before .before .before .before in
+    omega (arith, l .loop-test .taken, next l .from))
     loop-again
     same-length
     returns)
