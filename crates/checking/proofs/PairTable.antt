@@ -134,7 +134,8 @@ module _ {g : Graph} (ok : Sound g) (few : sink g < 402) {u : ℕ} (node : 1 ≤
       skipped s t m k l = elim (ℕ-discrete s u) [
         | yes p ↦
             let q : t ≡ max s t = omega arith in
-            rw p (unlike {v = t} (omega arith) (omega (arith, f .inside)) (f .none-before t (omega arith) (omega arith)))
+            let i = f .inside in
+            rw p (unlike {v = t} (omega arith) (omega arith) (f .none-before t (omega arith) (omega arith)))
         | no p ↦
             let q : t ≡ u = omega arith in
             let i = f .inside in

@@ -1,7 +1,7 @@
 // Refusal 10: two different full paths with the same letters. The paths part at some vertex, into two successors that
-// have something in common: ways to the sink with the same letters. Which vertices have something in common is kept in a
-// table of bits, filled from vertex N down. Only nodes with one letter can have, so these are chained: a table has the
-// first of each letter, another the next after each, and the sink stands for none.
+// have something in common: ways to the sink with the same letters. Which vertices have something in common is kept in
+// a table of bits, filled from vertex N down. Of two nodes only those with one letter can have, so these are chained: a
+// table has the first of each letter, another the next after each node, and the sink stands for none.
 ghost use mathlib.Core.Path.{_≡_};
 ghost use mathlib.Core.Bool.{false};
 ghost use Prim.Native.Nat.{ℕ, suc, _+_, _*_, _≤_, _<_};
