@@ -13,7 +13,7 @@ ghost use Rattle.voice.specs.Voice.{letterCount, linksAt, linkScore, stateCount
 ghost use Rattle.lexicon.specs.Lexicon.{nodeCount, nodeLetter, lexiconVerdict};
 ghost use Rattle.checking.specs.Tables.{WellFormed};
 ghost use Rattle.storing.specs.Gains.{letterPairs, pairScore, StoredPairs, LettersMarked, AtLetter, LetterRow};
-ghost use Rattle.storing.specs.Gains.{LinkTable, NodeLetters, StatePut, letterIn};
+ghost use Rattle.storing.specs.Gains.{LettersRoom, LinkTable, NodeLetters, StatePut, letterIn};
 use decoder::score::STORED_IMPOSSIBLE;
 use decoder::score::Score;
 use endian::i16_of;
@@ -150,27 +150,28 @@ fn state_scores(pairs: [[i16; 2]; 4], s: usize, row: &mut [u32; 10])
     }
 }
 
-// The row of one letter, whose states begin with number `first`.
-fn letter_row(voice: &[u8], letter: usize, first: u16) -> [u32; 10]
-    requires { ⌜ AtLetter (now voice) letter first ⌝ }
-    ensures { λ r. ⌜ LetterRow (now (voice .entry)) r × (letterIn r ≡ letter) ⌝ }
+// Puts the row of one letter, whose states begin with number `first`. It is made in its place, since a row that is
+// returned would be copied.
+fn letter_row(voice: &[u8], letter: usize, first: u16, row: &mut [u32; 10])
+    requires { ⌜ AtLetter (now voice) letter first × (10 ≤ length (now row)) ⌝ }
+    ensures { λ _. ⌜ LetterRow (now (voice .entry)) (now (row .exit)) × (letterIn (now (row .exit)) ≡ letter) ⌝ }
 {
     let states = voice[2 + 2 * letter] as usize;
     let pairs = letter_pairs(voice, first as usize, states);
-    let mut row = [0, 0, 0, 0, 0, 0, 0, 0, letter as u32, first as u32];
+    row[INDEX] = letter as u32;
+    row[FIRST_STATE] = first as u32;
     let mut s = 0;
     while s < states {
-        state_scores(pairs, s, &mut row);
+        state_scores(pairs, s, row);
         s += 1;
     }
-    row
 }
 
 // Fills the table with the letters in use, in rising order; answers how many.
 pub(crate) fn letter_table(voice: &[u8], lexicon: &[u8], letters: &mut [[u32; 10]; 64]) -> usize
     requires { ⌜ (voiceVerdict (now voice) ≡ wellFormed) × (lexiconVerdict (letterCount (now voice)) (now lexicon)
         ≡ wellFormed) ⌝ }
-    requires { ⌜ length (now letters) ≡ 64 ⌝ }
+    requires { ⌜ LettersRoom (now letters) ⌝ }
     ensures { λ r. ⌜ NodeLetters (now (voice .entry)) (now (lexicon .entry)) r (now (letters .exit)) ⌝ }
 {
     let mut marks = [false; 64];
@@ -181,7 +182,7 @@ pub(crate) fn letter_table(voice: &[u8], lexicon: &[u8], letters: &mut [[u32; 10
     let mut letter = 0;
     while letter < count {
         if marks[letter] {
-            letters[used] = letter_row(voice, letter, first);
+            letter_row(voice, letter, first, &mut letters[used]);
             used += 1;
         }
         first += voice[2 + 2 * letter] as u16;

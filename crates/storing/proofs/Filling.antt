@@ -23,7 +23,7 @@ use Rattle.decoder.specs.Score.{numberOf, possible}
 use Rattle.storing.specs.Gains.{NearBias, numberSum, letterPairs, pairScore, loopNumber, stepNumber, loopGain}
 use Rattle.storing.specs.Gains.{stepGain, LettersMarked, LetterEntries, letterIn, LetterRow, letterAt, HasRow}
 use Rattle.storing.specs.Gains.{NodeLetters, GainRow, GainsRoom, Gained, MoveGains, EntryGains, KnownSymbol}
-use Rattle.storing.specs.Gains.{AtLetter, StatePut, FirstPut, linkNumber, LinkTable}
+use Rattle.storing.specs.Gains.{AtLetter, StatePut, FirstPut, linkNumber, LinkTable, LettersRoom}
 use Rattle.storing.proofs.Gaining.{number-near, sum-both, letter-small, letter-few, state-there, loop-score}
 use Rattle.storing.proofs.Gaining.{step-score, LettersPassed, letters-start, letters-next}
 use Rattle.storing.proofs.Carrying.{emission-range}
@@ -132,18 +132,21 @@ scores-next {v} {l} {first} {s} {pairs} a h e f p =
 
 -- ---- row by row
 
--- the marked letters below this one have their rows, and the first state of this one is known
+-- the marked letters below this one have their rows, there is room for those that are left, and the first state of this
+-- one is known
 pub record Tabling (v : List ℕ) (marks : List Bool) (used first letter : ℕ) (letters : List (List ℕ)) : Type 0 where
   pub long : length letters ≡ 64
+  pub wide : {i : ℕ} → used ≤ i → i < 64 → 10 ≤ length (getD letters i [])
   pub passed : LettersPassed v first letter
   pub few : used ≤ letter
   pub row : (i : ℕ) → i < used → LetterRow v (getD letters i [])
   pub all : (l : ℕ) → l < letter → getD marks l false ≡ true → HasRow letters used l
 
-pub tabling-start : {v : List ℕ} {marks : List Bool} {letters : List (List ℕ)} → length letters
-    ≡ 64 → Tabling v marks 0 0 0 letters
+pub tabling-start : {v : List ℕ} {marks : List Bool} {letters : List (List ℕ)} → LettersRoom letters
+    → Tabling v marks 0 0 0 letters
 tabling-start {v} e = record {
-  long = e;
+  long = e .long;
+  wide = λ k h. e .wide h;
   passed = letters-start v;
   few = omega arith;
   row = λ i h. absurd (omega arith);
@@ -157,6 +160,7 @@ module _ {v : List ℕ} {marks : List Bool} {used first letter : ℕ} {letters :
       → Tabling v marks (used + 1) (first + states v letter) (letter + 1) (set letters used row)
   tabling-take {row} r e = record {
     long = length-set letters used row ∙ f .long;
+    wide = λ {i} k h. rw (getD-set-other letters used i row [] (λ q. omega arith)) (f .wide (omega arith) h);
     passed = letters-next a (f .passed);
     few = omega (arith, f .few);
     row = λ i k. rows i k (ℕ-discrete i used);
@@ -186,6 +190,7 @@ module _ {v : List ℕ} {marks : List Bool} {used first letter : ℕ} {letters :
       (letter + 1) letters
   tabling-skip e = record {
     long = f .long;
+    wide = f .wide;
     passed = letters-next a (f .passed);
     few = omega (arith, f .few);
     row = f .row;

@@ -108,6 +108,11 @@ pub record HasRow (letters : List (List ℕ)) (n l : ℕ) : Type 0 where
   pub inside : at < n
   pub same : letterAt letters at ≡ l
 
+-- room for the rows of 64 letters in use
+pub record LettersRoom (letters : List (List ℕ)) : Type 0 where
+  pub long : length letters ≡ 64
+  pub wide : {i : ℕ} → i < 64 → 10 ≤ length (getD letters i [])
+
 -- the table of a call has n rows
 pub record LetterTable (v : List ℕ) (n : ℕ) (letters : List (List ℕ)) : Type 0 where
   pub few : n ≤ 64

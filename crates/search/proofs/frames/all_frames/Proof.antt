@@ -8,7 +8,7 @@ use mathlib.Core.List.{List, []}
 use lib.ListN.{length, replicate, getD-replicate}
 use Rattle.lexicon.specs.Lexicon.{nodeCount}
 use Rattle.graph.proofs.Accepted.{AcceptedImages, accepted}
-use Rattle.storing.specs.Gains.{GainsRoom}
+use Rattle.storing.specs.Gains.{LettersRoom, GainsRoom}
 use Rattle.search.specs.Running.{CallNumbers, Frame}
 use Rattle.search.proofs.Running.{roomy-same, frame-count, known-symbol, frames-start, frame-of, frames-next}
 use Rattle.search.proofs.Running.{FramesDone, frames-end}
@@ -27,9 +27,19 @@ abbrev μ-loop : tie.MeasureT-loop
 images : (c : tie.Start Inv-loop μ-loop) → AcceptedImages (c .args .voice .now) (c .args .lexicon .now)
 images c = accepted (c .pre .0 .ready .accepted)
 
+-- no letter has a row yet
+abbrev no-row : List ℕ
+no-row = replicate 10 0
+
+no-letters : LettersRoom (replicate 64 no-row)
+no-letters = record {
+  long = refl;
+  wide = λ {i} h. rw (getD-replicate 64 i no-row [] h) (omega arith);
+}
+
 letter-table-requires : tie.Need-letter-table-requires Inv-loop μ-loop
 letter-table-requires c κs = let i =
-    images (c .before .before .before .before .before) in ((i .voice, i .lexicon), refl)
+    images (c .before .before .before .before .before) in ((i .voice, i .lexicon), no-letters)
 
 abbrev begin : tie.After-letter-table Inv-loop μ-loop → tie.Start Inv-loop μ-loop
 begin t = t .before .before .before .before .before .before

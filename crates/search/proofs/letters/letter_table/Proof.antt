@@ -49,13 +49,19 @@ few c = letter-small (letter c)
 first-few : (c : tie.In-loop Inv-loop μ-loop) → c .before .loop .first ≤ 252
 first-few c = omega (arith, few c, c .before .loop .inv .passed .few)
 
+letter-row-requires : tie.Need-letter-row-requires Inv-loop μ-loop
+letter-row-requires c κs =
+    let l = c .before .before in
+    let i = l .before .loop .inv in
+    (letter l, i .wide (omega arith) (omega (arith, few l, i .few)))
+
 loop-again : tie.Need-loop-again Inv-loop μ-loop
 unfolding states
 loop-again c =
     let j = c .before in
     let l = j .before in
     ⊎-elim
-    (λ t. rw (t .2, t .3) (tabling-take (letter l) (l .before .loop .inv) (t .1 .ensures .0) (t .1 .ensures .1)))
+    (λ t. rw (t .3, t .4) (tabling-take (letter l) (l .before .loop .inv) (t .2 .ensures .0) (t .2 .ensures .1)))
     (λ e. rw (e .1, e .2) (tabling-skip (letter l) (l .before .loop .inv) (e .0 .left)))
     (j .if1 .came)
 
@@ -77,10 +83,10 @@ letter-table-spec =
     (λ c. let h = letters-few _ (c .before .before .before .before .before .pre .0 .0) in search needs)
     loop-holds
     (λ c. let h = few c in search needs)
-    (λ c κs. letter (c .before))
-    (λ c. let h = few (c .before .before) in let f = c .before .before .before .loop .inv .few in search needs)
-    (λ c. let h = few (c .before .before) in let f = c .before .before .before .loop .inv .few in search needs)
-    (λ c. let h = few (c .before .before) in let f = c .before .before .before .loop .inv .few in search needs)
+    (λ c. let h = few (c .before) in let f = c .before .before .loop .inv .few in search needs)
+    (λ c. let h = few (c .before) in let f = c .before .before .loop .inv .few in search needs)
+    letter-row-requires
+    (λ c. let l = c .before .before .before in let h = few l in let f = l .before .loop .inv .few in search needs)
     (λ c. let h = few (c .before) in search needs)
     (λ c. let h = few (c .before) in search needs)
     (λ c. let h = letter-there (letter (c .before .before)) in search needs)
