@@ -1,5 +1,6 @@
-//! Times two libraries' decoding in turn on the cases of bench/decode with 300 frames, and prints a line for each: its
-//! links, its name, and the time of the one called new in percent of the old one's. bench/times links it with both.
+//! Times two libraries' decoding and the plain decoder in turn on the cases of bench/decode with 50 and 300 frames, and
+//! prints a line for each: its links, its part of the table, its name, and the ratios of the library called old and of
+//! the one called new to the plain decoder. bench/times links it with them.
 
 #[allow(dead_code)]
 mod decode_cases;
@@ -41,7 +42,7 @@ macro_rules! decoders {
     };
 }
 
-decoders!(old_decode new_decode);
+decoders!(old_decode new_decode plain_decode);
 
 extern "C" {
     fn clock_gettime(clock: i32, time: *mut [i64; 2]) -> i32;
@@ -59,8 +60,8 @@ fn now() -> f64 {
 }
 
 /// A case is timed in rounds, at least so many, until they have taken so many microseconds.
-const ROUNDS: usize = 9;
-const SPENT: f64 = 150_000.0;
+const ROUNDS: usize = 5;
+const SPENT: f64 = 40_000.0;
 
 /// At a page's start, whatever the program is linked with.
 #[repr(align(4096))]
@@ -75,17 +76,17 @@ fn time(case: &Case, decode: Decode, calls: usize, work: &mut Work) -> f64 {
     now() - begin
 }
 
-/// The least of each one's rounds, since what else the machine does can only add to a time; new in percent of old.
-fn percent(case: &Case, work: &mut Work) -> f64 {
-    let decoders: [Decode; 2] = [old_decode, new_decode];
+/// The least of each one's rounds, since what else the machine does can only add to a time; old and new to plain.
+fn ratios(case: &Case, work: &mut Work) -> [f64; 2] {
+    let decoders: [Decode; 3] = [old_decode, new_decode, plain_decode];
     let lists = decoders.map(|decode| {
         let mut out = [0; 64];
         (case.call(decode, &mut work.0, &mut out), out)
     });
-    assert_eq!(lists[0], lists[1]);
+    assert!(lists.iter().all(|list| *list == lists[0]), "{lists:?}");
     // short calls in rows of about 100 microseconds
     let calls = (100.0 / time(case, decoders[0], 1, work)) as usize + 1;
-    let mut least = [f64::MAX; 2];
+    let mut least = [f64::MAX; 3];
     let begin = now();
     let mut round = 0;
     while round < ROUNDS || now() - begin < SPENT {
@@ -94,7 +95,7 @@ fn percent(case: &Case, work: &mut Work) -> f64 {
         }
         round += 1;
     }
-    100.0 * least[1] / least[0]
+    [least[0] / least[2], least[1] / least[2]]
 }
 
 /// A form of links that the old library does not know has no lines.
@@ -103,11 +104,16 @@ fn print_form(links: Links, work: &mut Work) {
     if cases.are_refused(old_decode, &mut work.0) {
         return;
     }
-    for case in cases.table.iter().filter(|case| case.frames.len() == 300) {
-        let (form, input, n) = (links.name(), &case.input, case.n);
-        let percent = percent(case, work);
+    for case in cases.table.iter().filter(|case| case.frames.len() < 1_000) {
+        let (form, input, length, n) = (links.name(), &case.input, case.frames.len(), case.n);
+        let part = if input.words > 5 {
+            "from 20 nodes up"
+        } else {
+            "five words"
+        };
+        let [old, new] = ratios(case, work);
         println!(
-            "{form}\t{}, {} places, n {n}\t{percent:.2}",
+            "{form}\t{part}, T {length}\t{}, {} places, T {length}, n {n}\t{old:.4}\t{new:.4}",
             input.name, input.places
         );
     }
