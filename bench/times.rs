@@ -90,8 +90,9 @@ fn ratios(case: &Case, work: &mut Work) -> [f64; 2] {
     let begin = now();
     let mut round = 0;
     while round < ROUNDS || now() - begin < SPENT {
-        for (least, decode) in least.iter_mut().zip(decoders) {
-            *least = least.min(time(case, decode, calls, work));
+        // each in turn is the first
+        for k in (0..3).map(|k| (round + k) % 3) {
+            least[k] = least[k].min(time(case, decoders[k], calls, work));
         }
         round += 1;
     }

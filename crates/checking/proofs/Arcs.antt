@@ -5,12 +5,16 @@ use Prim.Native.Nat.{ℕ, suc, _+_, _*_, _≤_, _<_}
 use native.Mathlib.Omega.{arith}
 use lib.ListN.{length, getD}
 use Rattle.endian.specs.Bytes.{u16, u16s}
-use Rattle.lexicon.specs.Lexicon.{nodeCount, sinkOf, arcsAt, arcCount, successors}
+use Rattle.voice.specs.Fields.{wellFormed}
+use Rattle.voice.specs.Voice.{letterCount, voiceVerdict}
+use Rattle.voice.proofs.Scores.{letters-few}
+use Rattle.lexicon.specs.Lexicon.{nodeCount, sinkOf, arcsAt, arcCount, successors, lexiconVerdict}
 use Rattle.lexicon.proofs.Shape.{Shape, shape, arcs-next}
 use Rattle.lexicon.proofs.Readers.{length-successors}
+use Rattle.lexicon.proofs.WellFormed.{letter-known}
 use Rattle.graph.specs.Graph.{graphOf, sink}
 use Rattle.graph.proofs.Sound.{Sound, sound}
-use Rattle.checking.specs.Tables.{WellFormed, WithOffsets}
+use Rattle.checking.specs.Tables.{WellFormed, FewLetters, WithOffsets}
 use Rattle.checking.proofs.Tables.{entry}
 
 pub shape-of : {x : List ℕ} → WellFormed x → Shape x
@@ -23,6 +27,11 @@ sound-of w = sound (w .letters) _ (w .judged)
 pub nodes-there : {x : List ℕ} → WellFormed x → 2 + nodeCount x ≤ length x
 unfolding arcsAt sinkOf
 nodes-there {x} w = omega (arith, shape-of w .there {u = 0} (omega arith))
+
+-- a lexicon that is judged with a voice model has its letters
+pub few-letters : (v x : List ℕ) → voiceVerdict v ≡ wellFormed → lexiconVerdict (letterCount v) x ≡ wellFormed
+    → FewLetters x
+few-letters v x a b = λ u l h. omega (arith, letter-known _ x b u l h, letters-few v a)
 
 -- the list that begins at the offset ends inside the image, at a small offset
 pub record ListThere (x : List ℕ) (at : ℕ) : Type 0 where

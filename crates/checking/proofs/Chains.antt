@@ -1,13 +1,13 @@
--- Chains of nodes with one letter, made from the last node down. Assumes nothing.
-use Prim.Native.Nat.{ℕ, suc, _+_, _≤_, _<_}
-use mathlib.Core.Path.{_≡_, refl, sym, ap, _∙_}
+-- Chains of nodes with the same letter, made from the last node down. Assumes nothing.
+use Prim.Native.Nat.{ℕ, suc, _≤_, _<_}
+use mathlib.Core.Path.{_≡_, sym, ap, _∙_}
 use mathlib.Core.List.{List}
 use native.Mathlib.Decide.{ℕ-discrete}
 use native.Mathlib.Omega.{arith}
 use lib.ListN.{length, getD, set, replicate, length-set, length-replicate, getD-replicate}
 use lib.Seq.{getD-set-same, getD-set-other}
 use Rattle.graph.specs.Graph.{Graph, sink}
-use Rattle.checking.specs.PairTable.{FirstAlike, Chained, Chains}
+use Rattle.checking.specs.PairTable.{FirstAlike, Chains}
 
 -- no node yet: each letter has the sink
 pub chains-start : (g : Graph) {k e : ℕ} {nexts : List ℕ} → k ≡ sink g → e ≡ sink g → length nexts ≡ 402

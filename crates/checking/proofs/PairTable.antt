@@ -55,11 +55,11 @@ pub record RowMarked (g : Graph) (u v : ℕ) (b : List ℕ) : Type 0 where
   pub long : length b ≡ 20502
   pub bits : (s t : ℕ) → s ≤ sink g → t ≤ sink g → pairBit b s t ≡ done u v s t && common g s t
 
--- the pairs of u with the vertices below v are marked, and v is the next node with u's letter, or the sink
+-- the pairs of u with the vertices below v are marked, and v, whose turn it is, has u's letter or is the sink
 pub record RowAt (g : Graph) (u v : ℕ) (b : List ℕ) : Type 0 where
   pub above : u < v
   pub inside : v ≤ sink g
-  pub alike : v < sink g → g .letter v ≡ g .letter u
+  pub same : v < sink g → g .letter v ≡ g .letter u
   pub marked : RowMarked g u v b
 
 module _ (g : Graph) (few : sink g < 402) where
@@ -126,7 +126,7 @@ module _ {g : Graph} (ok : Sound g) (few : sink g < 402) {u : ℕ} (node : 1 ≤
   row-skip {v} {w} {e} h is f r = record {
     above = omega (arith, f .from);
     inside = f .inside;
-    alike = f .same;
+    same = f .same;
     marked = record { long = r .long; bits = λ s t i j. r .bits s t i j ∙ go s t i j (ℕ-discrete (min s t) u) };
   }
     where
@@ -162,7 +162,7 @@ module _ {g : Graph} (ok : Sound g) (few : sink g < 402) {u : ℕ} (node : 1 ≤
       let h = p .above in
       record {
         long = l ∙ r .long;
-        bits = λ s t i j. d .bits (s * 408 + t) ∙ rw (mask-tells m h k (p .alike k), r .bits s t i j) (go s t i j h);
+        bits = λ s t i j. d .bits (s * 408 + t) ∙ rw (mask-tells m h k (p .same k), r .bits s t i j) (go s t i j h);
       }
     where
       go : (s t : ℕ) → s ≤ sink g → t ≤ sink g → u < v

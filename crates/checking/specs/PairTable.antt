@@ -1,13 +1,16 @@
--- The table of pairs, one bit each: a row for each vertex, and in it a bit for each; and the chains of nodes with one
--- letter, by which a row is marked. The vocabulary of the contracts of private functions; no public contract cites it.
--- Assumes nothing.
+-- The table of pairs, one bit each: a row for each vertex, and in it a bit for each; and the chains of nodes with the
+-- same letter, by which a row is marked. The vocabulary of the contracts of private functions; no public contract cites
+-- it. Assumes nothing.
 use Prim.Native.Nat.{ℕ, suc, _+_, _*_, _≤_, _<_, min}
 use mathlib.Core.Path.{_≡_}
 use mathlib.Core.Bool.{Bool, false, _&&_, _||_}
 use mathlib.Core.List.{List}
 use lib.ListN.{length, getD}
 use lib.Dec.{eqb, leb}
-use Rattle.graph.specs.Graph.{Graph, sink}
+use Rattle.lexicon.specs.Lexicon.{nodeCount}
+use Rattle.graph.specs.Graph.{Graph, graphOf, sink}
+use Rattle.graph.specs.Conditions.{orphan}
+use Rattle.checking.specs.Tables.{FewLetters, WithOffsets}
 use Rattle.checking.specs.Bits.{bit}
 use Rattle.checking.specs.Pairs.{common, meets, clashAt}
 
@@ -47,13 +50,30 @@ pub record FirstAlike (g : Graph) (l k e : ℕ) : Type 0 where
   pub same : e < sink g → g .letter e ≡ l
   pub none-before : (w : ℕ) → k ≤ w → w < e → ¬ (g .letter w ≡ l)
 
--- each node from k on has the next one with its letter
+-- for each node from k on, `nexts` has the next one with its letter
 pub record Chained (g : Graph) (k : ℕ) (nexts : List ℕ) : Type 0 where
   pub long : length nexts ≡ 402
   pub next : (v : ℕ) → k ≤ v → v < sink g → FirstAlike g (g .letter v) (suc v) (getD nexts v 0)
 
--- and each letter has the first one
+-- and `firsts` has each letter's first node from k on
 pub record Chains (g : Graph) (k : ℕ) (firsts nexts : List ℕ) : Type 0 where
   pub long : length firsts ≡ 64
   pub first : (l : ℕ) → l < 64 → FirstAlike g l k (getD firsts l 0)
   pub chained : Chained g k nexts
+
+-- ---- what calls ask
+
+-- what the row of node u is made from: the lists, the rows above it, and the chains with u in them
+pub record RowParts (x offsets nexts : List ℕ) (u : ℕ) (b : List ℕ) : Type 0 where
+  pub located : WithOffsets x offsets
+  pub node : 1 ≤ u
+  pub inside : u ≤ nodeCount x
+  pub above : PairsMarked (graphOf x) (suc u) b
+  pub chained : Chained (graphOf x) u nexts
+
+-- what is known where number 10 is looked for
+pub record PairsAsked (x offsets b : List ℕ) : Type 0 where
+  pub located : WithOffsets x offsets
+  pub reached : orphan (graphOf x) ≡ false
+  pub letters : FewLetters x
+  pub room : length b ≡ 20502

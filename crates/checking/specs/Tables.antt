@@ -1,5 +1,5 @@
 -- The table that checking fills for the calls after it: a row of four numbers for each vertex. Assumes nothing.
-use Prim.Native.Nat.{ℕ, suc, min, _<_}
+use Prim.Native.Nat.{ℕ, suc, min, _≤_, _<_}
 use mathlib.Core.Path.{_≡_}
 use mathlib.Core.Bool.{cond}
 use mathlib.Core.List.{List, [], _∷_, map}
@@ -9,7 +9,7 @@ use Rattle.endian.specs.Lists.{from}
 use Rattle.call.specs.Limits.{mostWords}
 use Rattle.call.specs.Table.{Answer, value, refused}
 use Rattle.voice.specs.Fields.{wellFormed}
-use Rattle.lexicon.specs.Lexicon.{sinkOf, arcsAt, lexiconVerdict}
+use Rattle.lexicon.specs.Lexicon.{nodeCount, nodeLetter, sinkOf, arcsAt, lexiconVerdict}
 use Rattle.graph.specs.Graph.{Graph, graphOf, pathCount}
 
 -- the row of vertex u: the offset of its successors' count, which their list follows (0 to N); its path count (0 to
@@ -65,6 +65,10 @@ pub record Vertices (x : List ℕ) (vertices : List (List ℕ)) : Type 0 where
 pub record WellFormed (x : List ℕ) : Type 0 where
   pub letters : ℕ
   pub judged : lexiconVerdict letters x ≡ wellFormed
+
+-- every node's letter has an index below 64
+abbrev pub FewLetters : List ℕ → Type 0
+FewLetters x = (u : ℕ) → 1 ≤ u → u ≤ nodeCount x → nodeLetter x u < 64
 
 -- a well-formed lexicon with the table of where its lists begin
 pub record WithOffsets (x offsets : List ℕ) : Type 0 where

@@ -1,19 +1,20 @@
 // Refusal 10: two different full paths with the same letters. The paths part at some vertex, into two successors that
 // have something in common: ways to the sink with the same letters. Which vertices have something in common is kept in
-// a table of bits, filled from vertex N down. Of two nodes only those with one letter can have, so these are chained: a
-// table has the first of each letter, another the next after each node, and the sink stands for none.
+// a table of bits, filled from vertex N down. Two nodes can have something in common only if their letters are the same,
+// so the nodes of a letter are chained: `firsts` has each letter's first node, `nexts` the next after each node, and the
+// sink stands for none.
 ghost use mathlib.Core.Path.{_≡_};
-ghost use mathlib.Core.Bool.{false};
-ghost use Prim.Native.Nat.{ℕ, suc, _+_, _*_, _≤_, _<_};
+ghost use Prim.Native.Nat.{suc, _+_, _*_, _≤_, _<_};
 ghost use lib.ListN.{length, replicate};
 ghost use Rattle.endian.specs.Lists.{any};
 ghost use Rattle.call.specs.Buffers.{zeroed};
 ghost use Rattle.lexicon.specs.Lexicon.{nodeCount, nodeLetter, successors};
 ghost use Rattle.graph.specs.Graph.{graphOf};
-ghost use Rattle.graph.specs.Conditions.{orphan, sameLetters};
+ghost use Rattle.graph.specs.Conditions.{sameLetters};
 ghost use Rattle.checking.specs.Tables.{WellFormed, WithOffsets};
 ghost use Rattle.checking.specs.Bits.{bit, BitSet, Joined};
-ghost use Rattle.checking.specs.PairTable.{PairsMarked, MaskOf, Gathered, PairSet, RowDone, Chained, Chains};
+ghost use Rattle.checking.specs.PairTable.{PairsMarked, MaskOf, Gathered, PairSet, RowDone, Chains, RowParts};
+ghost use Rattle.checking.specs.PairTable.{PairsAsked};
 use crate::offsets::number_at;
 use call::zero;
 
@@ -92,7 +93,7 @@ fn meets_mask(lexicon: &[u8], offsets: &[u16; 402], v: usize, mask: &[u8; 51]) -
     false
 }
 
-// Marks the pair of u and v, two nodes with one letter, both ways, if they have something in common.
+// Marks the pair of u and v, two nodes with the same letter, both ways, if they have something in common.
 fn mark_pair(
     lexicon: &[u8],
     offsets: &[u16; 402],
@@ -112,7 +113,8 @@ fn mark_pair(
     }
 }
 
-// Marks the pairs of u and the vertices from u on.
+// Marks the pair of u with itself, and those with the later nodes of its letter: of the vertices from u on, it can have
+// something in common with no other.
 fn mark_row(
     lexicon: &[u8],
     offsets: &[u16; 402],
@@ -121,9 +123,8 @@ fn mark_row(
     mask: &[u8; 51],
     pairs: &mut [u8],
 )
-    requires { ⌜ WithOffsets (now lexicon) (now offsets) × (1 ≤ u) × (u ≤ nodeCount (now lexicon))
-        × MaskOf (graphOf (now lexicon)) u (now mask) × PairsMarked (graphOf (now lexicon)) (suc u) (now pairs) ⌝ }
-    requires { ⌜ Chained (graphOf (now lexicon)) u (now nexts) ⌝ }
+    requires { ⌜ RowParts (now lexicon) (now offsets) (now nexts) u (now pairs) ⌝ }
+    requires { ⌜ MaskOf (graphOf (now lexicon)) u (now mask) ⌝ }
     ensures { λ _. ⌜ PairsMarked (graphOf (now (lexicon .entry))) u (now (pairs .exit)) ⌝ }
 {
     let nodes = number_at(lexicon, 0);
@@ -143,9 +144,7 @@ fn add_row(
     u: usize,
     pairs: &mut [u8],
 ) -> bool
-    requires { ⌜ WithOffsets (now lexicon) (now offsets) × (1 ≤ u) × (u ≤ nodeCount (now lexicon))
-        × PairsMarked (graphOf (now lexicon)) (suc u) (now pairs) ⌝ }
-    requires { ⌜ Chained (graphOf (now lexicon)) u (now nexts) ⌝ }
+    requires { ⌜ RowParts (now lexicon) (now offsets) (now nexts) u (now pairs) ⌝ }
     ensures { λ r. ⌜ RowDone (graphOf (now (lexicon .entry))) u (now (pairs .exit)) r ⌝ }
 {
     let mut mask = [0; 51];
@@ -177,18 +176,17 @@ fn begin_table(sink: usize, pairs: &mut [u8])
     set_bit(pairs, sink * ROW_BITS + sink);
 }
 
-// Adds the rows from vertex N down, until one finds two successors with something in common. The root has no letter, so
-// it needs no row.
+// Chains the nodes and adds their rows, from node N down, until one finds two successors with something in common. The
+// root has no letter, so it needs no row.
 pub(crate) fn has_same_letters(lexicon: &[u8], offsets: &[u16; 402], pairs: &mut [u8]) -> bool
-    requires { ⌜ WithOffsets (now lexicon) (now offsets) × (orphan (graphOf (now lexicon)) ≡ false)
-        × (length (now pairs) ≡ 20502) ⌝ }
-    requires { ⌜ ((u : ℕ) → 1 ≤ u → u ≤ nodeCount (now lexicon) → nodeLetter (now lexicon) u < 64) ⌝ }
+    requires { ⌜ PairsAsked (now lexicon) (now offsets) (now pairs) ⌝ }
     ensures { λ r. ⌜ r ≡ sameLetters (graphOf (now (lexicon .entry))) ⌝ }
     ensures { λ _. ⌜ length (now (pairs .exit)) ≡ length (now (pairs .entry)) ⌝ }
 {
     let mut u = number_at(lexicon, 0);
-    begin_table(u + 1, pairs);
-    let mut firsts = [(u + 1) as u16; 64];
+    let sink = u + 1;
+    begin_table(sink, pairs);
+    let mut firsts = [sink as u16; 64];
     let mut nexts = [0; 402];
     while 0 < u {
         chain_node(lexicon, u, &mut firsts, &mut nexts);

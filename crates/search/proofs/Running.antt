@@ -31,7 +31,7 @@ use Rattle.passing.specs.InPlace.{passNode, passDown, passRoot}
 use Rattle.passing.proofs.InPlace.{first-frame, next-frame}
 use Rattle.passing.proofs.Bounds.{token-bounded}
 use Rattle.storing.specs.Slots.{slots}
-use Rattle.storing.specs.Gains.{LinkTable, GainsRoom, Gained, MoveGains, KnownSymbol}
+use Rattle.storing.specs.Gains.{LinkTable, RowsRoom, Gained, MoveGains, KnownSymbol}
 use Rattle.storing.specs.Places.{NodesRead, EmissionsPut}
 use Rattle.storing.specs.Stored.{VertexTable, NodeEmissions, StoreRoom, Bound, Stored, Within, source, PassingOn}
 use Rattle.storing.specs.Stored.{passedOn, PassedOn, Turn, turned, TurnDone}
@@ -263,13 +263,13 @@ run-with t e r = record { ready = t; roomy = roomy-same e (r .roomy); accepted =
 pub record FramesDone (v x frames : List ℕ) (t : ℕ) (c : Numbers) (letters gains vertices : List (List ℕ))
     (b : List ℕ) : Type 0 where
   pub table : VertexTable v x (c .n) vertices
-  pub room : GainsRoom gains
+  pub room : RowsRoom 8 gains
   pub empty : t ≡ 0 → Empty b
   pub stored : 0 < t → StoredAt v x frames (c .n) (t - 1) b
   pub tables : 0 < t → FrameTables v x (getD frames (t - 1) 0) c letters gains vertices
 
 module _ {v x frames : List ℕ} {c : Numbers} {letters gains vertices : List (List ℕ)} {b : List ℕ} where
-  pub frames-start : VertexTable v x (c .n) vertices → GainsRoom gains → Empty b
+  pub frames-start : VertexTable v x (c .n) vertices → RowsRoom 8 gains → Empty b
       → FramesDone v x frames 0 c letters gains vertices b
   frames-start t r e = record {
     table = t;

@@ -2,7 +2,7 @@
 // to the first. A contract that begins with ((f : ..) → ..) speaks of what is known before the call by the record f.
 ghost use Prim.Native.Nat.{_-_, _<_};
 ghost use lib.ListN.{length, getD};
-ghost use Rattle.storing.specs.Gains.{GainsRoom, KnownSymbol};
+ghost use Rattle.storing.specs.Gains.{RowsRoom, KnownSymbol};
 ghost use Rattle.storing.specs.Stored.{VertexTable};
 ghost use Rattle.search.specs.Running.{Empty, Run, StoredAt, CallNumbers, FrameTables, Frame};
 use crate::gains::frame_gains;
@@ -36,7 +36,7 @@ fn frame_tables(
 )
     requires { ⌜ (t < length (now frames)) × KnownSymbol (now voice) (getD (now frames) t 0) ⌝ }
     requires { ⌜ CallNumbers (now voice) (now lexicon) numbers (now letters) ⌝ }
-    requires { ⌜ VertexTable (now voice) (now lexicon) (numbers .n) (now vertices) × GainsRoom (now gains)
+    requires { ⌜ VertexTable (now voice) (now lexicon) (numbers .n) (now vertices) × RowsRoom 8 (now gains)
         × (0 < t → FrameTables (now voice) (now lexicon) (getD (now frames) (t - 1) 0) numbers (now letters) (now gains)
         (now vertices)) ⌝ }
     ensures { λ _. ⌜ FrameTables (now (voice .entry)) (now (lexicon .entry)) (getD (now (frames .entry)) t 0) numbers

@@ -9,7 +9,7 @@ ghost use lib.ListN.{length, getD};
 ghost use Rattle.endian.specs.Bytes.{i16};
 ghost use Rattle.voice.specs.Voice.{symbolsAt};
 ghost use Rattle.decoder.specs.Score.{numberOf, possible};
-ghost use Rattle.storing.specs.Gains.{NearBias, numberSum, LetterRow, GainRow, LetterTable, GainsRoom, Gained};
+ghost use Rattle.storing.specs.Gains.{NearBias, numberSum, LetterRow, GainRow, LetterTable, RowsRoom, Gained};
 ghost use Rattle.storing.specs.Gains.{KnownSymbol, StatePut, FirstPut, letterIn};
 ghost use Rattle.storing.specs.Places.{VertexRows, NodesRead, EmissionsPut};
 use crate::letters::FIRST_STATE;
@@ -104,7 +104,7 @@ pub(crate) fn frame_gains(
     gains: &mut [[u32; 8]; 64],
 )
     requires { ⌜ KnownSymbol (now voice) k × (at ≡ symbolsAt (now voice)) ⌝ }
-    requires { ⌜ LetterTable (now voice) used (now letters) × GainsRoom (now gains) ⌝ }
+    requires { ⌜ LetterTable (now voice) used (now letters) × RowsRoom 8 (now gains) ⌝ }
     ensures { λ _. ⌜ Gained (now (voice .entry)) k (now (letters .entry)) used (now (gains .exit)) ⌝ }
 {
     let mut i = 0;

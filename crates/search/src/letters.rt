@@ -5,15 +5,15 @@
 ghost use mathlib.Core.Path.{_≡_};
 ghost use mathlib.Core.Bool.{true, cond};
 ghost use mathlib.Core.List.{[], _∷_};
-ghost use Prim.Native.Nat.{ℕ, _+_, _-_, _≤_, _<_};
+ghost use Prim.Native.Nat.{_+_, _-_, _≤_, _<_};
 ghost use lib.ListN.{length};
 ghost use Rattle.endian.specs.Bytes.{i16};
 ghost use Rattle.voice.specs.Fields.{wellFormed};
 ghost use Rattle.voice.specs.Voice.{letterCount, linksAt, linkScore, stateCount, symbolsAt, impossible, voiceVerdict};
-ghost use Rattle.lexicon.specs.Lexicon.{nodeCount, nodeLetter, lexiconVerdict};
-ghost use Rattle.checking.specs.Tables.{WellFormed};
+ghost use Rattle.lexicon.specs.Lexicon.{nodeCount, lexiconVerdict};
+ghost use Rattle.checking.specs.Tables.{WellFormed, FewLetters};
 ghost use Rattle.storing.specs.Gains.{letterPairs, pairScore, StoredPairs, LettersMarked, AtLetter, LetterRow};
-ghost use Rattle.storing.specs.Gains.{LettersRoom, LinkTable, NodeLetters, StatePut, letterIn};
+ghost use Rattle.storing.specs.Gains.{RowsRoom, LinkTable, NodeLetters, StatePut, letterIn};
 use decoder::score::STORED_IMPOSSIBLE;
 use decoder::score::Score;
 use endian::i16_of;
@@ -120,8 +120,7 @@ pub(crate) fn link_table(voice: &[u8]) -> [u32; 64]
 
 // Marks each letter that some node has.
 fn mark_letters(lexicon: &[u8], marks: &mut [bool; 64])
-    requires { ⌜ WellFormed (now lexicon)
-        × ((u : ℕ) → 1 ≤ u → u ≤ nodeCount (now lexicon) → nodeLetter (now lexicon) u < 64) ⌝ }
+    requires { ⌜ WellFormed (now lexicon) × FewLetters (now lexicon) ⌝ }
     requires { ⌜ LettersMarked (now lexicon) 0 (now marks) ⌝ }
     ensures { λ _. ⌜ LettersMarked (now (lexicon .entry)) (nodeCount (now (lexicon .entry))) (now (marks .exit)) ⌝ }
 {
@@ -151,7 +150,7 @@ fn state_scores(pairs: [[i16; 2]; 4], s: usize, row: &mut [u32; 10])
 }
 
 // Puts the row of one letter, whose states begin with number `first`. It is made in its place, since a row that is
-// returned would be copied.
+// returned would be copied. What the row holds for states that the letter does not have is never read.
 fn letter_row(voice: &[u8], letter: usize, first: u16, row: &mut [u32; 10])
     requires { ⌜ AtLetter (now voice) letter first × (10 ≤ length (now row)) ⌝ }
     ensures { λ _. ⌜ LetterRow (now (voice .entry)) (now (row .exit)) × (letterIn (now (row .exit)) ≡ letter) ⌝ }
@@ -171,7 +170,7 @@ fn letter_row(voice: &[u8], letter: usize, first: u16, row: &mut [u32; 10])
 pub(crate) fn letter_table(voice: &[u8], lexicon: &[u8], letters: &mut [[u32; 10]; 64]) -> usize
     requires { ⌜ (voiceVerdict (now voice) ≡ wellFormed) × (lexiconVerdict (letterCount (now voice)) (now lexicon)
         ≡ wellFormed) ⌝ }
-    requires { ⌜ LettersRoom (now letters) ⌝ }
+    requires { ⌜ RowsRoom 10 (now letters) ⌝ }
     ensures { λ r. ⌜ NodeLetters (now (voice .entry)) (now (lexicon .entry)) r (now (letters .exit)) ⌝ }
 {
     let mut marks = [false; 64];

@@ -22,8 +22,8 @@ use Rattle.lexicon.specs.Lexicon.{nodeCount, nodeLetter}
 use Rattle.decoder.specs.Score.{numberOf, possible}
 use Rattle.storing.specs.Gains.{NearBias, numberSum, letterPairs, pairScore, loopNumber, stepNumber, loopGain}
 use Rattle.storing.specs.Gains.{stepGain, LettersMarked, LetterEntries, letterIn, LetterRow, letterAt, HasRow}
-use Rattle.storing.specs.Gains.{NodeLetters, GainRow, GainsRoom, Gained, MoveGains, EntryGains, KnownSymbol}
-use Rattle.storing.specs.Gains.{AtLetter, StatePut, FirstPut, linkNumber, LinkTable, LettersRoom}
+use Rattle.storing.specs.Gains.{NodeLetters, GainRow, RowsRoom, Gained, MoveGains, EntryGains, KnownSymbol}
+use Rattle.storing.specs.Gains.{AtLetter, StatePut, FirstPut, linkNumber, LinkTable}
 use Rattle.storing.proofs.Gaining.{number-near, sum-both, letter-small, letter-few, state-there, loop-score}
 use Rattle.storing.proofs.Gaining.{step-score, LettersPassed, letters-start, letters-next}
 use Rattle.storing.proofs.Carrying.{emission-range}
@@ -142,7 +142,7 @@ pub record Tabling (v : List ℕ) (marks : List Bool) (used first letter : ℕ) 
   pub row : (i : ℕ) → i < used → LetterRow v (getD letters i [])
   pub all : (l : ℕ) → l < letter → getD marks l false ≡ true → HasRow letters used l
 
-pub tabling-start : {v : List ℕ} {marks : List Bool} {letters : List (List ℕ)} → LettersRoom letters
+pub tabling-start : {v : List ℕ} {marks : List Bool} {letters : List (List ℕ)} → RowsRoom 10 letters
     → Tabling v marks 0 0 0 letters
 tabling-start {v} e = record {
   long = e .long;
@@ -211,7 +211,7 @@ tabling-done few known h m f = record {
   all = λ u l k. f .all _ (omega (arith, known u l k)) (m .marked u l k);
 }
 
-pub gained-start : {v : List ℕ} {k : ℕ} {scores gains : List (List ℕ)} → GainsRoom gains → Gained v k scores 0 gains
+pub gained-start : {v : List ℕ} {k : ℕ} {scores gains : List (List ℕ)} → RowsRoom 8 gains → Gained v k scores 0 gains
 gained-start e = record { room = e; row = λ i h. absurd (omega arith) }
 
 pub gained-next : {v : List ℕ} {k i : ℕ} {scores gains : List (List ℕ)} {row : List ℕ} → letterAt scores i < 64
@@ -220,7 +220,7 @@ pub gained-next : {v : List ℕ} {k i : ℕ} {scores gains : List (List ℕ)} {r
 gained-next {v} {k} {i} {scores} {gains} {row} h d w p = record {
   room = record {
     long = length-set gains (letterAt scores i) row ∙ d .room .long;
-    wide = λ {l} m. wide l m (ℕ-discrete l (letterAt scores i));
+    wide = λ {i = l} m. wide l m (ℕ-discrete l (letterAt scores i));
   };
   row = λ j m. at j m (ℕ-discrete (letterAt scores j) (letterAt scores i));
 }
@@ -239,7 +239,7 @@ gained-next {v} {k} {i} {scores} {gains} {row} h d w p = record {
         before (yes q) = absurd (e (ap (λ m. letterAt scores m) q))
         before (no q) = omega (arith, q)
 
-pub gains-room : {v : List ℕ} {k n : ℕ} {scores gains : List (List ℕ)} → Gained v k scores n gains → GainsRoom gains
+pub gains-room : {v : List ℕ} {k n : ℕ} {scores gains : List (List ℕ)} → Gained v k scores n gains → RowsRoom 8 gains
 gains-room d = d .room
 
 pub gained-done : {v : List ℕ} {k n i : ℕ} {scores gains : List (List ℕ)} → n ≤ i → Gained v k scores i gains

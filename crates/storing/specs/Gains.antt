@@ -108,10 +108,10 @@ pub record HasRow (letters : List (List ℕ)) (n l : ℕ) : Type 0 where
   pub inside : at < n
   pub same : letterAt letters at ≡ l
 
--- room for the rows of 64 letters in use
-pub record LettersRoom (letters : List (List ℕ)) : Type 0 where
-  pub long : length letters ≡ 64
-  pub wide : {i : ℕ} → i < 64 → 10 ≤ length (getD letters i [])
+-- room for 64 rows of so many numbers, enough for one of each letter
+pub record RowsRoom (width : ℕ) (rows : List (List ℕ)) : Type 0 where
+  pub long : length rows ≡ 64
+  pub wide : {i : ℕ} → i < 64 → width ≤ length (getD rows i [])
 
 -- the table of a call has n rows
 pub record LetterTable (v : List ℕ) (n : ℕ) (letters : List (List ℕ)) : Type 0 where
@@ -133,14 +133,9 @@ pub record GainRow (v : List ℕ) (k l : ℕ) (row : List ℕ) : Type 0 where
   pub moves : LetterEntries v (loopGain v k) (stepGain v k) l row
   pub entry : getD row 4 0 ≡ entryNumber v k l
 
--- room for the rows of 64 letters
-pub record GainsRoom (gains : List (List ℕ)) : Type 0 where
-  pub long : length gains ≡ 64
-  pub wide : {l : ℕ} → l < 64 → 8 ≤ length (getD gains l [])
-
 -- the table of a frame: row l is that of letter l, for the letters of the first n rows of a call's table
 pub record Gained (v : List ℕ) (k : ℕ) (letters : List (List ℕ)) (n : ℕ) (gains : List (List ℕ)) : Type 0 where
-  pub room : GainsRoom gains
+  pub room : RowsRoom 8 gains
   pub row : (i : ℕ) → i < n → GainRow v k (letterAt letters i) (getD gains (letterAt letters i) [])
 
 -- of the moves inside one letter

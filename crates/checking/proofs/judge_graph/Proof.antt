@@ -1,18 +1,16 @@
 -- `judge_graph` goes through the rows 6 to 10 in their order: each test is the row's condition. Assumes nothing.
 use mathlib.Core.Path.{_≡_, sym, ap, _∙_}
 use mathlib.Core.Bool.{false}
-use native.Mathlib.Omega.{arith}
 use lib.Dec.{ltb}
 use borrow.Author.Needs.{needs}
 use borrow.Author.Tests.{lt-ltb, le-ltb}
 use Rattle.call.specs.Table.{value, unless}
 use Rattle.call.specs.Limits.{mostWords}
 use Rattle.voice.specs.Voice.{letterCount}
-use Rattle.voice.proofs.Scores.{letters-few}
-use Rattle.lexicon.proofs.WellFormed.{letter-known}
 use Rattle.graph.specs.Graph.{graphOf, wordCount}
 use Rattle.graph.specs.Conditions.{orphan, placeCount, manyPlaces, longWord, hasLongWord, manyWords}
 use Rattle.checking.specs.Judging.{graphRows}
+use Rattle.checking.proofs.Arcs.{few-letters}
 use Rattle.checking.proofs.Judging.{refusal, many-counted, words-counted, tables-exact}
 use Rattle.checking.proofs.judge_graph.Statement.{statement}
 use Rattle.checking.proofs.judge_graph.Tie as tie
@@ -69,10 +67,13 @@ returns-4 c =
 has-same-letters-requires : tie.Need-has-same-letters-requires
 has-same-letters-requires c κs =
     let d = c .before .before .before .before .before .before .before .before .before .before .before .before in
-    let p = d .before .before .before .before .before .before .before .before .pre in (
-      (search needs, no-orphan d, p .1 .1 .room),
-      λ u l h. omega (arith, letter-known _ _ (p .1 .0) u l h, letters-few _ (p .0)),
-    )
+    let p = d .before .before .before .before .before .before .before .before .pre in
+    record {
+      located = search needs;
+      reached = no-orphan d;
+      letters = few-letters _ _ (p .0) (p .1 .0);
+      room = p .1 .1 .room;
+    }
 
 returns-5 : tie.Need-returns-5
 unfolding graphRows unless

@@ -14,9 +14,7 @@ returns c = record {
 mark-row-requires : tie.Need-mark-row-requires
 mark-row-requires c κs =
     let e = c .before .before in
-    let h = e .before .before .before .before .before .before .pre in
-    let q = h .0 in
-    ((q .0, q .1, q .2, e .before .gather .ensures .made (e .if1 .left), q .3), h .1)
+    (e .before .before .before .before .before .before .pre, e .before .gather .ensures .made (e .if1 .left))
 
 returns-2 : tie.Need-returns-2
 returns-2 c =

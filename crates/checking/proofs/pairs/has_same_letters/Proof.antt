@@ -19,27 +19,27 @@ use Rattle.checking.proofs.pairs.has_same_letters.Statement.{statement}
 use Rattle.checking.proofs.pairs.has_same_letters.Tie as tie
 
 abbrev Inv-loop : tie.InvT-loop
-Inv-loop lexicon offsets pairs₀ u₀ firsts₀ nexts₀ pairs u firsts nexts =
+Inv-loop lexicon offsets pairs₀ u₀ sink firsts₀ nexts₀ pairs u firsts nexts =
     Rows lexicon u pairs × Chains (graphOf lexicon) (suc u) firsts nexts
 
 abbrev μ-loop : tie.MeasureT-loop
-μ-loop lexicon offsets pairs₀ u₀ firsts₀ nexts₀ pairs u firsts nexts = u
+μ-loop lexicon offsets pairs₀ u₀ sink firsts₀ nexts₀ pairs u firsts nexts = u
 
 number-at-requires : tie.Need-number-at-requires Inv-loop μ-loop
-number-at-requires c κs = omega (arith, nodes-there (c .before .before .pre .0 .0 .well-formed))
+number-at-requires c κs = omega (arith, nodes-there (c .before .before .pre .located .well-formed))
 
 -- the sink is the vertex after the last node
 sink-next : (c : tie.After-number-at Inv-loop μ-loop) → c .number-at .result + 1 ≡ sink (graphOf (c .before .before .before .args .lexicon .now))
 unfolding sink nodeCount
 sink-next c = omega (arith, c .number-at .ensures)
 
-add-begin-table : tie.Need-add-begin-table Inv-loop μ-loop
-add-begin-table c = omega (arith, sink-next c, few-vertices (c .before .before .before .pre .0 .0))
+add-sink : tie.Need-add-sink Inv-loop μ-loop
+add-sink c = omega (arith, sink-next c, few-vertices (c .before .before .before .pre .located))
 
 begin-table-requires : tie.Need-begin-table-requires Inv-loop μ-loop
 begin-table-requires c κs =
-    let h = c .before .before .before .before .pre .0 in
-    (omega (arith, sink-next (c .before), few-vertices (h .0)), h .2)
+    let h = c .before .before .before .before .pre in
+    (omega (arith, sink-next (c .before), few-vertices (h .located)), h .room)
 
 loop-holds : tie.Need-loop-holds Inv-loop μ-loop
 unfolding nodeCount
@@ -47,9 +47,9 @@ loop-holds c =
     let d = c .before .before in
     let n = d .before .before in
     let s = n .before .before .before in
-    let h = s .pre .0 in
+    let h = s .pre in
     let sink-is = sink-next n in (
-      rows-start (s .args .pairs .now) (h .0) (n .number-at .ensures) sink-is (d .begin-table .kept .1 .0 ∙ h .2)
+      rows-start (s .args .pairs .now) (h .located) (n .number-at .ensures) sink-is (d .begin-table .kept .1 .0 ∙ h .room)
           (d .begin-table .ensures),
       chains-start (graphOf (s .args .lexicon .now)) (omega (arith, sink-is)) sink-is refl,
     )
@@ -63,19 +63,24 @@ chain-node-requires c κs =
     let h = start l .pre in
     let i = l .before .loop .inv in
     let below = i .0 .below in
-    (h .0 .0 .well-formed, below, h .1 (l .before .loop .u) (l .loop-test .taken) below, i .1)
+    (h .located .well-formed, below, h .letters (l .before .loop .u) (l .loop-test .taken) below, i .1)
 
 add-row-requires : tie.Need-add-row-requires Inv-loop μ-loop
 add-row-requires c κs =
     let n = c .before .before in
     let l = n .before .before .before in
-    let h = start l .pre .0 in
     let i = l .before .loop .inv .0 in
-    ((h .0, l .loop-test .taken, i .below, i .marked), n .chain-node .ensures .chained)
+    record {
+      located = start l .pre .located;
+      node = l .loop-test .taken;
+      inside = i .below;
+      above = i .marked;
+      chained = n .chain-node .ensures .chained;
+    }
 
 -- what the rows tell is what is asked
 asked : (c : tie.Start Inv-loop μ-loop) → let g = graphOf (c .args .lexicon .now) in sameLetters g ≡ clash g
-asked c = same-letters-clash (sound-of (c .pre .0 .0 .well-formed)) (c .pre .0 .1)
+asked c = same-letters-clash (sound-of (c .pre .located .well-formed)) (c .pre .reached)
 
 abbrev turn : tie.After-add-row Inv-loop μ-loop → tie.In-loop Inv-loop μ-loop
 turn c = c .before .before .before .before .before .before
@@ -85,7 +90,7 @@ same-pairs : (c : tie.After-add-row Inv-loop μ-loop)
     → length (c .add-row .last .1 .1 .1 .1 .0) ≡ length (start (turn c) .args .pairs .now)
 same-pairs c =
     let l = turn c in
-    c .add-row .kept .1 .1 .1 .1 .0 ∙ l .before .loop .inv .0 .marked .long ∙ sym (start l .pre .0 .2)
+    c .add-row .kept .1 .1 .1 .1 .0 ∙ l .before .loop .inv .0 .marked .long ∙ sym (start l .pre .room)
 
 returns : tie.Need-returns Inv-loop μ-loop
 returns c =
@@ -107,13 +112,13 @@ gather-requires : tie.Need-gather-requires Inv-loop μ-loop
 gather-requires c κs =
     let e = c .before .before in
     let l = e .before in
-    let h = l .before .before .before .before .before .before .before .before .pre .0 in
-    (h .0, omega arith, rows-all (l .loop .inv .0) (e .loop-test .left), refl)
+    let h = l .before .before .before .before .before .before .before .before .pre in
+    (h .located, omega arith, rows-all (l .loop .inv .0) (e .loop-test .left), refl)
 
 same-length-2 : tie.Need-same-length-2 Inv-loop μ-loop
 same-length-2 c =
     let l = c .before .before .before .before in
-    l .loop .inv .0 .marked .long ∙ sym (l .before .before .before .before .before .before .before .before .pre .0 .2)
+    l .loop .inv .0 .marked .long ∙ sym (l .before .before .before .before .before .before .before .before .pre .room)
 
 returns-2 : tie.Need-returns-2 Inv-loop μ-loop
 returns-2 c =
@@ -129,12 +134,11 @@ has-same-letters-spec =
     Inv-loop
     μ-loop
     number-at-requires
-    add-begin-table
+    add-sink
     begin-table-requires
-    (λ c. let n = c .before .before .before .before in add-begin-table n)
     (λ c.
     let n = c .before .before .before .before in
-    omega (arith, sink-next n, few-vertices (n .before .before .before .pre .0 .0)))
+    omega (arith, sink-next n, few-vertices (n .before .before .before .pre .located)))
     loop-holds
     chain-node-requires
     add-row-requires

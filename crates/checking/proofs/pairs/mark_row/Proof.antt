@@ -1,9 +1,8 @@
--- `mark_row` meets its contract: of the pairs with u those below v are marked, and v is the next node with u's letter.
--- The measure is the vertices that are left. Assumes nothing.
+-- `mark_row` meets its contract: of the pairs with u those below v are marked, and v is the next node with u's letter
+-- or the sink. The measure is the vertices that are left. Assumes nothing.
 use Prim.Native.Nat.{suc, _+_, _-_, _<_}
 use mathlib.Core.Path.{_≡_, sym, _∙_}
 use native.Mathlib.Omega.{arith}
-use borrow.Author.Needs.{needs}
 use lib.ListN.{getD}
 use Rattle.lexicon.specs.Lexicon.{nodeCount}
 use Rattle.graph.specs.Graph.{graphOf, sink}
@@ -27,13 +26,13 @@ record BelowSink (c : tie.Start Inv-loop μ-loop) : Type 0 where
 
 known : (c : tie.Start Inv-loop μ-loop) → BelowSink c
 unfolding sink
-known c = let h = c .pre .0 in record { below = omega (arith, h .2); few = few-vertices (h .0) }
+known c = let h = c .pre .0 in record { below = omega (arith, h .inside); few = few-vertices (h .located) }
 
 small : (c : tie.Start Inv-loop μ-loop) → c .args .u < 401
 small c = let k = known c in omega (arith, k .below, k .few)
 
 number-at-requires : tie.Need-number-at-requires Inv-loop μ-loop
-number-at-requires c κs = omega (arith, nodes-there (c .before .before .pre .0 .0 .well-formed))
+number-at-requires c κs = omega (arith, nodes-there (c .before .before .pre .0 .located .well-formed))
 
 -- the number of nodes
 counted : (c : tie.After-number-at Inv-loop μ-loop)
@@ -44,14 +43,14 @@ counted c = omega (arith, c .number-at .ensures)
 set-bit-requires : tie.Need-set-bit-requires Inv-loop μ-loop
 set-bit-requires c κs =
     let s = c .before .before .before .before in
-    omega (arith, s .pre .0 .4 .long, small s)
+    omega (arith, s .pre .0 .above .long, small s)
 
 -- the first node after u with its letter
 first : (c : tie.Start Inv-loop μ-loop) →
     let a = c .args in
     FirstAlike (graphOf (a .lexicon .now)) (graphOf (a .lexicon .now) .letter (a .u)) (suc (a .u))
     (getD (a .nexts .now) (a .u) 0)
-first c = c .pre .1 .next (c .args .u) (omega arith) (known c .below)
+first c = c .pre .0 .chained .next (c .args .u) (omega arith) (known c .below)
 
 loop-holds : tie.Need-loop-holds Inv-loop μ-loop
 loop-holds c =
@@ -60,8 +59,8 @@ loop-holds c =
     let h = s .pre .0 in
     let k = known s in
     let g = graphOf (s .args .lexicon .now) in
-    row-skip (sound-of (h .0 .well-formed)) (k .few) (h .1) (k .below) (omega arith) (omega arith) (first s)
-    (row-start g (k .few) (k .below) (h .4) (d .set-bit .kept .0) (d .set-bit .ensures))
+    row-skip (sound-of (h .located .well-formed)) (k .few) (h .node) (k .below) (omega arith) (omega arith) (first s)
+    (row-start g (k .few) (k .below) (h .above) (d .set-bit .kept .0) (d .set-bit .ensures))
 
 abbrev start : tie.In-loop Inv-loop μ-loop → tie.Start Inv-loop μ-loop
 start c = c .before .before .before .before .before .before .before .before .before .before
@@ -78,7 +77,7 @@ unfolding sink
 mark-pair-requires c κs =
     let l = c .before in
     let h = start l .pre .0 in
-    (h .0, h .2, omega (arith, node l), l .before .loop .inv .marked .long)
+    (h .located, h .inside, omega (arith, node l), l .before .loop .inv .marked .long)
 
 -- the one after it
 next : (c : tie.In-loop Inv-loop μ-loop) →
@@ -87,7 +86,7 @@ next : (c : tie.In-loop Inv-loop μ-loop) →
     (getD (a .nexts .now) (c .before .loop .v) 0)
 next c =
     let i = c .before .loop .inv in
-    rw (i .alike (node c)) at (start c .pre .1 .next (c .before .loop .v) (omega (arith, i .above)) (node c))
+    rw (i .same (node c)) at (start c .pre .0 .chained .next (c .before .loop .v) (omega (arith, i .above)) (node c))
 
 loop-again : tie.Need-loop-again Inv-loop μ-loop
 loop-again c =
@@ -97,16 +96,16 @@ loop-again c =
     let h = s .pre .0 in
     let k = known s in
     let i = l .before .loop .inv in
-    let ok = sound-of (h .0 .well-formed) in
+    let ok = sound-of (h .located .well-formed) in
     let same = m .mark-pair .kept .1 .1 .1 .1 .1 .0 in
-    row-skip ok (k .few) (h .1) (k .below) (omega (arith, i .above)) (omega arith) (next l)
-    (row-next ok (k .few) (h .1) (k .below) i (node l) (h .3) same (m .mark-pair .ensures))
+    row-skip ok (k .few) (h .node) (k .below) (omega (arith, i .above)) (omega arith) (next l)
+    (row-next ok (k .few) (h .node) (k .below) i (node l) (s .pre .1) same (m .mark-pair .ensures))
 
 same-length : tie.Need-same-length Inv-loop μ-loop
 same-length c =
     let l = c .before in
     l .loop .inv .marked .long
-    ∙ sym (l .before .before .before .before .before .before .before .before .before .pre .0 .4 .long)
+    ∙ sym (l .before .before .before .before .before .before .before .before .before .pre .0 .above .long)
 
 returns : tie.Need-returns Inv-loop μ-loop
 returns c =
@@ -116,7 +115,7 @@ returns c =
     let h = s .pre .0 in
     let k = known s in
     let i = l .loop .inv in
-    row-done (sound-of (h .0 .well-formed)) (k .few) (h .1) (k .below)
+    row-done (sound-of (h .located .well-formed)) (k .few) (h .node) (k .below)
     (omega (arith, counted d, c .loop-test .left, i .inside)) (i .marked)
 
 pub mark-row-spec : {M : Type 1} → statement M

@@ -5,10 +5,10 @@ use mathlib.Core.Path.{_≡_, refl, _∙_}
 use native.Mathlib.Omega.{arith}
 use borrow.Author.Needs.{needs}
 use mathlib.Core.List.{List, []}
-use lib.ListN.{length, replicate, getD-replicate}
+use lib.ListN.{length, replicate, length-replicate, getD-replicate}
 use Rattle.lexicon.specs.Lexicon.{nodeCount}
 use Rattle.graph.proofs.Accepted.{AcceptedImages, accepted}
-use Rattle.storing.specs.Gains.{LettersRoom, GainsRoom}
+use Rattle.storing.specs.Gains.{RowsRoom}
 use Rattle.search.specs.Running.{CallNumbers, Frame}
 use Rattle.search.proofs.Running.{roomy-same, frame-count, known-symbol, frames-start, frame-of, frames-next}
 use Rattle.search.proofs.Running.{FramesDone, frames-end}
@@ -27,19 +27,19 @@ abbrev μ-loop : tie.MeasureT-loop
 images : (c : tie.Start Inv-loop μ-loop) → AcceptedImages (c .args .voice .now) (c .args .lexicon .now)
 images c = accepted (c .pre .0 .ready .accepted)
 
--- no letter has a row yet
-abbrev no-row : List ℕ
-no-row = replicate 10 0
+abbrev zeros : ℕ → List ℕ
+zeros width = replicate width 0
 
-no-letters : LettersRoom (replicate 64 no-row)
-no-letters = record {
-  long = refl;
-  wide = λ {i} h. rw (getD-replicate 64 i no-row [] h) (omega arith);
+-- no letter has a row yet
+no-rows : (width : ℕ) → RowsRoom width (replicate 64 (zeros width))
+no-rows width = record {
+  long = length-replicate 64 (zeros width);
+  wide = λ {i} h. rw (getD-replicate 64 i (zeros width) [] h, length-replicate {A = ℕ} width 0) (omega arith);
 }
 
 letter-table-requires : tie.Need-letter-table-requires Inv-loop μ-loop
 letter-table-requires c κs = let i =
-    images (c .before .before .before .before .before) in ((i .voice, i .lexicon), no-letters)
+    images (c .before .before .before .before .before) in ((i .voice, i .lexicon), no-rows 10)
 
 abbrev begin : tie.After-letter-table Inv-loop μ-loop → tie.Start Inv-loop μ-loop
 begin t = t .before .before .before .before .before .before
@@ -64,18 +64,8 @@ numbers c =
       letters-of = u .before .before .letter-table .ensures;
     }
 
--- no letter has a gain yet
-abbrev none : List ℕ
-none = replicate 8 0
-
-no-gains : GainsRoom (replicate 64 none)
-no-gains = record {
-  long = refl;
-  wide = λ {l} h. rw (getD-replicate 64 l none [] h) (omega arith);
-}
-
 loop-holds : tie.Need-loop-holds Inv-loop μ-loop
-loop-holds c = (frames-start (start c .pre .0 .ready) no-gains (start c .pre .1), omega arith, refl)
+loop-holds c = (frames-start (start c .pre .0 .ready) (no-rows 8) (start c .pre .1), omega arith, refl)
 
 frame-tables-requires : tie.Need-frame-tables-requires Inv-loop μ-loop
 frame-tables-requires c κs =

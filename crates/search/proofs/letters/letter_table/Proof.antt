@@ -1,6 +1,6 @@
 -- `letters::letter_table` meets its contract: before each turn the marked letters below this one have their rows. The
 -- measure is the letters left. Assumes nothing.
-use Prim.Native.Nat.{_+_, _-_, _<_, _≤_}
+use Prim.Native.Nat.{_-_, _<_, _≤_}
 use mathlib.Core.Path.{refl}
 use mathlib.Core.Logic.{⊎-elim}
 use native.Mathlib.Omega.{arith}
@@ -8,6 +8,7 @@ use borrow.Author.Needs.{needs}
 use Rattle.voice.specs.Voice.{states}
 use Rattle.voice.proofs.Scores.{letters-few, symbols-there}
 use Rattle.lexicon.proofs.WellFormed.{letter-known}
+use Rattle.checking.proofs.Arcs.{few-letters}
 use Rattle.storing.specs.Gains.{AtLetter}
 use Rattle.storing.proofs.Gaining.{at-letter, letter-small, letter-byte, letter-there}
 use Rattle.storing.proofs.Filling.{marks-start, Tabling, tabling-start, tabling-take, tabling-skip, tabling-done}
@@ -24,11 +25,7 @@ abbrev μ-loop : tie.MeasureT-loop
 mark-letters-requires : tie.Need-mark-letters-requires Inv-loop μ-loop
 mark-letters-requires c κs =
     let p = c .before .before .before .pre .0 in (
-      (
-        record { letters = _; judged = p .1 },
-        λ u l h. omega
-            (arith, letter-known _ _ (p .1) u l h, letters-few _ (p .0)),
-      ),
+      (record { letters = _; judged = p .1 }, few-letters _ _ (p .0) (p .1)),
       marks-start refl,
     )
 
