@@ -29,7 +29,8 @@ number-at-requires : tie.Need-number-at-requires Inv-loop μ-loop
 number-at-requires c κs = omega (arith, nodes-there (c .before .before .pre .located .well-formed))
 
 -- the sink is the vertex after the last node
-sink-next : (c : tie.After-number-at Inv-loop μ-loop) → c .number-at .result + 1 ≡ sink (graphOf (c .before .before .before .args .lexicon .now))
+sink-next : (c : tie.After-number-at Inv-loop μ-loop)
+    → c .number-at .result + 1 ≡ sink (graphOf (c .before .before .before .args .lexicon .now))
 unfolding sink nodeCount
 sink-next c = omega (arith, c .number-at .ensures)
 
@@ -54,8 +55,11 @@ loop-holds c =
       chains-start (graphOf (s .args .lexicon .now)) (omega (arith, sink-is)) sink-is refl,
     )
 
+abbrev begin : tie.At-loop Inv-loop μ-loop → tie.Start Inv-loop μ-loop
+begin c = c .before .before .before .before .before .before .before .before
+
 abbrev start : tie.In-loop Inv-loop μ-loop → tie.Start Inv-loop μ-loop
-start c = c .before .before .before .before .before .before .before .before .before
+start c = begin (c .before)
 
 chain-node-requires : tie.Need-chain-node-requires Inv-loop μ-loop
 chain-node-requires c κs =
@@ -112,20 +116,19 @@ gather-requires : tie.Need-gather-requires Inv-loop μ-loop
 gather-requires c κs =
     let e = c .before .before in
     let l = e .before in
-    let h = l .before .before .before .before .before .before .before .before .pre in
+    let h = begin l .pre in
     (h .located, omega arith, rows-all (l .loop .inv .0) (e .loop-test .left), refl)
 
 same-length-2 : tie.Need-same-length-2 Inv-loop μ-loop
 same-length-2 c =
     let l = c .before .before .before .before in
-    l .loop .inv .0 .marked .long ∙ sym (l .before .before .before .before .before .before .before .before .pre .room)
+    l .loop .inv .0 .marked .long ∙ sym (begin l .pre .room)
 
 returns-2 : tie.Need-returns-2 Inv-loop μ-loop
 returns-2 c =
     let e = c .before .before .before in
     let l = e .before in
-    let same = asked (l .before .before .before .before .before .before .before .before) in
-    (sym (same ∙ rows-done (l .loop .inv .0) (e .loop-test .left) (c .gather .ensures)), same-length-2 c)
+    (sym (asked (begin l) ∙ rows-done (l .loop .inv .0) (e .loop-test .left) (c .gather .ensures)), same-length-2 c)
 
 pub has-same-letters-spec : {M : Type 1} → statement M
 has-same-letters-spec =

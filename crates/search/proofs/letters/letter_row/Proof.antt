@@ -45,15 +45,17 @@ loop-holds c =
     let s = c .before .before .before in
     row-begun (s .args .row .now) (s .args .letter) (s .args .first) (s .pre .1)
 
+abbrev start : tie.In-loop Inv-loop μ-loop → tie.Start Inv-loop μ-loop
+start c = c .before .before .before .before .before
+
 -- the state whose turn it is
 state : (c : tie.In-loop Inv-loop μ-loop) →
-    let s = c .before .before .before .before .before in c .before .loop .s < states (s .args .voice .now)
-    (s .args .letter)
+    let a = start c .args in c .before .loop .s < states (a .voice .now) (a .letter)
 unfolding states
 state c = c .loop-test .taken
 
 few : (c : tie.In-loop Inv-loop μ-loop) → c .before .loop .s < 4
-few c = omega (arith, state c, letter-few (c .before .before .before .before .before .pre .0))
+few c = omega (arith, state c, letter-few (start c .pre .0))
 
 state-scores-requires : tie.Need-state-scores-requires Inv-loop μ-loop
 state-scores-requires c κs =
@@ -68,8 +70,7 @@ loop-again c =
     let e = c .state-scores .ensures in
     let h = few l in
     record {
-      filled = scores-next (l .before .before .before .before .before .pre .0) (state l)
-          (l .before .before .letter-pairs .ensures) (i .filled) e;
+      filled = scores-next (start l .pre .0) (state l) (l .before .before .letter-pairs .ensures) (i .filled) e;
       letter = e .others 8 (λ q. omega arith) (λ q. omega arith) ∙ i .letter;
       begin = e .others 9 (λ q. omega arith) (λ q. omega arith) ∙ i .begin;
     }
