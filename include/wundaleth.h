@@ -9,12 +9,14 @@
  * score for all letters, or since 1.1 one for each letter, which counts where that letter is left.
  *
  * Answers. A call answers a value, 0 or above, or a refusal's number made negative: -WUNDALETH_LEXICON_LENGTH is -4,
- * so compare with the constant made negative. Of the refusals that apply the lowest number is answered. Within one
- * image the fields are read in order, so that 2 and 3, and 4 and 5, follow the first bad field.
+ * so compare with the constant made negative. Of the refusals that apply the first is answered, in the order in which
+ * the call's comment names them; since 1.2 that is not always the lowest number (wundaleth_canonical tests 17 and 18
+ * before 16). Within one image the fields are read in order, so that 2 and 3, and 4 and 5, follow the first bad field.
  *
- * Work space. Every call with a lexicon is lent at least WUNDALETH_WORK_BYTES bytes, which may hold anything. Refusal
- * 1 leaves all buffers as they were. After every other call that is lent one, refused or not, the first 64,000 work
- * bytes are zero and later ones unchanged.
+ * Work space. Every call with a lexicon is lent at least WUNDALETH_WORK_BYTES bytes, which may hold anything, and
+ * wundaleth_canonical a further WUNDALETH_FURTHER_BYTES. Refusal 1 leaves all buffers as they were. After every other
+ * call that is lent one, refused or not, the first 64,000 work bytes, and the first 262,144 further ones, are zero and
+ * later ones unchanged.
  *
  * Side by side. Calls keep no state: all that a call knows is in its arguments. Any number of calls may run at the
  * same time, each with a work space and an output of its own; images, frames, words and codes are only read and may
@@ -25,7 +27,8 @@
  * 15.7 KB, as bench/stack measures it.
  *
  * Codes belong to one lexicon image: two builds of one list may give a word two codes. Send a code only with the
- * image that it was made from.
+ * image that it was made from. Canonical images (wundaleth_canonical) are equal byte by byte exactly if they hold the
+ * same words, under one voice model, so that two sides that hold equal canonical images have the same codes.
  */
 #ifndef WUNDALETH_H
 #define WUNDALETH_H
@@ -39,11 +42,13 @@ extern "C" {
 
 /* The version of this interface. */
 #define WUNDALETH_VERSION_MAJOR 1
-#define WUNDALETH_VERSION_MINOR 1
+#define WUNDALETH_VERSION_MINOR 2
 #define WUNDALETH_VERSION_PATCH 0
 
 /* Sizes. */
 #define WUNDALETH_WORK_BYTES 64000   /* the work space that a call with a lexicon needs */
+#define WUNDALETH_FURTHER_BYTES 262144 /* the further work space that wundaleth_canonical needs */
+#define WUNDALETH_CANONICAL_BYTES 9206 /* of a canonical image, at most: room for any */
 #define WUNDALETH_MOST_WORDS 1048576 /* W of an accepted lexicon, at most */
 #define WUNDALETH_MOST_LETTERS 32    /* of a word, each a print byte: room for any word */
 #define WUNDALETH_MOST_FRAMES 1000   /* of one decoding */
@@ -52,7 +57,7 @@ extern "C" {
 
 /* The refusals and their numbers. */
 enum wundaleth_refusal {
-    WUNDALETH_WORK_SPACE = 1,     /* work space under 64,000 bytes, in any call with a lexicon */
+    WUNDALETH_WORK_SPACE = 1,     /* work space under 64,000 bytes, in any call with a lexicon; further under 262,144 */
     WUNDALETH_VOICE_LENGTH = 2,   /* voice model ends inside a field, or has bytes after its last */
     WUNDALETH_VOICE_RANGE = 3,    /* voice model field out of its range */
     WUNDALETH_LEXICON_LENGTH = 4, /* lexicon ends inside a field, or has bytes after its last */
@@ -67,7 +72,9 @@ enum wundaleth_refusal {
     WUNDALETH_NO_WORD = 13,       /* the bytes given spell no word here; the empty word too */
     WUNDALETH_PACKED = 14,        /* packed bytes of the wrong length, or a padding bit set */
     WUNDALETH_CODE = 15,          /* a code not below W */
-    WUNDALETH_OUTPUT = 16         /* output shorter than 8 x n (hits), 4 x n (unpacked), or the answer's bytes */
+    WUNDALETH_OUTPUT = 16,        /* output shorter than 8 x n (hits), 4 x n (unpacked), or the answer's bytes */
+    WUNDALETH_WORD_LIST = 17,     /* over 2,000 words, or over 16,000 letters in all: too many for a canonical image */
+    WUNDALETH_CANONICAL_IMAGE = 18 /* a canonical image of more than 400 nodes, 4,000 arcs or 1,000 places */
 };
 
 /* Checks a voice model and a lexicon. Answers W, the number of words, 1 to 1,048,576, or refuses with 1 to 10. */
@@ -92,6 +99,16 @@ int32_t wundaleth_code_to_word(const uint8_t *voice, size_t voice_length, const 
  * most 33 x W, or refuses with 1 to 10 or 16. */
 int32_t wundaleth_list(const uint8_t *voice, size_t voice_length, const uint8_t *lexicon, size_t lexicon_length,
                        uint8_t *work, size_t work_length, uint8_t *out, size_t out_length);
+
+/* Writes the canonical image of the lexicon: a lexicon image of the same words, which depends on nothing but the voice
+ * model and the set of words. Two nodes are one if their letter and the set of what may follow agree; a vertex that
+ * leads to the sink does so first, then come its letters in rising index; nodes stand by their longest continuation,
+ * longest first, equals by the dictionary-first prefix. Codes in it are dictionary ranks by letter index, from 0, a
+ * word before its extensions. Answers the bytes written, or refuses with 1 to 10, 17, 18 or 16, tested in this order;
+ * 1 is for either space. A canonical image is its own canonical image, and is not refused with 17 or 18 again. */
+int32_t wundaleth_canonical(const uint8_t *voice, size_t voice_length, const uint8_t *lexicon, size_t lexicon_length,
+                            uint8_t *work, size_t work_length, uint8_t *further, size_t further_length, uint8_t *out,
+                            size_t out_length);
 
 /* Decodes frames, one symbol a byte, frames_length of them, against the lexicon, and writes the hits, the best first:
  * at most n, 1 to 8, each in 8 bytes, int32_t score and uint32_t code, both little-endian; wundaleth_hit_at below

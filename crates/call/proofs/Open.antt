@@ -2,8 +2,8 @@
 -- Assumes nothing.
 use Rattle.call.specs.Table.{isRefusal, numbers, noneApplies, unless}
 use Rattle.call.specs.Limits.{badFrameCount, badCount, badCode}
-use Rattle.call.specs.Buffers.{spaceRows, zeroed, cleared, written}
+use Rattle.call.specs.Buffers.{spaceRows, zeroed, cleared, shortSpaces, spacesRows, workCleared, furtherCleared, written}
 
 unfoldable pub everything : Unit {0}
-unfolding isRefusal numbers noneApplies unless badFrameCount badCount badCode spaceRows zeroed cleared written
+unfolding isRefusal numbers noneApplies unless badFrameCount badCount badCode spaceRows zeroed cleared shortSpaces spacesRows workCleared furtherCleared written
 everything = tt

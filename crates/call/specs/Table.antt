@@ -1,4 +1,4 @@
--- The refusal table of document 01: each refusal's number, and how a call goes through its rows. Assumes nothing.
+-- The refusal tables of documents 01 and 02: each refusal's number, and how a call goes through its rows. Assumes nothing.
 use Prim.Native.Nat.{ℕ}
 use mathlib.Core.Path.{_≡_}
 use mathlib.Core.Bool.{Bool, true, false, cond, not}
@@ -8,11 +8,13 @@ use lib.IntN.{ℤ, pos, negℤ}
 use lib.Dec.{eqb}
 use Rattle.endian.specs.Lists.{all}
 use Rattle.call.specs.declared.Refusal.{Refusal}
-use Rattle.call.specs.declared.Refusal.the-variants.{WorkSpace, VoiceLength, VoiceRange, LexiconLength, LexiconRange, Orphan, Places, LongWord, WordCount, SameLetters, Frames, Count, NoWord, Packed, Code, Output}
+use Rattle.call.specs.declared.Refusal.the-variants.{WorkSpace, VoiceLength, VoiceRange, LexiconLength, LexiconRange}
+use Rattle.call.specs.declared.Refusal.the-variants.{Orphan, Places, LongWord, WordCount, SameLetters, Frames, Count}
+use Rattle.call.specs.declared.Refusal.the-variants.{NoWord, Packed, Code, Output, WordList, CanonicalImage}
 use Rattle.call.specs.declared.Answer as declared
 use Rattle.call.specs.declared.Answer.the-variants.{Value, Refused}
 
--- the number of document 01's table
+-- the number of the tables of documents 01 and 02
 abbrev pub number : Refusal → ℕ
 number WorkSpace = 1
 number VoiceLength = 2
@@ -30,6 +32,8 @@ number NoWord = 13
 number Packed = 14
 number Code = 15
 number Output = 16
+number WordList = 17
+number CanonicalImage = 18
 
 -- what a call answers: a value, or a refusal
 pub data Answer (A : Type 0) : Type 0 where

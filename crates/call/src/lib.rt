@@ -8,9 +8,12 @@ ghost use Rattle.call.specs.Buffers.{cleared};
 // The least work space of a call with a lexicon; refusal 1 below it.
 pub const WORK_SPACE: usize = 64000;
 
-// The refusals, in the order of the table of document 01.
+// The least further work space of a call that is lent two; refusal 1 below it.
+pub const FURTHER_SPACE: usize = 262144;
+
+// The refusals, in the order of the tables of documents 01 and 02.
 pub enum Refusal {
-    // 1: work space under 64,000 bytes
+    // 1: work space under 64,000 bytes, or a further one under 262,144
     WorkSpace,
     // 2: voice model ends inside a field, or has bytes after its last
     VoiceLength,
@@ -42,6 +45,10 @@ pub enum Refusal {
     Code,
     // 16: output too short
     Output,
+    // 17: over 2,000 words or 16,000 letters in all
+    WordList,
+    // 18: a canonical image outside the limits on nodes, arcs or places
+    CanonicalImage,
 }
 
 // What a call answers: a number, or the first refusal that applies.
@@ -72,6 +79,8 @@ impl Refusal {
             Refusal::Packed => 14,
             Refusal::Code => 15,
             Refusal::Output => 16,
+            Refusal::WordList => 17,
+            Refusal::CanonicalImage => 18,
         }
     }
 }

@@ -3,3 +3,4 @@ pub mod Theorems
 pub mod Steps
 pub mod Marks
 pub mod Lines
+pub mod Gathering

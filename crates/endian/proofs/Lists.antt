@@ -202,7 +202,7 @@ unfolding same
 same-refl [] = refl
 same-refl (a ∷ l) = rw (eq-eqb a a refl) (same-refl l)
 
-hasList-mem : (a : List ℕ) (l : List (List ℕ)) → hasList a l ≡ true → List·Memᴰ a l
+pub hasList-mem : (a : List ℕ) (l : List (List ℕ)) → hasList a l ≡ true → List·Memᴰ a l
 unfolding hasList
 hasList-mem a [] h = absurd (false≢true h)
 hasList-mem a (b ∷ l) h = go (or-cases (same a b) (hasList a l) h) (hasList-mem a l)
@@ -211,7 +211,7 @@ hasList-mem a (b ∷ l) h = go (or-cases (same a b) (hasList a l) h) (hasList-me
     go (inl e) ih = List·Memᴰ·head (same-eq a b e)
     go (inr e) ih = List·Memᴰ·tail (ih e)
 
-mem-hasList : {a : List ℕ} {l : List (List ℕ)} → List·Memᴰ a l → hasList a l ≡ true
+pub mem-hasList : {a : List ℕ} {l : List (List ℕ)} → List·Memᴰ a l → hasList a l ≡ true
 unfolding hasList
 mem-hasList {a} (List·Memᴰ·head {x = b} {xs = l} e) = or-left (same a b) (hasList a l) (rw e (same-refl b))
 mem-hasList {a} (List·Memᴰ·tail {x = b} {xs = l} m) = or-right (same a b) (hasList a l) (mem-hasList m)

@@ -62,7 +62,7 @@ pairs-of-map R f [] p = none
 pairs-of-map R f (a ∷ l) (next r p) = next (λ b m. r (f b) (Memᴰ·map f m)) (pairs-of-map R f l p)
 
 module _ {B : Type 0} (S : B → B → Type 0) where
-  pairs-append : {l m : List B} → Pairs S l → Pairs S m → ((a b : B) → List·Memᴰ a l → List·Memᴰ b m → S a b) → Pairs S (l ++ m)
+  pub pairs-append : {l m : List B} → Pairs S l → Pairs S m → ((a b : B) → List·Memᴰ a l → List·Memᴰ b m → S a b) → Pairs S (l ++ m)
   pairs-append none q h = q
   pairs-append (next {a} {l} r p) q h =
       next (λ b i. ⊎-elim (r b) (h a b (here refl)) (append-cases l i)) (pairs-append p q (λ x y i j. h x y (there i) j))

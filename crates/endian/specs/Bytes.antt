@@ -27,6 +27,9 @@ i16 b at = toZ w16 (u16 b at)
 unfoldable pub i32 : List ℕ → ℕ → ℤ
 i32 b at = toZ w32 (u32 b at)
 
+unfoldable pub u16Bytes : ℕ → List ℕ
+u16Bytes n = n % 256 ∷ n / 256 % 256 ∷ []
+
 unfoldable pub u32Bytes : ℕ → List ℕ
 u32Bytes n = n % 256 ∷ n / 256 % 256 ∷ n / 65536 % 256 ∷ n / 16777216 % 256 ∷ []
 

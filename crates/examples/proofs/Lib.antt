@@ -1,3 +1,4 @@
 pub mod Open
 pub mod Starred
 pub mod Further
+pub mod Canonical

@@ -1,2 +1,3 @@
 pub mod SmallLexicon
 pub mod Further
+pub mod Canonical

@@ -8,6 +8,10 @@ use Rattle.endian.specs.Lists.{first, same}
 use Rattle.voice.specs.Voice.{printByte}
 use Rattle.graph.specs.Graph.{Graph, FullPath, fullPaths, pathCode, pathLetters}
 
+-- the words of a graph as rows of letter indexes, in code order
+abbrev pub letterWords : Graph → List (List ℕ)
+letterWords g = map (pathLetters g) (fullPaths g)
+
 -- the print bytes of a row of letter indexes
 unfoldable pub spelled : List ℕ → List ℕ → List ℕ
 spelled v letters = map (printByte v) letters

@@ -32,14 +32,17 @@ arc-tiles x u total (suc n) b h = (
       (arc-tiles x (suc u) (total + arcCount x u) n b (omega arith)),
 )
 
-pub lexicon-tiles : (L : ℕ) (x : List ℕ) → lexiconVerdict L x ≡ wellFormed → Tiles 0 (length x) (lexiconFields L x)
-unfolding lexiconVerdict lexiconFields nodeFields reserveAt arcsAt
-lexicon-tiles L x h =
-    tiles-whole (length x) 0 _ (lexiconFields L x)
-    (tiles-append 0 _ _ (front ++ arcFields x 0 0 (sinkOf x)) _
+-- the fields of any bytes, up to the end of the reserve
+pub fields-tile : (L : ℕ) (x : List ℕ) → Tiles 0 (reserveAt x + 2) (lexiconFields L x)
+unfolding lexiconFields nodeFields reserveAt arcsAt
+fields-tile L x =
+    tiles-append 0 _ _ (front ++ arcFields x 0 0 (sinkOf x)) _
     (tiles-append 0 _ _ front (arcFields x 0 0 (sinkOf x)) (refl, node-tiles L x 1 (nodeCount x) 2 _ refl refl) (arc-tiles x 0 0 (sinkOf x) (sinkOf x) (omega arith)))
-    (refl, refl))
-    h
+    (refl, refl)
   where
     front : List Field
     front = field 0 2 (within 1 400 (nodeCount x)) ∷ nodeFields L x
+
+pub lexicon-tiles : (L : ℕ) (x : List ℕ) → lexiconVerdict L x ≡ wellFormed → Tiles 0 (length x) (lexiconFields L x)
+unfolding lexiconVerdict
+lexicon-tiles L x h = tiles-whole (length x) 0 _ (lexiconFields L x) (fields-tile L x) h

@@ -17,13 +17,13 @@ use Rattle.endian.specs.Bytes.{Bytes, i16, u32Bytes}
 use Rattle.call.specs.declared.Refusal.the-variants.{Frames}
 use Rattle.call.specs.Table.{value, on, numbers, AnswersBy}
 use Rattle.call.specs.Limits.{badFrameCount}
-use Rattle.call.specs.Buffers.{Clears, Writes}
+use Rattle.call.specs.Buffers.{Clears, ClearsBoth, Writes}
 use Rattle.call.proofs.Table.{answers-by}
-use Rattle.call.proofs.Buffers.{clears, writes}
+use Rattle.call.proofs.Buffers.{clears, clears-both, writes}
 use Rattle.voice.specs.Voice.{letterCount, linksAt, linkCount}
 use Rattle.voice.proofs.Theorems.{links-are-by-letter}
 use Rattle.graph.specs.Graph.{Graph, graphOf, FullPath, fullPaths, wordCount, pathCode, pathLetters}
-use Rattle.graph.specs.Words.{LexiconWord, pathOfWord, codeOf, wordOfCode}
+use Rattle.graph.specs.Words.{letterWords, LexiconWord, pathOfWord, codeOf, wordOfCode}
 use Rattle.graph.specs.Checking.{Accepted, firstRows, checkAnswer, checkWork}
 use Rattle.graph.proofs.Accepted.{accepted as images}
 use Rattle.graph.proofs.Theorems.{path-theorems, check-numbers}
@@ -39,6 +39,11 @@ use Rattle.codes.specs.Lookup.{listing, listRows, listAnswer, listOut, listWork
 use Rattle.codes.proofs.Rows.{word-to-code-numbers, code-to-word-numbers, list-numbers}
 use Rattle.codes.specs.Theorems.{WordComesBack, CodeComesBack}
 use Rattle.codes.proofs.Theorems.{code-theorems, word-comes-back, code-comes-back}
+use Rattle.canonical.specs.Canonical.{canonicalImage, canonicalRows, canonicalAnswer, canonicalOut}
+use Rattle.canonical.specs.Canonical.{canonicalWork, canonicalFurther}
+use Rattle.canonical.specs.Theorems.{SameWords, Listable, rank}
+use Rattle.canonical.proofs.Rows.{canonical-numbers}
+use Rattle.canonical.proofs.Theorems.{one-image, canonical-images}
 use Rattle.ranking.specs.Hits.{Hit, hitBytes, hitsRead}
 use Rattle.ranking.specs.Mean.{mean, meanAnswer}
 use Rattle.ranking.proofs.Hits.{length-read}
@@ -61,17 +66,19 @@ module _ (v x : List ℕ) where
 
   -- ---- Demand 1: any call, whatever it is given
 
-  module _ (frames word work out codes bytes : List ℕ) (n c W T : ℕ) (score : ℤ) where
-    -- A call (`check`, `word_to_code`, `code_to_word`, `list`, `decode`; `pack`, `unpack`, `width`, `mean`) answers its
-    -- value where no row of its table applies, else the first refusal that applies: with a lexicon,
+  module _ (frames word work further out codes bytes : List ℕ) (n c W T : ℕ) (score : ℤ) where
+    -- A call (`check`, `word_to_code`, `code_to_word`, `list`, `decode`, `canonical`; `pack`, `unpack`, `width`, `mean`)
+    -- answers its value where no row of its table applies, else the first refusal that applies: with a lexicon,
     lexicon-calls-answer :
         AnswersBy (firstRows v x work) (wordCount g) (checkAnswer v x work)
         × AnswersBy (wordToCodeRows v x word work) (codeOf g (pathOfWord v g word)) (wordToCodeAnswer v x word work)
         × AnswersBy (codeToWordRows v x c work out) (length (wordOfCode v g c)) (codeToWordAnswer v x c work out)
         × AnswersBy (listRows v x work out) (length (listing v g)) (listAnswer v x work out)
         × AnswersBy (decodeRows v x frames n work out) (length (hits v g frames n)) (decodeAnswer v x frames n work out)
-    unfolding checkAnswer wordToCodeAnswer codeToWordAnswer listAnswer decodeAnswer
-    lexicon-calls-answer = (answers-by, answers-by, answers-by, answers-by, answers-by)
+        × AnswersBy (canonicalRows v x work further out) (length (canonicalImage v x))
+        (canonicalAnswer v x work further out)
+    unfolding checkAnswer wordToCodeAnswer codeToWordAnswer listAnswer decodeAnswer canonicalAnswer
+    lexicon-calls-answer = (answers-by, answers-by, answers-by, answers-by, answers-by, answers-by)
 
     -- and without one.
     other-calls-answer :
@@ -82,8 +89,9 @@ module _ (v x : List ℕ) where
     unfolding packAnswer unpackAnswer widthAnswer meanAnswer
     other-calls-answer = (answers-by, answers-by, answers-by, answers-by)
 
-    -- The numbers of each table rise, so the first refusal that applies is the lowest.
-    numbers-rise :
+    -- The order in which refusals are tested. In the tables of document 01 it rises, so the first refusal that applies is
+    -- the lowest; the canonical writer tests 17 and 18 directly after 10.
+    numbers-tested :
         (numbers (firstRows v x work) ≡ from 1 10)
         × (numbers (wordToCodeRows v x word work) ≡ from 1 10 ++ 13 ∷ [])
         × (numbers (codeToWordRows v x c work out) ≡ from 1 10 ++ 15 ∷ 16 ∷ [])
@@ -91,8 +99,9 @@ module _ (v x : List ℕ) where
         × (numbers (decodeRows v x frames n work out) ≡ from 1 12 ++ 16 ∷ [])
         × (numbers (packRows W codes out) ≡ 9 ∷ 12 ∷ 15 ∷ 16 ∷ [])
         × (numbers (unpackRows W n bytes out) ≡ 9 ∷ 12 ∷ 14 ∷ 15 ∷ 16 ∷ [])
+        × (numbers (canonicalRows v x work further out) ≡ from 1 10 ++ 17 ∷ 18 ∷ 16 ∷ [])
     unfolding from
-    numbers-rise = (
+    numbers-tested = (
       check-numbers v x work,
       word-to-code-numbers v x work word,
       code-to-word-numbers v x work c out,
@@ -100,6 +109,7 @@ module _ (v x : List ℕ) where
       decode-numbers v x frames work out n,
       pack-numbers W codes out,
       unpack-numbers W n bytes out,
+      canonical-numbers v x work further out,
     )
 
     -- A value comes with its bytes at the output's start, later ones unchanged; a refusal leaves the output unchanged.
@@ -111,15 +121,18 @@ module _ (v x : List ℕ) where
         × Writes (packAnswer W codes out) (packed (width W) codes) out (packOut W codes out)
         × Writes (unpackAnswer W n bytes out) (flatMap u32Bytes (unpacked (width W) n bytes)) out
         (unpackOut W n bytes out)
-    unfolding codeToWordOut listOut decodeOut packOut unpackOut
-    output-left = (writes, writes, writes, writes, writes)
+        × Writes (canonicalAnswer v x work further out) (canonicalImage v x) out (canonicalOut v x work further out)
+    unfolding codeToWordOut listOut decodeOut packOut unpackOut canonicalOut
+    output-left = (writes, writes, writes, writes, writes, writes)
 
-    -- Refusal 1 leaves the work space as it was; after any other call its first 64,000 bytes are zero, the rest kept.
+    -- Refusal 1 leaves the work space as it was; after any other call its first 64,000 bytes are zero, the rest kept. A
+    -- further work space likewise, with its first 262,144 bytes; where either is too short, both stay as they were.
     work-left :
         Clears work (checkWork v x work) × Clears work (wordToCodeWork v x word work)
         × Clears work (codeToWordWork v x c work) × Clears work (listWork v x work)
         × Clears work (decodeWork v x frames n work)
-    work-left = (clears, clears, clears, clears, clears)
+        × ClearsBoth work further (canonicalWork work further) (canonicalFurther work further)
+    work-left = (clears, clears, clears, clears, clears, clears-both)
 
   -- ---- Demand 2: any accepted voice model and lexicon
 
@@ -203,6 +216,29 @@ module _ (v x : List ℕ) where
 -- The same of the calls: what one has answered, the other takes back.
 calls-undo : WordComesBack × CodeComesBack
 calls-undo = (word-comes-back, code-comes-back)
+
+-- ---- One image for one list: lexicons that are accepted, with at most 2,000 words, 16,000 letters in all, and whose
+-- canonical image keeps the limits on nodes, arcs and places
+
+-- Under one voice model, equal bytes if and only if they hold the same words.
+equal-images : (v x y : List ℕ) → Listable v x → Listable v y
+    → (canonicalImage v x ≡ canonicalImage v y) ↔ SameWords x y
+equal-images = one-image
+
+module _ (v x : List ℕ) (ok : Listable v x) where
+  -- The canonical image is accepted, and neither 17 nor 18 refuses it; it holds the words of the lexicon.
+  canonical-accepted : Listable v (canonicalImage v x) × SameWords x (canonicalImage v x)
+  canonical-accepted = let t = canonical-images v x ok in (t .listable, t .same-words)
+
+  -- Codes in it are dictionary ranks: the number of words of the lexicon that stand before.
+  codes-are-ranks : (p : List ℕ) → FullPath (graphOf (canonicalImage v x)) p
+      → pathCode (graphOf (canonicalImage v x)) p
+      ≡ rank (pathLetters (graphOf (canonicalImage v x)) p) (letterWords (graphOf x))
+  codes-are-ranks = canonical-images v x ok .ranks
+
+  -- Its canonical image is itself.
+  canonical-again : canonicalImage v (canonicalImage v x) ≡ canonicalImage v x
+  canonical-again = canonical-images v x ok .again
 
 -- ---- Packed codes, the mean, the program
 

@@ -39,7 +39,7 @@ unfolding flatMap from
 tiles-rows offset row t a zero b e = let q : a ≡ b = omega arith in ap offset q
 tiles-rows offset row t a (suc n) b e = tiles-append (offset a) _ _ (row a) _ (t a) (tiles-rows offset row t (suc a) n b (omega arith))
 
-tiles-end : (a b : ℕ) (l : List Field) → Tiles a b l → endOf a l ≡ b
+pub tiles-end : (a b : ℕ) (l : List Field) → Tiles a b l → endOf a l ≡ b
 tiles-end a b [] t = t
 tiles-end a b (f ∷ l) t = tiles-end (end f) b l (t .1)
 

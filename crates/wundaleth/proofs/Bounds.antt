@@ -19,6 +19,8 @@ use Rattle.graph.specs.Graph.{graphOf, sink, wordCount}
 use Rattle.graph.specs.Words.{LexiconWord, pathOfWord, codeOf, wordOfCode}
 use Rattle.graph.specs.Checking.{Accepted, imageRows, firstRows, checkAnswer}
 use Rattle.graph.proofs.Accepted.{accepted, sound-images, passed, words-limit}
+use Rattle.canonical.specs.Canonical.{canonicalAnswer}
+use Rattle.canonical.proofs.Rows.{canonical-short}
 use Rattle.codes.specs.Lookup.{wordToCodeRows, wordToCodeAnswer, codeToWordRows, codeToWordAnswer, listing, listRows, listAnswer}
 use Rattle.codes.proofs.Theorems.{code-theorems}
 use Rattle.codes.proofs.Words.{word-short}
@@ -88,6 +90,12 @@ list-fits v x work out = record {
       let p = value-passed (listRows v x work out) (length (listing v (graphOf x))) n e in
       let h = images-accepted v x work (none-parts (firstRows v x work) _ (p .0) .0) in
       omega (arith, p .1, words-limit (accepted h), listing-limit v x h);
+}
+
+-- an image of at most 400 nodes and 4,000 arcs
+pub canonical-fits : (v x work further out : List ℕ) → FitsInt (canonicalAnswer v x work further out)
+canonical-fits v x work further out = record {
+  below = λ k e. omega (arith, canonical-short v x work further out k e);
 }
 
 -- at most n hits, and n is at most 8

@@ -6,7 +6,7 @@ use native.Mathlib.Omega.{arith}
 use lib.IntN.{ℤ, pos, negsuc, negℤ}
 use lib.Signed.{mag}
 use Rattle.call.specs.declared.Refusal.{Refusal}
-use Rattle.call.specs.declared.Refusal.the-variants.{WorkSpace, VoiceLength, VoiceRange, LexiconLength, LexiconRange, Orphan, Places, LongWord, WordCount, SameLetters, Frames, Count, NoWord, Packed, Code, Output}
+use Rattle.call.specs.declared.Refusal.the-variants.{WorkSpace, VoiceLength, VoiceRange, LexiconLength, LexiconRange, Orphan, Places, LongWord, WordCount, SameLetters, Frames, Count, NoWord, Packed, Code, Output, WordList, CanonicalImage}
 use Rattle.call.specs.Table.{Answer, value, refused, number, signedAnswer}
 
 from-one : (r : Refusal) → 1 ≤ number r
@@ -26,6 +26,8 @@ from-one NoWord = omega arith
 from-one Packed = omega arith
 from-one Code = omega arith
 from-one Output = omega arith
+from-one WordList = omega arith
+from-one CanonicalImage = omega arith
 
 abbrev isPositive : ℤ → Bool
 isPositive (pos n) = true

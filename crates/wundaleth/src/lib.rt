@@ -5,10 +5,12 @@ ghost use lib.IntN.{pos};
 ghost use Rattle.call.specs.Table.{answerOf, signedAnswer};
 ghost use Rattle.graph.specs.Checking.{checkAnswer, checkWork};
 ghost use Rattle.codes.specs.Lookup.{wordToCodeAnswer, wordToCodeWork, codeToWordAnswer, codeToWordWork, codeToWordOut, listAnswer, listOut, listWork};
+ghost use Rattle.canonical.specs.Canonical.{canonicalAnswer, canonicalOut, canonicalWork, canonicalFurther};
 ghost use Rattle.decoder.specs.Decoding.{decodeAnswer, decodeOut, decodeWork};
 ghost use Rattle.decoder.specs.Demand.{ListsHits};
 ghost use Rattle.packing.specs.Packing.{packAnswer, packOut, unpackAnswer, unpackOut};
 ghost use Rattle.wundaleth.specs.Answers.{FitsInt};
+use building::canonical;
 use call::Answer;
 use checking::check;
 use codes::code_to_word;
@@ -84,6 +86,25 @@ pub extern "C" fn wundaleth_list(
     ensures { λ _. ⌜ now (out .exit) ≡ listOut (now (voice .entry)) (now (lexicon .entry)) (now (work .entry)) (now (out .entry)) ⌝ }
 {
     signed_of(list(voice, lexicon, work, out))
+}
+
+// Writes the canonical image of a lexicon, and answers the bytes written.
+#[no_mangle]
+pub extern "C" fn wundaleth_canonical(
+    voice: &[u8],
+    lexicon: &[u8],
+    work: &mut [u8],
+    further: &mut [u8],
+    out: &mut [u8],
+) -> i32
+    ensures { λ r. ⌜ r ≡ signedAnswer (canonicalAnswer (now (voice .entry)) (now (lexicon .entry)) (now (work .entry))
+        (now (further .entry)) (now (out .entry))) ⌝ }
+    ensures { λ _. ⌜ now (work .exit) ≡ canonicalWork (now (work .entry)) (now (further .entry)) ⌝ }
+    ensures { λ _. ⌜ now (further .exit) ≡ canonicalFurther (now (work .entry)) (now (further .entry)) ⌝ }
+    ensures { λ _. ⌜ now (out .exit) ≡ canonicalOut (now (voice .entry)) (now (lexicon .entry)) (now (work .entry))
+        (now (further .entry)) (now (out .entry)) ⌝ }
+{
+    signed_of(canonical(voice, lexicon, work, further, out))
 }
 
 // Writes the hits of the frames, at most n, best first, and answers how many.

@@ -1,0 +1,194 @@
+-- The node of a prefix, by the run of words in the table that begin with it: the words before the run and behind it do
+-- not begin with the prefix because its neighbours do not, so what follows the prefix in the run is what follows it at
+-- all. Assumes nothing.
+use Prim.Native.Nat.{ℕ, zero, suc, _+_, _*_, _-_, _≤_, _<_}
+use mathlib.Core.Path.{_≡_, refl, sym, ap, _∙_}
+use mathlib.Core.Logic.{⊎-elim}
+use mathlib.Core.Bool.{true, false}
+use mathlib.Core.List.{List, [], _∷_, _++_, map, List·Memᴰ as In, List·Memᴰ·cases-cons as cases}
+use mathlib.Core.List.{List·Memᴰ·not-nil as not-nil}
+use native.Mathlib.Nat.{add-zero, zero-add}
+use native.Mathlib.Decide.{ℕ-discrete}
+use native.Mathlib.Omega.{arith}
+use lib.ListN.{length, getD, take, drop, length-take, length-drop}
+use lib.Seq.{getD-take, getD-drop}
+use Rattle.endian.proofs.Pairs.{next, pairs-at}
+use Rattle.canonical.specs.Dictionary.{precedes, continuations}
+use Rattle.canonical.specs.Nodes.{node, lastLetter, nodeOf}
+use Rattle.canonical.specs.Groups.{begins}
+use Rattle.canonical.proofs.Order.{Before}
+use Rattle.canonical.proofs.Sorting.{Sorted, order-sorted}
+use Rattle.canonical.proofs.Groups.{none-before, none-after, run}
+use Rattle.sorting.specs.Slots.{wordAt, Slot, wordsFrom}
+use Rattle.building.specs.Register.{Words, previous, restsFrom, nodeAt, Group}
+
+-- ---- the words of a table, by place
+
+pub words-length : (t : List ℕ) (i n : ℕ) → length (wordsFrom t i n) ≡ n
+unfolding wordsFrom
+words-length t i zero = refl
+words-length t i (suc n) = ap suc (words-length t (suc i) n)
+
+pub words-at : (t : List ℕ) (i n k : ℕ) → k < n → getD (wordsFrom t i n) k [] ≡ wordAt t (i + k)
+unfolding wordsFrom
+words-at t i zero k h = absurd (omega arith)
+words-at t i (suc n) zero h = ap (wordAt t) (sym (add-zero i))
+words-at t i (suc n) (suc k) h =
+    let e : suc i + k ≡ i + suc k = omega arith in
+    words-at t (suc i) n k (omega arith) ∙ ap (wordAt t) e
+
+-- a word among them
+pub words-out : (t : List ℕ) {w : List ℕ} (i n : ℕ) → In w (wordsFrom t i n)
+    → (k : ℕ) × (i ≤ k) × (k < i + n) × (w ≡ wordAt t k)
+unfolding wordsFrom
+words-out t i zero m = absurd (not-nil m)
+words-out t {w} i (suc n) m = ⊎-elim
+    (λ e. (i, omega arith, omega arith, e))
+    (λ k. let r = words-out t (suc i) n k in (r .0, omega (arith, r .1), omega (arith, r .2), r .3))
+    (cases m)
+
+pub words-split : (t : List ℕ) (i m n : ℕ) → wordsFrom t i (m + n) ≡ wordsFrom t i m ++ wordsFrom t (i + m) n
+unfolding wordsFrom
+words-split t i zero n = let e : zero + n ≡ n = omega arith in let f : i + zero ≡ i = omega arith in rw (e, f)
+words-split t i (suc m) n =
+    let e : suc m + n ≡ suc (m + n) = omega arith in
+    let f : i + suc m ≡ suc i + m = omega arith in
+    rw (e, f) (ap (λ l. wordAt t i ∷ l) (words-split t (suc i) m n))
+
+rests-map : (t : List ℕ) (d i n : ℕ) → map (drop d) (wordsFrom t i n) ≡ restsFrom t d i n
+unfolding wordsFrom restsFrom
+rests-map t d i zero = refl
+rests-map t d i (suc n) = ap (λ l. drop d (wordAt t i) ∷ l) (rests-map t d (suc i) n)
+
+-- ---- the last letter of a prefix
+
+last-take : (d : ℕ) (w : List ℕ) → d < length w → lastLetter (take (suc d) w) ≡ getD w d 0
+unfolding lastLetter
+last-take d [] h = absurd (omega arith)
+last-take zero (a ∷ w) h = refl
+last-take (suc d) (a ∷ []) h = absurd (omega arith)
+last-take (suc d) (a ∷ b ∷ w) h = last-take d (b ∷ w) (omega arith)
+
+pub word-length : {t : List ℕ} {i : ℕ} → Slot t i → length (wordAt t i) ≡ getD t (33 * i) 0
+unfolding wordAt
+word-length {t} {i} s =
+    let a = s .room in
+    let b = s .short in
+    omega (arith, length-take (getD t (33 * i) 0) (drop (33 * i + 1) t), length-drop (33 * i + 1) t)
+
+letter-at : (t : List ℕ) (i d : ℕ) → d < getD t (33 * i) 0 → getD (wordAt t i) d 0 ≡ getD t (33 * i + suc d) 0
+unfolding wordAt
+letter-at t i d h =
+    let e : 33 * i + 1 + d ≡ 33 * i + suc d = omega arith in
+    getD-take (getD t (33 * i) 0) (drop (33 * i + 1) t) d 0 h
+    ∙ getD-drop (33 * i + 1) t d 0
+    ∙ ap (λ k. getD t k 0) e
+
+-- ---- the words in order
+
+pub previous-of : (t : List ℕ) {i : ℕ} (k : ℕ) → suc k ≡ i → previous t i ≡ wordAt t k
+unfolding previous
+previous-of t k e = ap (previous t) (sym e)
+
+lettered-before : (w : List ℕ) → 1 ≤ length w → Before [] w
+unfolding precedes
+lettered-before [] h = absurd (omega arith)
+lettered-before (a ∷ w) h = refl
+
+module _ {t : List ℕ} {n : ℕ} (w : Words t n) where
+  pub letters-of : {i : ℕ} → i < n → length (wordAt t i) ≡ getD t (33 * i) 0
+  letters-of {i} h = word-length (w .holds i h)
+
+  words-sorted : Sorted (wordsFrom t 0 n)
+  words-sorted = rw (w .order) at (order-sorted (wordsFrom t 0 n))
+
+  pub in-order : Sorted ([] ∷ wordsFrom t 0 n)
+  in-order = next {a = []}
+      (λ x m. let u = words-out t 0 n m in
+      let h : u .0 < n = omega (arith, u .2) in
+      rw (u .3) (lettered-before (wordAt t (u .0)) (omega (arith, letters-of h, w .some (u .0) h))))
+      words-sorted
+
+  pub ordered : (j k : ℕ) → j < k → k < n → Before (wordAt t j) (wordAt t k)
+  ordered j k p q =
+      let a = words-at t 0 n j (omega arith) in
+      let b = words-at t 0 n k q in
+      rw (ap (wordAt t) (zero-add j), ap (wordAt t) (zero-add k))
+      at (rw (a, b) at (pairs-at Before words-sorted [] j k p (omega (arith, words-length t 0 n))))
+
+-- ---- the run of a prefix
+
+module _ {t : List ℕ} {N i n d top : ℕ} (w : Words t N) (g : Group t N i n d top) where
+  inside : i < N
+  inside = omega (arith, g .reach .inside, g .reach .one)
+
+  first : begins (take d (wordAt t i)) (wordAt t i) ≡ true
+  first = let o = g .reach .one in g .reach .have i (omega arith) (omega arith)
+
+  before : (k : ℕ) → suc k ≡ i → begins (take d (wordAt t i)) (wordAt t k) ≡ false
+  before k e = ap (begins (take d (wordAt t i))) (sym (previous-of t k e)) ∙ g .new
+
+  early : (k : ℕ) → k < i → begins (take d (wordAt t i)) (wordAt t k) ≡ false
+  early k q = go i refl
+    where
+      go : (j : ℕ) → i ≡ j → begins (take d (wordAt t i)) (wordAt t k) ≡ false
+      go zero e = absurd (omega arith)
+      go (suc j) e = elim (ℕ-discrete k j) [
+        | yes f ↦ before k (omega arith)
+        | no f ↦ none-before (take d (wordAt t i)) (wordAt t k) (wordAt t j) (wordAt t i)
+            (ordered w k j (omega arith) (omega (arith, inside)))
+            (ordered w j i (omega arith) inside)
+            first
+            (before j (sym e))
+      ]
+
+  late : (k : ℕ) → i + n ≤ k → k < N → begins (take d (wordAt t i)) (wordAt t k) ≡ false
+  late k p q = elim (ℕ-discrete k (i + n)) [
+    | yes f ↦ ap (λ j. begins (take d (wordAt t i)) (wordAt t j)) f ∙ g .reach .behind (omega arith)
+    | no f ↦ none-after (take d (wordAt t i)) (wordAt t i) (wordAt t (i + n)) (wordAt t k)
+        (ordered w i (i + n) (omega (arith, g .reach .one)) (omega arith))
+        (ordered w (i + n) k (omega arith) q)
+        first
+        (g .reach .behind (omega arith))
+  ]
+
+  pub run-node : nodeAt t i n d ≡ nodeOf (wordsFrom t 0 N) (take d (wordAt t i))
+  unfolding nodeAt nodeOf
+  run-node = λ k. record { letter = letter k; rest = rest k }
+    where
+      long : d ≤ length (wordAt t i)
+      long = omega (arith, g .letters, letters-of w inside)
+
+      letter : getD t (33 * i + d) 0 ≡ lastLetter (take d (wordAt t i))
+      letter =
+          let a = g .some in
+          let b = g .letters in
+          let e : suc (d - 1) ≡ d = omega arith in
+          ap (λ k. getD t (33 * i + k) 0) (sym e)
+          ∙ sym (letter-at t i (d - 1) (omega arith))
+          ∙ sym (last-take (d - 1) (wordAt t i) (omega (arith, long)))
+          ∙ ap (λ k. lastLetter (take k (wordAt t i))) e
+
+      size : length (take d (wordAt t i)) ≡ d
+      size = omega (arith, long, length-take d (wordAt t i))
+
+      whole : wordsFrom t 0 N ≡ wordsFrom t 0 i ++ (wordsFrom t i n ++ wordsFrom t (i + n) (N - (i + n)))
+      whole =
+          let a = g .reach .inside in
+          let e : i + (n + (N - (i + n))) ≡ N = omega arith in
+          ap (wordsFrom t 0) (sym e)
+          ∙ words-split t 0 i (n + (N - (i + n)))
+          ∙ ap (λ l. wordsFrom t 0 i ++ l)
+          (ap (λ j. wordsFrom t j (n + (N - (i + n)))) (zero-add i) ∙ words-split t i n (N - (i + n)))
+
+      rest : restsFrom t d i n ≡ continuations (take d (wordAt t i)) (wordsFrom t 0 N)
+      rest =
+          sym (ap (continuations (take d (wordAt t i))) whole
+          ∙ run (take d (wordAt t i)) (wordsFrom t 0 i) (wordsFrom t i n) (wordsFrom t (i + n) (N - (i + n)))
+          (λ x m. let u = words-out t 0 i m in rw (u .3) (early (u .0) (omega (arith, u .2))))
+          (λ x m. let u = words-out t i n m in rw (u .3) (g .reach .have (u .0) (u .1) (u .2)))
+          (λ x m. let u = words-out t (i + n) (N - (i + n)) m in
+          let a = g .reach .inside in
+          rw (u .3) (late (u .0) (u .1) (omega (arith, u .2))))
+          ∙ ap (λ k. map (drop k) (wordsFrom t i n)) size
+          ∙ rests-map t d i n)

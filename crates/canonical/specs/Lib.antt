@@ -1,0 +1,5 @@
+pub mod Dictionary
+pub mod Nodes
+pub mod Canonical
+pub mod Theorems
+pub mod Groups

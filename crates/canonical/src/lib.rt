@@ -1,0 +1,1 @@
+// The canonical image of a word list: definitions in specs/, laws in proofs/.

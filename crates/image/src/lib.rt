@@ -1,0 +1,1 @@
+// The image of a word graph: definitions in specs/, laws in proofs/.
