@@ -48,7 +48,7 @@ extern "C" {
 /* Sizes. */
 #define WUNDALETH_WORK_BYTES 64000   /* the work space that a call with a lexicon needs */
 #define WUNDALETH_FURTHER_BYTES 262144 /* the further work space that wundaleth_canonical needs */
-#define WUNDALETH_CANONICAL_BYTES 9206 /* of a canonical image, at most: room for any */
+#define WUNDALETH_CANONICAL_BYTES 6006 /* of a canonical image, at most: room for any */
 #define WUNDALETH_MOST_WORDS 1048576 /* W of an accepted lexicon, at most */
 #define WUNDALETH_MOST_LETTERS 32    /* of a word, each a print byte: room for any word */
 #define WUNDALETH_MOST_FRAMES 1000   /* of one decoding */

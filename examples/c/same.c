@@ -1,5 +1,5 @@
-/* Do two builds hold one list? A complete program for a server that hands out lexicons: the canonical image of each, and
- * a comparison byte by byte. examples/c/run builds it. */
+/* Do two builds hold one list? A complete program for a server that hands out lexicons: the canonical image of each,
+ * and a comparison byte by byte. examples/c/run builds it. */
 #include "wundaleth.h"
 
 #include <stdio.h>
@@ -37,8 +37,9 @@ int main(void)
                                       sizeof work);
         printf("  in it, an has code %d\n", (int)code);
     }
-    for (k = 1; k < 3; k++)
-        printf("build 0 and build %d: %s\n", (int)k,
-               length[0] == length[k] && memcmp(images[0], images[k], (size_t)length[0]) == 0 ? "one list" : "two lists");
+    for (k = 1; k < 3; k++) {
+        int same = length[0] == length[k] && memcmp(images[0], images[k], (size_t)length[0]) == 0;
+        printf("builds 0 and %d: %s\n", (int)k, same ? "one list" : "two lists");
+    }
     return 0;
 }
