@@ -1,7 +1,7 @@
 /* Wundaleth: a word decoder for voice terminals, for C (C99 and later) and C++. Link libwundaleth.a beside it.
  *
  * Arguments. Bytes, and codes to pack, are passed as a pointer and their number. A pointer is never null, not even
- * where the number is 0. The buffers of one call do not overlap. Nothing is written but the work space and the
+ * where the number is 0. The buffers of one call do not overlap. Nothing is written but the work spaces and the
  * output.
  *
  * Images. docs/FORMAT.md has the voice model and the lexicon byte by byte, and which refusal each rule of theirs
@@ -13,13 +13,13 @@
  * the call's comment names them; since 1.2 that is not always the lowest number (wundaleth_canonical tests 17 and 18
  * before 16). Within one image the fields are read in order, so that 2 and 3, and 4 and 5, follow the first bad field.
  *
- * Work space. Every call with a lexicon is lent at least WUNDALETH_WORK_BYTES bytes, which may hold anything, and
- * wundaleth_canonical a further WUNDALETH_FURTHER_BYTES. Refusal 1 leaves all buffers as they were. After every other
- * call that is lent one, refused or not, the first 64,000 work bytes, and the first 262,144 further ones, are zero and
- * later ones unchanged.
+ * Work space. Every call with a lexicon is lent at least WUNDALETH_WORK_BYTES bytes, and wundaleth_canonical a further
+ * WUNDALETH_FURTHER_BYTES; they may hold anything. Refusal 1 leaves all buffers as they were. After every other call
+ * that is lent a work space, refused or not, its first 64,000 bytes are zero and later ones unchanged; of a further
+ * work space the first 262,144.
  *
  * Side by side. Calls keep no state: all that a call knows is in its arguments. Any number of calls may run at the
- * same time, each with a work space and an output of its own; images, frames, words and codes are only read and may
+ * same time, each with work spaces and an output of its own; images, frames, words and codes are only read and may
  * be shared.
  *
  * What it needs. The library is compiled for x86-64 Linux. Of the C library it needs memcpy and memset, and nothing
@@ -101,11 +101,13 @@ int32_t wundaleth_list(const uint8_t *voice, size_t voice_length, const uint8_t 
                        uint8_t *work, size_t work_length, uint8_t *out, size_t out_length);
 
 /* Writes the canonical image of the lexicon: a lexicon image of the same words, which depends on nothing but the voice
- * model and the set of words. Two nodes are one if their letter and the set of what may follow agree; a vertex that
- * leads to the sink does so first, then come its letters in rising index; nodes stand by their longest continuation,
- * longest first, equals by the dictionary-first prefix. Codes in it are dictionary ranks by letter index, from 0, a
- * word before its extensions. Answers the bytes written, or refuses with 1 to 10, 17, 18 or 16, tested in this order;
- * 1 is for either space. A canonical image is its own canonical image, and is not refused with 17 or 18 again. */
+ * model and the set of words. Two nodes are one if their letter and the set of their continuations agree; a vertex that
+ * leads to the sink does so first, then come its letters in rising index, each at most once; nodes are numbered by their
+ * longest continuation, longest first, and equals by the dictionary-first prefix that reaches them; dictionary order is
+ * by letter index. Codes in it are dictionary ranks, from 0, a word before its extensions. Answers the bytes written, at
+ * most WUNDALETH_CANONICAL_BYTES, or refuses with 1 to 10, 17, 18 or 16, tested in this order; 1 is for either space. A
+ * canonical image is accepted under the same voice model, is its own canonical image, and 17 and 18 do not apply to it.
+ */
 int32_t wundaleth_canonical(const uint8_t *voice, size_t voice_length, const uint8_t *lexicon, size_t lexicon_length,
                             uint8_t *work, size_t work_length, uint8_t *further, size_t further_length, uint8_t *out,
                             size_t out_length);

@@ -69,7 +69,7 @@ canonicalAnswer v x work further out =
 unfoldable pub canonicalOut : List ℕ → List ℕ → List ℕ → List ℕ → List ℕ → List ℕ
 canonicalOut v x work further out = written (canonicalAnswer v x work further out) (canonicalImage v x) out
 
--- both work spaces are zeroed, as every call with two leaves them
+-- both work spaces are zeroed, as 3/13 asks
 abbrev pub canonicalWork : List ℕ → List ℕ → List ℕ
 canonicalWork work further = workCleared work further
 

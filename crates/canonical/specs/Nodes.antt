@@ -44,7 +44,7 @@ unfoldable pub distinct : List Node → List Node
 distinct [] = []
 distinct (n ∷ ns) = n ∷ select (λ m. not (sameNode n m)) (distinct ns)
 
--- by the dictionary-first prefix that reaches them
+-- the nodes, each once, by the dictionary-first prefix that reaches them
 unfoldable pub reached : List (List ℕ) → List Node
 reached ws = distinct (map (nodeOf ws) (prefixes ws))
 
@@ -64,7 +64,7 @@ nodes ws = flatMap (level ws) (downFrom (longest ws))
 
 -- ---- the graph
 
--- the place of a node in a row, from 0
+-- the place of a node in a row, from 0; the row's length where it is not there, which is no node that an arc leads to
 unfoldable pub placeOf : Node → List Node → ℕ
 placeOf n [] = 0
 placeOf n (m ∷ ms) = let later = suc (placeOf n ms) in cond (sameNode n m) 0 later

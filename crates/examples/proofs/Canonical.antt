@@ -15,6 +15,7 @@ canonical-examples = record {
   one-end = refl;
   one-start = refl;
   by-first-prefix = refl;
+  first-of-several = refl;
   called = refl;
   written-out = refl;
   spaces-zeroed = refl;

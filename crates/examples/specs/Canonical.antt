@@ -144,6 +144,22 @@ pub record CanonicalExamples : Type 0 where
       ∷ 0 ∷ 0
       ∷ []
 
+  -- at, ia, ii, in, nat: a before t is one node, though a and na are of different lengths, and so is the t behind it; it
+  -- stands before i, whose continuations are more but no longer, as its first prefix is a and not na
+  pub first-of-several :
+      wordsImage voice ((0 ∷ 3 ∷ []) ∷ (1 ∷ 0 ∷ []) ∷ (1 ∷ 1 ∷ []) ∷ (1 ∷ 2 ∷ []) ∷ (2 ∷ 0 ∷ 3 ∷ []) ∷ [])
+      ≡ 7 ∷ 0 ∷ 2 ∷ 0 ∷ 1 ∷ 3 ∷ 0 ∷ 1 ∷ 2
+      ∷ 3 ∷ 0 ∷ 2 ∷ 0 ∷ 3 ∷ 0 ∷ 1 ∷ 0
+      ∷ 1 ∷ 0 ∷ 2 ∷ 0
+      ∷ 1 ∷ 0 ∷ 4 ∷ 0
+      ∷ 3 ∷ 0 ∷ 5 ∷ 0 ∷ 6 ∷ 0 ∷ 7 ∷ 0
+      ∷ 1 ∷ 0 ∷ 8 ∷ 0
+      ∷ 1 ∷ 0 ∷ 8 ∷ 0
+      ∷ 1 ∷ 0 ∷ 8 ∷ 0
+      ∷ 1 ∷ 0 ∷ 8 ∷ 0
+      ∷ 0 ∷ 0
+      ∷ []
+
   pub called : canonicalAnswer voice twoStarts work further (replicate 50 7) ≡ value 37
 
   pub written-out : canonicalOut voice twoStarts work further (replicate 50 7) ≡ split ++ replicate 13 7
@@ -169,15 +185,18 @@ pub record CanonicalExamples : Type 0 where
       ≡ refused WorkSpace ∷ refused WorkSpace ∷ refused Output ∷ []
 
   pub spaces-kept :
-      canonicalWork work (replicate 262143 9) ++ canonicalFurther (replicate 63999 9) further
-      ≡ work ++ further
+      canonicalWork work (replicate 262143 9) ∷ canonicalFurther work (replicate 262143 9)
+      ∷ canonicalWork (replicate 63999 9) further ∷ canonicalFurther (replicate 63999 9) further
+      ∷ []
+      ≡ work ∷ replicate 262143 9 ∷ replicate 63999 9 ∷ further ∷ []
 
   -- 17: 2,000 and 2,001 words; 16,000 and 16,001 letters
   pub word-limit : map (λ n. longList (replicate n (0 ∷ []))) (2000 ∷ 2001 ∷ []) ≡ false ∷ true ∷ []
 
   pub letter-limit :
       map (λ n. longList (replicate n 0 ∷ replicate 1999 (replicate 8 0))) (8 ∷ 9 ∷ [])
-      ≡ false ∷ true ∷ []
+      ++ map (λ n. longList (replicate 499 (replicate 32 0) ++ replicate n (0 ∷ []))) (32 ∷ 33 ∷ [])
+      ≡ false ∷ true ∷ false ∷ true ∷ []
 
   pub node-limit : map (λ n. outsideLimits fourAndOne (graph 0 n 0)) (400 ∷ 401 ∷ []) ≡ false ∷ true ∷ []
 
