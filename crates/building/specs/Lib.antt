@@ -1,1 +1,4 @@
 pub mod Register
+pub mod Finding
+pub mod Walking
+pub mod Building

@@ -1,4 +1,4 @@
-// The nodes of a table of words in dictionary order, their numbers and their arcs, and the canonical image that they make.
+// The nodes of a table of words in dictionary order.
 mod register;
 mod sharing;
 mod walk;

@@ -1,0 +1,12 @@
+pub mod Words
+pub mod CommonLetters
+pub mod Rests
+pub mod Chains
+pub mod Entering
+pub mod Runs
+pub mod Common
+pub mod Fresh
+pub mod PassedRuns
+pub mod Registered
+pub mod Linking
+pub mod Walking
