@@ -4,9 +4,10 @@ use Prim.Native.Nat.{ℕ, suc, _+_, _≤_, _<_}
 use mathlib.Core.Path.{_≡_, _∙_, sym, ap}
 use mathlib.Core.List.{List, _++_}
 use native.Mathlib.Nat.{zero-add}
+use native.Mathlib.Omega.{arith}
 use native.Mathlib.Numerals.{add-one}
 use lib.ListN.{length, getD, take, drop, set}
-use lib.Seq.{paste-suc, length-take-le}
+use lib.Seq.{paste-suc, take-all}
 use borrow.Author.Tests.{lt-ltb, le-ltb, lt-leb, le-leb}
 use Rattle.call.specs.declared.Refusal.{Refusal}
 use Rattle.call.specs.declared.Refusal.the-variants.{Code, Output}
@@ -16,36 +17,38 @@ use Rattle.call.specs.Buffers.{written}
 use Rattle.call.proofs.Table.{unless-past, refused-before}
 use Rattle.call.proofs.Buffers.{written-refused}
 use Rattle.graph.specs.Graph.{graphOf, wordCount}
-use Rattle.graph.specs.Words.{wordOfCode}
+use Rattle.graph.specs.Words.{spelled, wordOfCode}
 use Rattle.graph.specs.Checking.{firstRows, checkAnswer}
-use Rattle.graph.proofs.Accepted.{accepted, Passed, passed}
+use Rattle.graph.proofs.Accepted.{accepted, sound-images, Passed, passed}
 use Rattle.checking.specs.Tables.{openedVertices}
 use Rattle.checking.proofs.VertexRows.{opened-vertices}
 use Rattle.codes.specs.Lookup.{wordToCodeRows, wordToCodeAnswer, codeToWordRows, codeToWordAnswer, codeToWordOut, listing, listRows, listAnswer, listOut}
-use Rattle.codes.specs.Steps.{OpenedImages, roomAnswer}
+use Rattle.codes.specs.Steps.{OpenedImages, lettersOfCode, Spellable, Spelled, Printable, roomAnswer}
 use Rattle.codes.specs.Marks.{lookedUp}
 use Rattle.codes.specs.Lines.{roomRows, BytesAnswered}
-use Rattle.codes.proofs.Words.{well-formed}
+use Rattle.codes.proofs.Words.{well-formed, printable, word-letters}
 
 -- ---- copying a word
 
-pub copy-more : (s d : List ℕ) (j : ℕ) → j < length s → j < length d → set (take j s ++ drop j d) j (getD s j 0) ≡ take (j + 1) s ++ drop (j + 1) d
-copy-more s d j h k =
-    let e : set (take j s ++ drop (0 + j) d) (0 + j) (getD s j 0) ≡ take (suc j) s ++ drop (0 + suc j) d = paste-suc d 0 s j 0 (rw zero-add k) h in
+pub copy-more : (s d : List ℕ) (j z : ℕ) → j < length s → j < length d
+    → set (take j s ++ drop j d) j (getD s j z) ≡ take (j + 1) s ++ drop (j + 1) d
+copy-more s d j z h k =
+    let e : set (take j s ++ drop (0 + j) d) (0 + j) (getD s j z) ≡ take (suc j) s ++ drop (0 + suc j) d =
+    paste-suc d 0 s j z (rw zero-add k) h in
     rw add-one (rw (zero-add, zero-add) at e)
 
-module _ (letters out : List ℕ) {n : ℕ} (h : n ≤ length letters) where
-  pub no-room : length out < n → refused Output ≡ roomAnswer (take n letters) out
+module _ (word out : List ℕ) {n : ℕ} (h : length word ≡ n) where
+  pub no-room : length out < n → refused Output ≡ roomAnswer word out
   unfolding roomAnswer unless
-  no-room k = rw (length-take-le n letters h, lt-ltb (length out) n k)
+  no-room k = rw (h, lt-ltb (length out) n k)
 
-  pub has-room : n ≤ length out → value n ≡ roomAnswer (take n letters) out
+  pub has-room : n ≤ length out → value n ≡ roomAnswer word out
   unfolding roomAnswer unless
-  has-room k = rw (length-take-le n letters h, le-ltb (length out) n k)
+  has-room k = rw (h, le-ltb (length out) n k)
 
-  pub room-written : take n letters ++ drop n out ≡ written {A = ℕ} (value n) (take n letters) out
+  pub room-written : take n word ++ drop n out ≡ written {A = ℕ} (value n) word out
   unfolding written
-  room-written = rw (length-take-le n letters h)
+  room-written = rw (h, take-all n word (omega arith))
 
 -- ---- after checking
 
@@ -59,6 +62,20 @@ opened-images v x work before p e h =
       accepted = p .images;
       tabled = record { located = record { well-formed = w; table = t .located }; counted = t .counted };
     }
+
+module _ {v x : List ℕ} {vertices : List (List ℕ)} (opened : OpenedImages v x vertices) where
+  pub spellable : Spellable x vertices
+  spellable = record { tabled = opened .tabled; short = accepted (opened .accepted) .short-words }
+
+  -- the letters of a code, as they are found, have print bytes, and these are its word
+  module _ (code : ℕ) {n : ℕ} {before letters : List ℕ}
+      (s : Spelled (lettersOfCode (graphOf x) code) before letters n) where
+    pub found-printable : Printable v (take n letters)
+    found-printable = rw (s .start) (printable (accepted (opened .accepted)) code)
+
+    pub found-word : code < wordCount (graphOf x) → spelled v (take n letters) ≡ wordOfCode v (graphOf x) code
+    found-word k =
+        rw (s .start) (sym (word-letters v (graphOf x) (sound-images (accepted (opened .accepted))) k))
 
 module _ (v x work : List ℕ) where
   -- ---- code to word

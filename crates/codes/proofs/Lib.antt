@@ -15,3 +15,4 @@ pub mod Falls
 pub mod Passing
 pub mod Totals
 pub mod Whole
+pub mod Slots

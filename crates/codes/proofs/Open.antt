@@ -1,10 +1,14 @@
 -- Every definition of this crate's specs/, open: a computed example names `everything` on its `unfolding` line in place of them all.
 -- Assumes nothing.
 use Rattle.codes.specs.Lookup.{wordToCodeRows, wordToCodeAnswer, codeToWordRows, codeToWordAnswer, codeToWordOut, listing, listRows, listAnswer, listOut}
-use Rattle.codes.specs.Steps.{roomAnswer}
+use Rattle.codes.specs.Steps.{lettersOfCode, roomAnswer}
 use Rattle.codes.specs.Marks.{fits, fitsAfter, markOf, marked, lookedUp}
 use Rattle.codes.specs.Lines.{linesFrom, linesOver, arcsOnWays, roomRows}
+use Rattle.codes.specs.Gathering.{slotOf, slotBytes, gatherRows, gatherAnswer, gatherOut}
+use Rattle.codes.specs.Slots.{slotRows}
 
 unfoldable pub everything : Unit {0}
-unfolding wordToCodeRows wordToCodeAnswer codeToWordRows codeToWordAnswer codeToWordOut listing listRows listAnswer listOut roomAnswer fits fitsAfter markOf marked lookedUp linesFrom linesOver arcsOnWays roomRows
+unfolding wordToCodeRows wordToCodeAnswer codeToWordRows codeToWordAnswer codeToWordOut listing listRows listAnswer
+    listOut lettersOfCode roomAnswer fits fitsAfter markOf marked lookedUp linesFrom linesOver arcsOnWays roomRows
+    slotOf slotBytes gatherRows gatherAnswer gatherOut slotRows
 everything = tt

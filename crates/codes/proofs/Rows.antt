@@ -7,6 +7,7 @@ use Rattle.call.specs.Buffers.{spaceRows}
 use Rattle.voice.specs.Voice.{voiceRows}
 use Rattle.graph.specs.Checking.{lexiconRows, imageRows, firstRows}
 use Rattle.codes.specs.Lookup.{wordToCodeRows, codeToWordRows, listRows}
+use Rattle.codes.specs.Gathering.{gatherRows}
 
 module _ (v x work : List ℕ) where
   pub word-to-code-numbers : (word : List ℕ) → numbers (wordToCodeRows v x word work) ≡ 1 ∷ 2 ∷ 3 ∷ 4 ∷ 5 ∷ 6 ∷ 7 ∷ 8 ∷ 9 ∷ 10 ∷ 13 ∷ []
@@ -21,3 +22,8 @@ module _ (v x work : List ℕ) where
   pub list-numbers : (out : List ℕ) → numbers (listRows v x work out) ≡ 1 ∷ 2 ∷ 3 ∷ 4 ∷ 5 ∷ 6 ∷ 7 ∷ 8 ∷ 9 ∷ 10 ∷ 16 ∷ []
   unfolding numbers listRows firstRows spaceRows imageRows voiceRows lexiconRows
   list-numbers out = refl
+
+  pub gather-numbers : (out : List ℕ)
+      → numbers (gatherRows v x work out) ≡ 1 ∷ 2 ∷ 3 ∷ 4 ∷ 5 ∷ 6 ∷ 7 ∷ 8 ∷ 9 ∷ 10 ∷ 17 ∷ 16 ∷ []
+  unfolding numbers gatherRows firstRows spaceRows imageRows voiceRows lexiconRows
+  gather-numbers out = refl

@@ -6,24 +6,22 @@ use mathlib.Core.Bool.{Bool, true, false}
 use mathlib.Core.List.{List, [], _∷_, _++_, map, map-append, List·Memᴰ·head, Memᴰ·append-right, append-nil}
 use native.Mathlib.Omega.{arith}
 use native.Mathlib.Numerals.{add-one}
-use lib.ListN.{length, getD, take, set, length-set, length-append}
-use lib.Seq.{append-snoc, take-suc-set, length-take-le}
+use lib.ListN.{length, take, drop, set, length-set, length-append}
+use lib.Seq.{append-snoc, take-suc-set, length-take-le, drop-set-lt, drop-drop}
 use lib.Dec.{ltb, eqb}
 use borrow.Author.Tests.{ltb-true, ltb-false, eqb-true}
 use Rattle.endian.specs.Lists.{sum}
 use Rattle.endian.specs.Bytes.{u16}
 use Rattle.endian.proofs.Lists.{sum-append}
-use Rattle.voice.specs.Voice.{printByte}
 use Rattle.lexicon.specs.Lexicon.{nodeCount, sinkOf, nodeLetter, arcsAt, successors}
-use Rattle.graph.specs.Graph.{Graph, graphOf, sink, ArcPath, arrived, along, from-root, pathCount, wordCount, codeFrom, pathCode}
-use Rattle.graph.specs.Words.{wordOfPath, wordOfCode}
+use Rattle.graph.specs.Graph.{Graph, graphOf, sink, ArcPath, arrived, along, from-root, pathCount, wordCount, codeFrom}
+use Rattle.graph.specs.Graph.{pathCode, pathLetters}
 use Rattle.graph.proofs.Sound.{Sound, below-sink}
 use Rattle.graph.proofs.Codes.{pathCount-sink, pathCount-below, increment-at}
-use Rattle.graph.proofs.Paths.{full-paths, at-code, wordOfCode-at}
-use Rattle.graph.proofs.Accepted.{AcceptedImages, sound-images}
+use Rattle.graph.proofs.Paths.{full-paths, at-code}
 use Rattle.checking.proofs.Arcs.{ArcsToRead, ArcNext, arcs-start, arc-next, sound-of}
-use Rattle.codes.specs.Steps.{Tabled, Stepped, Spelled}
-use Rattle.codes.proofs.Words.{word-node, word-root, word-sink, word-short}
+use Rattle.codes.specs.Steps.{Tabled, Stepped, lettersOfCode, Spellable, Spelled}
+use Rattle.codes.proofs.Words.{letters-node, letters-root, letters-beyond, letters-none, letters-at, code-short}
 
 -- ---- one arc
 
@@ -157,7 +155,7 @@ module _ {x : List ℕ} {vertices : List (List ℕ)} (t : Tabled x vertices) {u 
 -- ---- the letters on the way
 
 -- n letters of the code's word are written; u is the next vertex, and its letter comes next
-pub record LettersLeft (v x : List ℕ) (code : ℕ) (letters : List ℕ) (n u left : ℕ) : Type 0 where
+pub record LettersLeft (x : List ℕ) (code : ℕ) (before letters : List ℕ) (n u left : ℕ) : Type 0 where
   pub after-root : 0 < u
   pub bounded : u ≤ sinkOf x
   pub below : left < pathCount (graphOf x) u
@@ -165,14 +163,16 @@ pub record LettersLeft (v x : List ℕ) (code : ℕ) (letters : List ℕ) (n u l
   pub few : n ≤ 32
   -- whatever way of the code that is left comes next
   pub goes-on : (q : List ℕ) → ArcPath (graphOf x) u q → codeFrom (graphOf x) u q ≡ left
-      → wordOfCode v (graphOf x) code ≡ take n letters ++ wordOfPath v (graphOf x) (u ∷ q)
+      → lettersOfCode (graphOf x) code ≡ take n letters ++ pathLetters (graphOf x) (u ∷ q)
+  pub rest : drop n letters ≡ drop n before
 
-module _ {v x : List ℕ} (images : AcceptedImages v x) {code : ℕ} (k : code < wordCount (graphOf x)) where
+module _ {x : List ℕ} {vertices : List (List ℕ)} (spell : Spellable x vertices)
+    {code : ℕ} (k : code < wordCount (graphOf x)) where
   ok : Sound (graphOf x)
-  ok = sound-images images
+  ok = sound-of (spell .tabled .located .well-formed)
 
   pub letters-start : {letters : List ℕ} {u left : ℕ} → length letters ≡ 32 → Stepped (graphOf x) 0 code u left
-      → LettersLeft v x code letters 0 u left
+      → LettersLeft x code letters letters 0 u left
   unfolding sink sinkOf pathCode codeFrom
   letters-start {letters} {u} {left} h s =
       let r = ok .rises (omega arith) (s .arc) in
@@ -185,10 +185,13 @@ module _ {v x : List ℕ} (images : AcceptedImages v x) {code : ℕ} (k : code <
         goes-on = λ q w e.
             let full = full-paths ok .1 (from-root (along (omega arith) (s .arc) w)) in
             let c : pathCode (graphOf x) (0 ∷ u ∷ q) ≡ code = rw e (sym (s .split)) in
-            wordOfCode-at ok v k ∙ ap (wordOfPath v (graphOf x)) (rw c at (at-code ok full .1)) ∙ word-root v (graphOf x) (u ∷ q);
+            letters-at (graphOf x) code
+            ∙ ap (pathLetters (graphOf x)) (rw c at (at-code ok full .1))
+            ∙ letters-root (graphOf x) (u ∷ q);
+        rest = refl;
       }
 
-  module _ {letters : List ℕ} {n u left : ℕ} (l : LettersLeft v x code letters n u left) where
+  module _ {before letters : List ℕ} {n u left : ℕ} (l : LettersLeft x code before letters n u left) where
     taken : length (take n letters) ≡ n
     taken = length-take-le n letters (omega (arith, l .few, l .long))
 
@@ -196,18 +199,18 @@ module _ {v x : List ℕ} (images : AcceptedImages v x) {code : ℕ} (k : code <
     unfolding sink sinkOf
     way = way-of ok (l .bounded) (l .below)
 
-    whole : length (wordOfCode v (graphOf x) code) ≡ n + length (wordOfPath v (graphOf x) (u ∷ way .path))
+    whole : length (lettersOfCode (graphOf x) code) ≡ n + length (pathLetters (graphOf x) (u ∷ way .path))
     whole = ap length (l .goes-on (way .path) (way .arcs) (way .code-is)) ∙ length-append (take n letters) _ ∙ rw taken
 
     -- a letter is to come, so that there is room for it
     pub letters-room : u < sinkOf x → n < 32
     unfolding sink sinkOf
     letters-room h =
-        let one = ap length (word-node v (graphOf x) (way .path) (l .after-root) h) in
-        omega (arith, whole, one, word-short images k)
+        let one = ap length (letters-node (graphOf x) (way .path) (l .after-root) h) in
+        omega (arith, whole, one, code-short (graphOf x) (spell .short) k)
 
     pub letters-next : u < sinkOf x → {s rest : ℕ} → Stepped (graphOf x) u left s rest
-        → LettersLeft v x code (set letters n (printByte v (nodeLetter x u))) (n + 1) s rest
+        → LettersLeft x code before (set letters n (nodeLetter x u)) (n + 1) s rest
     unfolding sink sinkOf codeFrom
     letters-next h {s} {rest} t =
         let r = ok .rises h (t .arc) in
@@ -220,15 +223,29 @@ module _ {v x : List ℕ} (images : AcceptedImages v x) {code : ℕ} (k : code <
           few = omega arith;
           goes-on = λ q w e.
               l .goes-on (s ∷ q) (along h (t .arc) w) (rw e (sym (t .split)))
-              ∙ rw (word-node v (graphOf x) (s ∷ q) (l .after-root) h, add-one, take-suc-set letters n (printByte v (nodeLetter x u)) (omega (arith, l .long)))
-              (sym (append-snoc (take n letters) (printByte v (nodeLetter x u)) (wordOfPath v (graphOf x) (s ∷ q))));
+              ∙ rw (
+                letters-node (graphOf x) (s ∷ q) (l .after-root) h,
+                add-one,
+                take-suc-set letters n (nodeLetter x u) (omega (arith, l .long)),
+              )
+              (sym (append-snoc (take n letters) (nodeLetter x u) (pathLetters (graphOf x) (s ∷ q))));
+          rest =
+              drop-set-lt (n + 1) letters n (nodeLetter x u) (omega arith)
+              ∙ sym (drop-drop 1 n letters) ∙ ap (drop 1) (l .rest) ∙ drop-drop 1 n before;
         }
 
-    pub letters-done : sinkOf x ≤ u → Spelled (wordOfCode v (graphOf x) code) letters n
+    pub letters-done : sinkOf x ≤ u → Spelled (lettersOfCode (graphOf x) code) before letters n
     unfolding sink sinkOf codeFrom
     letters-done h =
         let e : u ≡ sink (graphOf x) = omega (arith, l .bounded) in
         let z : left < 1 = rw (e, pathCount-sink ok) at (l .below) in
-        let done : wordOfCode v (graphOf x) code ≡ take n letters =
-        l .goes-on [] (arrived e) (omega arith) ∙ rw (e, word-sink v (graphOf x)) (append-nil (take n letters)) in
-        record { size = sym taken ∙ ap length (sym done); few = l .few; long = l .long; start = sym done }
+        let done : lettersOfCode (graphOf x) code ≡ take n letters =
+        l .goes-on [] (arrived e) (omega arith)
+        ∙ rw (letters-beyond (graphOf x) [] e, letters-none (graphOf x)) (append-nil (take n letters)) in
+        record {
+          size = sym taken ∙ ap length (sym done);
+          few = l .few;
+          long = l .long;
+          start = sym done;
+          rest = l .rest;
+        }

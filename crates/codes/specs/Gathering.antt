@@ -1,5 +1,5 @@
--- The words of a lexicon as letter indexes, each in a slot of 33 bytes: what is gathered before words are put into dictionary order
--- (document 02, 3/13). Assumes nothing.
+-- The words of a lexicon as letter indexes, each in a slot of 33 bytes: what is gathered before words are put into
+-- dictionary order (document 02, 3/13). Assumes nothing.
 use Prim.Native.Nat.{ℕ, _-_, _*_}
 use mathlib.Core.List.{List, [], _∷_, _++_, flatMap}
 use lib.ListN.{length, replicate}
@@ -18,7 +18,8 @@ slotOf w = length w ∷ w ++ replicate (32 - length w) 0
 unfoldable pub slotBytes : List (List ℕ) → List ℕ
 slotBytes ws = flatMap slotOf ws
 
--- 1 to 10; then 17 by the words alone, over 2,000 (their letters are counted once they are in order); then 16, no room for a slot a word
+-- 1 to 10; then 17 by the words alone, over 2,000 (letters are counted once the words are in order); then 16, no room for
+-- a slot a word
 unfoldable pub gatherRows : List ℕ → List ℕ → List ℕ → List ℕ → List Row
 gatherRows v x work out =
     firstRows v x work

@@ -4,3 +4,4 @@ pub mod Steps
 pub mod Marks
 pub mod Lines
 pub mod Gathering
+pub mod Slots

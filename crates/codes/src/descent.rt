@@ -6,10 +6,9 @@ ghost use Rattle.call.specs.Table.{answerOf};
 ghost use Rattle.call.specs.Buffers.{written};
 ghost use Rattle.lexicon.specs.Lexicon.{nodeCount};
 ghost use Rattle.graph.specs.Graph.{graphOf, pathCount, wordCount};
-ghost use Rattle.graph.specs.Words.{wordOfCode};
-ghost use Rattle.codes.specs.Steps.{Tabled, OpenedImages, Stepped, Spelled, roomAnswer};
+ghost use Rattle.graph.specs.Words.{spelled};
+ghost use Rattle.codes.specs.Steps.{Tabled, Stepped, lettersOfCode, Spellable, Spelled, Printable, roomAnswer};
 use crate::image::number_at;
-use crate::image::print_byte;
 use call::Answer;
 use call::Refusal;
 use checking::ARCS_AT;
@@ -43,17 +42,17 @@ fn descend(lexicon: &[u8], vertices: &[[u32; 4]; 402], vertex: usize, code: u32)
     }
 }
 
-// Writes the word of a code below W, and answers its letters.
+// Writes the letters of the word of a code below W, as indexes, and answers their number.
 pub(crate) fn spell(
-    voice: &[u8],
     lexicon: &[u8],
     vertices: &[[u32; 4]; 402],
     code: u32,
     letters: &mut [u8; 32],
 ) -> usize
-    requires { ⌜ OpenedImages (now voice) (now lexicon) (now vertices) ⌝ }
+    requires { ⌜ Spellable (now lexicon) (now vertices) ⌝ }
     requires { ⌜ (code < wordCount (graphOf (now lexicon))) × (length (now letters) ≡ 32) ⌝ }
-    ensures { λ r. ⌜ Spelled (wordOfCode (now (voice .entry)) (graphOf (now (lexicon .entry))) code) (now (letters .exit)) r ⌝ }
+    ensures { λ r. ⌜ Spelled (lettersOfCode (graphOf (now (lexicon .entry))) code) (now (letters .entry))
+        (now (letters .exit)) r ⌝ }
 {
     let sink = number_at(lexicon, 0) + 1;
     let first = descend(lexicon, vertices, 0, code);
@@ -61,7 +60,7 @@ pub(crate) fn spell(
     let mut left = first.code;
     let mut length = 0;
     while vertex < sink {
-        letters[length] = print_byte(voice, lexicon, vertex);
+        letters[length] = lexicon[1 + vertex];
         length += 1;
         let next = descend(lexicon, vertices, vertex, left);
         vertex = next.vertex;
@@ -70,18 +69,20 @@ pub(crate) fn spell(
     length
 }
 
-// Writes the first n letters at the output's start, or answers 16 where they have no room.
-pub(crate) fn put_word(out: &mut [u8], letters: &[u8; 32], n: usize) -> Answer
-    requires { ⌜ (n ≤ 32) × (length (now letters) ≡ 32) ⌝ }
-    ensures { λ r. ⌜ answerOf r ≡ roomAnswer (take n (now (letters .entry))) (now (out .entry)) ⌝ }
-    ensures { λ r. ⌜ now (out .exit) ≡ written (answerOf r) (take n (now (letters .entry))) (now (out .entry)) ⌝ }
+// Writes the first n letters at the output's start, as print bytes, or answers 16 where they have no room.
+pub(crate) fn put_word(voice: &[u8], out: &mut [u8], letters: &[u8; 32], n: usize) -> Answer
+    requires { ⌜ (n ≤ 32) × (length (now letters) ≡ 32) × Printable (now voice) (take n (now letters)) ⌝ }
+    ensures { λ r. ⌜ answerOf r ≡ roomAnswer (spelled (now (voice .entry)) (take n (now (letters .entry))))
+        (now (out .entry)) ⌝ }
+    ensures { λ r. ⌜ now (out .exit) ≡ written (answerOf r)
+        (spelled (now (voice .entry)) (take n (now (letters .entry)))) (now (out .entry)) ⌝ }
 {
     if out.len() < n {
         return Answer::Refused(Refusal::Output);
     }
     let mut i = 0;
     while i < n {
-        out[i] = letters[i];
+        out[i] = voice[1 + 2 * letters[i] as usize];
         i += 1;
     }
     Answer::Value(n as u32)

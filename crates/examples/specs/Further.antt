@@ -21,6 +21,7 @@ use Rattle.packing.specs.Width.{widthAnswer}
 use Rattle.ranking.specs.Mean.{meanAnswer}
 use Rattle.packing.specs.Packing.{packAnswer, packOut, unpackAnswer, unpackOut}
 use Rattle.codes.specs.Lookup.{wordToCodeAnswer, codeToWordAnswer, listAnswer, listOut}
+use Rattle.codes.specs.Gathering.{gatherAnswer, gatherOut}
 use Rattle.ranking.specs.Hits.{Hit, hit}
 use Rattle.decoder.specs.Decoding.{hits, decodeAnswer, decodeOut}
 use Rattle.report.specs.Report.{countIn, hitLine, report}
@@ -298,7 +299,7 @@ pub record DecodingExamples : Type 0 where
       ≡ minus 12 ∷ minus 16 ∷ minus 16 ∷ minus 12 ∷ []
   pub hit-room : map (λ m. signedAnswer (decodeAnswer A wordA (0 ∷ []) 2 work (replicate m 7))) (15 ∷ 16 ∷ []) ≡ minus 16 ∷ pos 1 ∷ []
 
--- ---- words, codes and listing; width and mean; packing; successors
+-- ---- words, codes, listing and gathering; width and mean; packing; successors
 
 pub record CodeExamples : Type 0 where
   pub no-words : map (λ w. signedAnswer (wordToCodeAnswer voice P w work)) ([] ∷ (97 ∷ []) ∷ (it ++ 116 ∷ []) ∷ (0 ∷ 2 ∷ []) ∷ (110 ∷ 97 ∷ []) ∷ [])
@@ -308,6 +309,16 @@ pub record CodeExamples : Type 0 where
   pub code-room : map (λ m. signedAnswer (codeToWordAnswer voice P 4 work (replicate m 7))) (1 ∷ 2 ∷ []) ≡ minus 16 ∷ pos 2 ∷ []
   pub list-bytes : listOut voice P work (replicate 15 7) ≡ 97 ∷ 110 ∷ 10 ∷ 97 ∷ 116 ∷ 10 ∷ 105 ∷ 10 ∷ 105 ∷ 110 ∷ 10 ∷ 105 ∷ 116 ∷ 10 ∷ 7 ∷ []
   pub list-room : map (λ m. signedAnswer (listAnswer voice P work (replicate m 7))) (13 ∷ 14 ∷ []) ≡ minus 16 ∷ pos 14 ∷ []
+  -- the slots of an, at, i, in, it: length, letter indexes, zeros up to 33 bytes, whatever stood there
+  pub gather-bytes : gatherOut voice P work (replicate 166 7)
+      ≡ 2 ∷ 0 ∷ 2 ∷ replicate 30 0
+      ++ 2 ∷ 0 ∷ 3 ∷ replicate 30 0
+      ++ 1 ∷ 1 ∷ replicate 31 0
+      ++ 2 ∷ 1 ∷ 2 ∷ replicate 30 0
+      ++ 2 ∷ 1 ∷ 3 ∷ replicate 30 0
+      ++ 7 ∷ []
+  pub gather-room : map (λ m. signedAnswer (gatherAnswer voice P work (replicate m 7))) (164 ∷ 165 ∷ [])
+      ≡ minus 16 ∷ pos 5 ∷ []
   -- width and mean
   pub width-limits : map (λ W. signedAnswer (widthAnswer W)) (0 ∷ 2 ∷ 3 ∷ 16 ∷ 17 ∷ 1048576 ∷ 1048577 ∷ [])
       ≡ minus 9 ∷ pos 1 ∷ pos 2 ∷ pos 4 ∷ pos 5 ∷ pos 20 ∷ minus 9 ∷ []

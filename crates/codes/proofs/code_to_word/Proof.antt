@@ -1,16 +1,20 @@
 -- `code_to_word` meets its contract: it answers as checking does where that refuses, and else writes the word that the code leads to.
 -- Assumes nothing.
-use Prim.Native.Nat.{ℕ}
+use Prim.Native.Nat.{ℕ, _<_}
 use mathlib.Core.Path.{_≡_, refl, sym, ap, _∙_}
 use mathlib.Core.List.{List}
+use lib.ListN.{take}
 use native.Mathlib.Omega.{arith}
 use borrow.Author.Needs.{needs}
 use Rattle.call.specs.Table.{answerOf, refused}
 use Rattle.call.specs.Buffers.{written}
+use Rattle.graph.specs.Graph.{graphOf, wordCount}
+use Rattle.graph.specs.Words.{spelled, wordOfCode}
 use Rattle.graph.proofs.Accepted.{Passed, passed}
 use Rattle.codes.specs.Lookup.{codeToWordAnswer}
 use Rattle.codes.specs.Steps.{OpenedImages, roomAnswer}
-use Rattle.codes.proofs.Calls.{opened-images, code-refused, code-bad, code-good, out-refused, out-written}
+use Rattle.codes.proofs.Calls.{opened-images, spellable, found-printable, found-word}
+use Rattle.codes.proofs.Calls.{code-refused, code-bad, code-good, out-refused, out-written}
 use Rattle.codes.proofs.code_to_word.Statement.{statement}
 use Rattle.codes.proofs.code_to_word.Tie as tie
 
@@ -52,20 +56,39 @@ returns-2 c =
     let e = code-bad (a .voice .now) (a .lexicon .now) (a .work .now) (a .code) (a .out .now) (passes k) (c .if1 .taken) in
     (sym e, (o .«open» .ensures .1 .0, sym (out-refused _ _ _ _ _ e)))
 
+-- the code is below W
+below : (c : tie.Else1) →
+    let o = c .before .before .before .before .before .before in
+    let a = o .before .before .before .before .before .before .before .args in
+    a .code < wordCount (graphOf (a .lexicon .now))
+below c = omega (arith, passes (c .before .before) .count, c .if1 .left)
+
 spell-requires : tie.Need-spell-requires
-spell-requires c κs =
-    let k = c .before .before .before .before in
-    (prepared k, (omega (arith, passes k .count, c .before .before .if1 .left), refl))
+spell-requires c κs = (spellable (prepared (c .before .before .before .before)), (below (c .before .before), refl))
 
 put-word-requires : tie.Need-put-word-requires
-put-word-requires c κs = let s = c .before .before .spell .ensures in (s .few, s .long)
+put-word-requires c κs =
+    let s = c .before .before .spell .ensures in
+    (s .few, s .long, found-printable (prepared (c .before .before .before .before .before .before .before)) _ s)
+
+-- what is put into the output is the word
+word : (c : tie.After-put-word) →
+    let o = c .before .before .before .before .before .before .before .before .before .before .before .before in
+    let a = o .before .before .before .before .before .before .before .args in
+    let s = c .before .before .before .spell in
+    spelled (a .voice .now) (take (s .result) (s .last .1 .1 .1 .0))
+    ≡ wordOfCode (a .voice .now) (graphOf (a .lexicon .now)) (a .code)
+word c =
+    let l = c .before .before .before in
+    let e = l .before .before .before in
+    found-word (prepared (e .before .before)) _ (l .spell .ensures) (below e)
 
 -- the answer of a code below W
 wrote : (c : tie.After-put-word) →
-    let k = c .before .before .before .before .before .before .before .before in
-    let o = k .before .before .before .before in
+    let o = c .before .before .before .before .before .before .before .before .before .before .before .before in
     let a = o .before .before .before .before .before .before .before .args in
-    codeToWordAnswer (a .voice .now) (a .lexicon .now) (a .code) (a .work .now) (a .out .now) ≡ answerOf (c .put-word .result)
+    codeToWordAnswer (a .voice .now) (a .lexicon .now) (a .code) (a .work .now) (a .out .now)
+    ≡ answerOf (c .put-word .result)
 wrote c =
     let k = c .before .before .before .before .before .before .before .before in
     let o = k .before .before .before .before in
@@ -73,19 +96,18 @@ wrote c =
     let l = c .before .before .before .before in
     code-good (a .voice .now) (a .lexicon .now) (a .work .now) (a .code) (a .out .now) (passes k)
     (l .before .before .if1 .left)
-    ∙ sym (c .put-word .ensures .0 ∙ ap (λ (w : List ℕ). roomAnswer w (a .out .now)) (c .before .before .before .spell .ensures .start))
+    ∙ sym (c .put-word .ensures .0 ∙ ap (λ (w : List ℕ). roomAnswer w (a .out .now)) (word c))
 
 returns-3 : tie.Need-returns-3
 returns-3 c =
     let p = c .before .before in
-    let k = p .before .before .before .before .before .before .before .before in
-    let o = k .before .before .before .before in
+    let o = p .before .before .before .before .before .before .before .before .before .before .before .before in
     let a = o .before .before .before .before .before .before .before .args in (
       sym (wrote p),
       (
         o .«open» .ensures .1 .0,
         p .put-word .ensures .1
-            ∙ ap (λ (w : List ℕ). written (answerOf (p .put-word .result)) w (a .out .now)) (p .before .before .before .spell .ensures .start)
+            ∙ ap (λ (w : List ℕ). written (answerOf (p .put-word .result)) w (a .out .now)) (word p)
             ∙ out-written (a .voice .now) (a .lexicon .now) (a .work .now) (a .code) (a .out .now) (wrote p),
       ),
     )
@@ -106,5 +128,5 @@ code-to-word-spec =
     (λ c.
     let k = c .before .before .before .before .before .before .before .before .before .before in
     k .before .before .before .before .«open» .kept .1 .1 .0)
-    (λ c. c .before .before .put-word .kept .0)
+    (λ c. c .before .before .put-word .kept .1 .0)
     returns-3)
