@@ -6,7 +6,7 @@
 
 enum { STACK = 1 << 20, PAINT = 0xa5 };
 
-enum which { CHECK, WORD_TO_CODE, CODE_TO_WORD, LIST, DECODE };
+enum which { CHECK, WORD_TO_CODE, CODE_TO_WORD, LIST, DECODE, CANONICAL };
 
 /* A call, its answer, and the bytes of stack that it took. stack.rs has the same fields. */
 struct call {
@@ -14,8 +14,8 @@ struct call {
     uint32_t code;
     const uint8_t *voice, *lexicon, *word;
     size_t voice_len, lexicon_len, word_len;
-    uint8_t *work, *out;
-    size_t work_len, out_len;
+    uint8_t *work, *further, *out;
+    size_t work_len, further_len, out_len;
     int32_t answer;
     size_t used;
 };
@@ -45,6 +45,9 @@ static int32_t made(const struct call *c)
     case DECODE:
         return wundaleth_decode(c->voice, c->voice_len, c->lexicon, c->lexicon_len, frames, sizeof frames, 8, c->work,
                                 c->work_len, c->out, c->out_len);
+    case CANONICAL:
+        return wundaleth_canonical(c->voice, c->voice_len, c->lexicon, c->lexicon_len, c->work, c->work_len, c->further,
+                                   c->further_len, c->out, c->out_len);
     default:
         return wundaleth_check(c->voice, c->voice_len, c->lexicon, c->lexicon_len, c->work, c->work_len);
     }

@@ -1,7 +1,7 @@
 //! The functions of libwundaleth.a for callers in Rust; include/wundaleth.h says what holds of each of them and of its
 //! caller. The tests, the bench and docs/graph take them from here.
 
-#![allow(dead_code)] // hardly a program calls all seven
+#![allow(dead_code)] // hardly a program calls all eight
 
 extern "C" {
     pub fn wundaleth_check(
@@ -40,6 +40,18 @@ extern "C" {
         lexicon_length: usize,
         work: *mut u8,
         work_length: usize,
+        out: *mut u8,
+        out_length: usize,
+    ) -> i32;
+    pub fn wundaleth_canonical(
+        voice: *const u8,
+        voice_length: usize,
+        lexicon: *const u8,
+        lexicon_length: usize,
+        work: *mut u8,
+        work_length: usize,
+        further: *mut u8,
+        further_length: usize,
         out: *mut u8,
         out_length: usize,
     ) -> i32;
