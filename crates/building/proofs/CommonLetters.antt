@@ -1,6 +1,6 @@
 -- The letters that two words both begin with tell which prefixes of one the other begins with; so the words of a run
 -- that each share d letters with the word before them have the same first d letters. Assumes nothing.
-use Prim.Native.Nat.{ℕ, zero, suc, _+_, _*_, _-_, _≤_, _<_, max, min}
+use Prim.Native.Nat.{ℕ, zero, suc, _+_, _*_, _-_, _%_, _≤_, _<_, max, min}
 use mathlib.Core.Path.{_≡_, refl, sym, ap, ap₂, subst, _∙_}
 use mathlib.Core.Logic.{_⊎_, inl, inr, ⊎-elim}
 use mathlib.Core.Bool.{Bool, true, false, cond, _&&_, true≢false, false≢true}
@@ -16,8 +16,10 @@ use Rattle.endian.proofs.Booleans.{and-in, and-out}
 use Rattle.canonical.specs.Dictionary.{longest}
 use Rattle.canonical.specs.Groups.{begins, common}
 use Rattle.sorting.specs.Slots.{wordAt, Slot}
-use Rattle.building.specs.Register.{previous, Shared, Reach, Group, restsFrom}
+use Rattle.building.specs.Register.{Words, previous, Shared, Reach, Group, restsFrom, marksOf}
 use Rattle.building.proofs.Words.{word-length, letter-at, rest-length, longest-more}
+use Rattle.building.proofs.Marks.{marks-low, marks-one, marks-more}
+use Rattle.building.proofs.Common.{common-most, common-begins}
 
 -- ---- two words from a place on
 
@@ -59,10 +61,10 @@ alike-start {t} {j} {i} a b = record {
 module _ {t : List ℕ} {j i d : ℕ} (p : Alike t j i d) where
   module _ (h : d < min (getD t (33 * j) 0) (getD t (33 * i) 0)) where
     here : getD (wordAt t j) d 0 ≡ getD t (33 * j + (d + 1)) 0
-    here = letter-at t j d (omega arith)
+    here = letter-at t j d (omega arith) ∙ ap (λ k. getD t (33 * j + k) 0) (sym (add-one d))
 
     there : getD (wordAt t i) d 0 ≡ getD t (33 * i + (d + 1)) 0
-    there = letter-at t i d (omega arith)
+    there = letter-at t i d (omega arith) ∙ ap (λ k. getD t (33 * i + k) 0) (sym (add-one d))
 
     before : d < length (wordAt t j)
     before = omega (arith, word-length (p .one))
@@ -136,10 +138,7 @@ begins-itself zero w = refl
 begins-itself (suc d) [] = refl
 begins-itself (suc d) (a ∷ w) = and-in (eq-eqb a a refl) (begins-itself d w)
 
--- a word begins with the prefixes of another that they share, and with no longer one
-pub common-begins : (d : ℕ) (v w : List ℕ) → d ≤ common v w → begins (take d w) v ≡ true
-common-begins d v w h = ap (λ p. begins p v) (sym (common-take d v w h)) ∙ begins-itself d v
-
+-- a word begins with no longer prefix of another than they share
 pub common-apart : (d : ℕ) (v w : List ℕ) → common v w < d → d ≤ length w → begins (take d w) v ≡ false
 unfolding common begins
 common-apart zero v w h k = absurd (omega arith)
@@ -167,18 +166,7 @@ common-swap (a ∷ v) (b ∷ w) = go (ℕ-discrete a b) (common-swap v w)
 pub common-left : (d : ℕ) (v w : List ℕ) → common v w < d → d ≤ length v → begins (take d v) w ≡ false
 common-left d v w h k = common-apart d w v (omega (arith, common-swap v w)) k
 
--- a prefix that both begin with is no longer than what they share; and one of these that one begins with the other does
-common-both : (p v w : List ℕ) → begins p v ≡ true → begins p w ≡ true → length p ≤ common v w
-unfolding common begins
-common-both [] v w h k = omega arith
-common-both (c ∷ p) [] w h k = absurd (false≢true h)
-common-both (c ∷ p) (a ∷ v) [] h k = absurd (false≢true k)
-common-both (c ∷ p) (a ∷ v) (b ∷ w) h k =
-    let f = and-out (eqb c a) (begins p v) h in
-    let g = and-out (eqb c b) (begins p w) k in
-    let e : a ≡ b = sym (eqb-true c a (f .0)) ∙ eqb-true c b (g .0) in
-    rw (eq-eqb a b e) (omega (arith, common-both p v w (f .1) (g .1)))
-
+-- a prefix no longer than what they share that one begins with, the other does
 begins-too : (p v w : List ℕ) → begins p v ≡ true → length p ≤ common v w → begins p w ≡ true
 unfolding common begins
 begins-too [] v w h k = refl
@@ -334,7 +322,7 @@ module _ {t : List ℕ} {n : ℕ} {shared : List ℕ} (s : Shared t n shared) (i
     pub reach-shared : (k : ℕ) → i < k → k < i + m → d ≤ getD shared k 0
     reach-shared k a b =
         let in-run = r .inside in
-        let u = common-both (take d (wordAt t i)) (wordAt t (k - 1)) (wordAt t k)
+        let u = common-most (take d (wordAt t i)) (wordAt t (k - 1)) (wordAt t k)
         (r .have (k - 1) (omega arith) (omega arith)) (r .have k (omega arith) b) in
         omega (arith, size, u, shared-words t k (omega arith), s .letters k (omega arith))
 
@@ -351,46 +339,58 @@ module _ {t : List ℕ} {n : ℕ} {shared : List ℕ} (s : Shared t n shared) (i
 
 -- ---- the group of a prefix
 
--- a run so far, with the letters of its longest word
-pub record Grouping (t : List ℕ) (n i d k letters : ℕ) : Type 0 where
+-- a run so far, with the letters of its longest word and the mark of what follows
+pub record Grouping (t : List ℕ) (n i d k letters mark : ℕ) : Type 0 where
   pub run : RunTo t n i d k
   pub short : letters ≤ 32
   pub high : letters ≡ d + longest (restsFrom t d i (k - i))
+  pub marked : mark ≡ marksOf 0 (restsFrom t d i (k - i))
 
-pub grouping-start : {t : List ℕ} {n i : ℕ} (d : ℕ) → Slot t i → i < n → d ≤ getD t (33 * i) 0
-    → Grouping t n i d (i + 1) (getD t (33 * i) 0)
+pub grouping-start : {t : List ℕ} {n i : ℕ} (d : ℕ) → Words t n → i < n → d ≤ getD t (33 * i) 0
+    → Grouping t n i d (i + 1) (getD t (33 * i) 0) (getD t (33 * (2001 + i) + d) 0)
 unfolding restsFrom longest
-grouping-start {t} {n} {i} d s h l =
+grouping-start {t} {n} {i} d w h l =
     let e : i + 1 - i ≡ 1 = omega arith in
+    let s = w .holds i h in
     record {
       run = run-start t n i d h (omega (arith, word-length s));
       short = s .short;
       high = rw e (omega (arith, rest-length s d));
+      marked = rw e (w .marks i d h l ∙ sym (marks-one t d i));
     }
 
-module _ {t : List ℕ} {n i d k letters : ℕ} (g : Grouping t n i d k letters) {shared : List ℕ}
-    (s : Shared t n shared) where
-  pub grouping-more : Slot t k → k < n → d ≤ getD shared k 0
-      → Grouping t n i d (k + 1) (max letters (getD t (33 * k) 0))
-  grouping-more slot h q =
-      let f = g .run .far in
-      let e : k + 1 - i ≡ k - i + 1 = omega arith in
-      let w : i + (k - i) ≡ k = omega arith in
-      let r = run-more (g .run) s h q in
-      let l = run-letters r k (omega arith) (omega arith) in
-      let m = rw w at (longest-more t d i (k - i)) in
-      record {
-        run = r;
-        short = omega (arith, g .short, slot .short);
-        high = rw e (omega (arith, m, g .high, rest-length slot d, word-length slot, l));
-      }
+module _ {t : List ℕ} {n i d k letters mark : ℕ} (g : Grouping t n i d k letters mark) where
+  pub grouping-low : mark < 65536
+  grouping-low = omega (arith, g .marked, marks-low 0 (restsFrom t d i (k - i)) (omega arith))
 
-  pub grouped : Slot t i → i < n → getD shared i 0 < d → (n ≤ k) ⊎ ((k < n) × (getD shared k 0 < d))
-      → Group t n i (k - i) d (letters - d)
-  grouped slot h new end = record {
-    reach = run-ended (g .run) (λ q. ⊎-elim (λ a. absurd (omega arith)) (λ a. run-behind (g .run) s (a .0) (a .1)) end);
-    letters = omega (arith, word-length slot, g .run .letters);
-    some = omega arith;
-    new = shared-new s i d h new (g .run .letters);
-    high = omega (arith, g .high);
-  }
+  module _ {shared : List ℕ} (w : Words t n) (s : Shared t n shared) where
+    pub grouping-more : k < n → d ≤ getD shared k 0
+        → Grouping t n i d (k + 1) (max letters (getD t (33 * k) 0))
+        ((91 * mark + getD t (33 * (2001 + k) + d) 0) % 65536)
+    grouping-more h q =
+        let f = g .run .far in
+        let slot = w .holds k h in
+        let e : k + 1 - i ≡ k - i + 1 = omega arith in
+        let u : i + (k - i) ≡ k = omega arith in
+        let r = run-more (g .run) s h q in
+        let l : d ≤ getD t (33 * k) 0 = omega (arith, run-letters r k (omega arith) (omega arith), word-length slot) in
+        let m = rw u at (longest-more t d i (k - i)) in
+        let a = rw u at (marks-more t d i (k - i)) in
+        record {
+          run = r;
+          short = omega (arith, g .short, slot .short);
+          high = rw e (omega (arith, m, g .high, rest-length slot d, l));
+          marked = rw (e, a, g .marked, w .marks k d h l);
+        }
+
+    pub grouped : i < n → getD shared i 0 < d → (n ≤ k) ⊎ ((k < n) × (getD shared k 0 < d))
+        → Group t n i (k - i) d (letters - d) mark
+    grouped h new end = record {
+      reach = run-ended (g .run)
+          (λ q. ⊎-elim (λ a. absurd (omega arith)) (λ a. run-behind (g .run) s (a .0) (a .1)) end);
+      letters = omega (arith, word-length (w .holds i h), g .run .letters);
+      some = omega arith;
+      new = shared-new s i d h new (g .run .letters);
+      high = omega (arith, g .high);
+      marked = g .marked;
+    }

@@ -20,8 +20,8 @@ use Rattle.building.proofs.Chains.{last-kept}
 abbrev pub groupLetter : List ℕ → ℕ → ℕ → ℕ
 groupLetter t i d = getD t (33 * i + d) 0
 
-abbrev pub groupRow : List ℕ → List ℕ → ℕ → ℕ → ℕ → ℕ → List ℕ
-groupRow t chains i m d h = i ∷ m ∷ d ∷ h ∷ getD chains (groupLetter t i d) 0 ∷ []
+abbrev pub groupRow : List ℕ → List ℕ → ℕ → ℕ → ℕ → ℕ → ℕ → List ℕ
+groupRow t chains i m d h mark = i ∷ m ∷ d ∷ h ∷ getD chains (groupLetter t i d) 0 ∷ mark ∷ []
 
 -- ---- no row more
 
@@ -40,12 +40,12 @@ module _ {t : List ℕ} {n count : ℕ} {rows : List (List ℕ)} {chains : List 
 
 -- ---- a row more
 
-module _ {t : List ℕ} {n count : ℕ} {rows : List (List ℕ)} {chains : List ℕ} {i m d h : ℕ} (g : Register t n rows count)
-    (c : Chained t rows chains count) (a : Group t n i m d h) (byte : groupLetter t i d < 256)
-    (room : count < 400) where
+module _ {t : List ℕ} {n count : ℕ} {rows : List (List ℕ)} {chains : List ℕ} {i m d h mark : ℕ}
+    (g : Register t n rows count) (c : Chained t rows chains count) (a : Group t n i m d h mark)
+    (byte : groupLetter t i d < 256) (room : count < 400) where
   -- the row, and the tables after it
   abbrev row : List ℕ
-  row = groupRow t chains i m d h
+  row = groupRow t chains i m d h mark
 
   abbrev more : List (List ℕ)
   more = set rows count row
@@ -56,7 +56,7 @@ module _ {t : List ℕ} {n count : ℕ} {rows : List (List ℕ)} {chains : List 
   other : (r : ℕ) → ¬ (r ≡ count) → getD more r [] ≡ getD rows r []
   other r k = getD-set-other rows count r row [] k
 
-  wide : (r : ℕ) → r < 400 → length (getD more r []) ≡ 5
+  wide : (r : ℕ) → r < 400 → length (getD more r []) ≡ 6
   wide r k = elim (ℕ-discrete r count) [ yes e ↦ rw (e, here) | no e ↦ rw (other r e) (g .wide r k) ]
 
   groups : (r : ℕ) → r < count + 1 → GroupRow t n (getD more r [])

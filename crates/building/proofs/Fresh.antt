@@ -20,7 +20,8 @@ use Rattle.canonical.proofs.Registering.{register-step}
 use Rattle.sorting.specs.Slots.{wordAt, Slot, wordsFrom}
 use Rattle.building.specs.Register.{Words, previous}
 use Rattle.building.specs.Walking.{freshAll, freshTo}
-use Rattle.building.proofs.Runs.{word-length, in-order}
+use Rattle.building.proofs.Words.{word-length}
+use Rattle.building.proofs.Runs.{in-order}
 use Rattle.building.proofs.Common.{common-begins}
 
 -- ---- the prefixes of a word, one by one

@@ -1,4 +1,5 @@
 pub mod Words
+pub mod Marks
 pub mod CommonLetters
 pub mod Rests
 pub mod Chains

@@ -1,5 +1,5 @@
 -- What follows a prefix, compared letter by letter and word by word; and nodes by it: those of another number of words,
--- or of another longest continuation, differ. Assumes nothing.
+-- of another longest continuation, or of another mark, differ. Assumes nothing.
 use Prim.Native.Nat.{ℕ, suc, _+_, _*_, _-_, _≤_, _<_}
 use mathlib.Core.Path.{_≡_, refl, sym, ap, _∙_}
 use mathlib.Core.Bool.{Bool, true, false, _&&_, false≢true}
@@ -19,10 +19,11 @@ use Rattle.canonical.specs.Groups.{begins}
 use Rattle.canonical.specs.Nodes.{Node, sameWords, sameNode}
 use Rattle.canonical.proofs.Nodes.{node-eq}
 use Rattle.sorting.specs.Slots.{wordAt, Slot}
-use Rattle.building.specs.Register.{Words, Group, GroupRow, restsFrom, nodeAt, rowNode}
-use Rattle.building.specs.Register.{firstOf, manyOf, depthOf, longestOf}
+use Rattle.building.specs.Register.{Words, Group, GroupRow, restsFrom, marksOf, nodeAt, rowNode}
+use Rattle.building.specs.Register.{firstOf, manyOf, depthOf, longestOf, markOf}
 use Rattle.building.specs.Finding.{Lettered}
 use Rattle.building.proofs.Words.{word-length, rest-length, rest-letter, length-rests, longest-low}
+use Rattle.building.proofs.Marks.{marks-low}
 
 -- a test that cannot hold
 refuted : (b : Bool) → (b ≡ true → ⊥) → b ≡ false
@@ -147,10 +148,11 @@ module _ (t : List ℕ) (i m d j n e : ℕ) where
   nodes-many k = apart
       (λ q. k (sym (length-rests t d i m) ∙ ap (λ (a : Node). length (a .rest)) q ∙ length-rests t e j n))
 
-  pub nodes-longest : ¬ (longest (restsFrom t d i m) ≡ longest (restsFrom t e j n))
+  -- by any number that their continuations have
+  pub nodes-number : (f : List (List ℕ) → ℕ) → ¬ (f (restsFrom t d i m) ≡ f (restsFrom t e j n))
       → sameNode (nodeAt t i m d) (nodeAt t j n e) ≡ false
   unfolding nodeAt
-  nodes-longest k = apart (λ q. k (ap (λ (a : Node). longest (a .rest)) q))
+  nodes-number f k = apart (λ q. k (ap (λ (a : Node). f (a .rest)) q))
 
   pub nodes-rests : getD t (33 * i + d) 0 ≡ getD t (33 * j + e) 0
       → sameNode (nodeAt t i m d) (nodeAt t j n e) ≡ sameWords (restsFrom t d i m) (restsFrom t e j n)
@@ -170,7 +172,7 @@ begins-long (a ∷ p) [] h = absurd (false≢true h)
 begins-long (a ∷ p) (b ∷ w) h = omega (arith, begins-long p w (and-out (eqb a b) (begins p w) h .1))
 
 -- the words of a group stand in the table, and have its letters
-pub group-lettered : {t : List ℕ} {n i m d high : ℕ} → Words t n → Group t n i m d high → Lettered t i m d
+pub group-lettered : {t : List ℕ} {n i m d high mark : ℕ} → Words t n → Group t n i m d high mark → Lettered t i m d
 group-lettered {t} {n} {i} {m} {d} w g =
     let r = g .reach in
     let inside = r .inside in
@@ -191,17 +193,31 @@ group-lettered {t} {n} {i} {m} {d} w g =
     }
 
 -- its numbers are small
-pub group-small : {t : List ℕ} {n i m d high : ℕ} → Words t n → Group t n i m d high
-    → (i ≤ 2000) × (m ≤ 2000) × (d ≤ 32) × (high ≤ 32)
+pub group-small : {t : List ℕ} {n i m d high mark : ℕ} → Words t n → Group t n i m d high mark
+    → (i ≤ 2000) × (m ≤ 2000) × (d ≤ 32) × (high ≤ 32) × (mark < 65536)
 group-small {t} {n} {i} {m} {d} w g =
     let inside = g .reach .inside in
     let one = g .reach .one in
     let few = w .few in
+    let deep = w .holds i (omega arith) .short in
     let low = longest-low t d i m (λ k p q. w .holds k (omega arith)) in
-    (omega arith, omega arith, omega (arith, w .holds i (omega arith) .short, g .letters), omega (arith, low, g .high))
+    let small = marks-low 0 (restsFrom t d i m) (omega arith) in (
+      omega arith,
+      omega arith,
+      omega (arith, deep, g .letters),
+      omega (arith, low, g .high),
+      omega (arith, small, g .marked),
+    )
 
 -- the node of a row beside that of a group
-module _ {t : List ℕ} {n : ℕ} (row : List ℕ) {i m d high : ℕ} (r : GroupRow t n row) (g : Group t n i m d high) where
+module _ {t : List ℕ} {n : ℕ} (row : List ℕ) {i m d high mark : ℕ} (r : GroupRow t n row)
+    (g : Group t n i m d high mark) where
+  pub other-mark : ¬ (markOf row ≡ mark) → false ≡ sameNode (rowNode t row) (nodeAt t i m d)
+  unfolding rowNode
+  other-mark k =
+      sym (nodes-number t (firstOf row) (manyOf row) (depthOf row) i m d (marksOf 0)
+      (λ e. k (r .marked ∙ e ∙ sym (g .marked))))
+
   pub other-many : ¬ (manyOf row ≡ m) → false ≡ sameNode (rowNode t row) (nodeAt t i m d)
   unfolding rowNode
   other-many k = sym (nodes-many t (firstOf row) (manyOf row) (depthOf row) i m d k)
@@ -209,7 +225,8 @@ module _ {t : List ℕ} {n : ℕ} (row : List ℕ) {i m d high : ℕ} (r : Group
   pub other-longest : ¬ (longestOf row ≡ high) → false ≡ sameNode (rowNode t row) (nodeAt t i m d)
   unfolding rowNode
   other-longest k =
-      sym (nodes-longest t (firstOf row) (manyOf row) (depthOf row) i m d (λ e. k (r .high ∙ e ∙ sym (g .high))))
+      sym (nodes-number t (firstOf row) (manyOf row) (depthOf row) i m d longest
+      (λ e. k (r .high ∙ e ∙ sym (g .high))))
 
   -- of the same letter and the same number of words
   pub same-letters : rowNode t row .letter ≡ getD t (33 * i + d) 0 → manyOf row ≡ m

@@ -3,57 +3,24 @@
 -- all. Assumes nothing.
 use Prim.Native.Nat.{ℕ, zero, suc, _+_, _*_, _-_, _≤_, _<_}
 use mathlib.Core.Path.{_≡_, refl, sym, ap, _∙_}
-use mathlib.Core.Logic.{⊎-elim}
 use mathlib.Core.Bool.{true, false}
-use mathlib.Core.List.{List, [], _∷_, _++_, map, List·Memᴰ as In, List·Memᴰ·cases-cons as cases}
-use mathlib.Core.List.{List·Memᴰ·not-nil as not-nil}
-use native.Mathlib.Nat.{add-zero, zero-add}
+use mathlib.Core.List.{List, [], _∷_, _++_, map}
+use native.Mathlib.Nat.{zero-add}
 use native.Mathlib.Decide.{ℕ-discrete}
 use native.Mathlib.Omega.{arith}
-use lib.ListN.{length, getD, take, drop, length-take, length-drop}
-use lib.Seq.{getD-take, getD-drop}
+use lib.ListN.{length, getD, take, drop, length-take}
 use Rattle.endian.proofs.Pairs.{next, pairs-at}
 use Rattle.canonical.specs.Dictionary.{precedes, continuations}
-use Rattle.canonical.specs.Nodes.{node, lastLetter, nodeOf}
+use Rattle.canonical.specs.Nodes.{lastLetter, nodeOf}
 use Rattle.canonical.specs.Groups.{begins}
 use Rattle.canonical.proofs.Order.{Before}
 use Rattle.canonical.proofs.Sorting.{Sorted, order-sorted}
 use Rattle.canonical.proofs.Groups.{none-before, none-after, run}
-use Rattle.sorting.specs.Slots.{wordAt, Slot, wordsFrom}
+use Rattle.sorting.specs.Slots.{wordAt, wordsFrom}
 use Rattle.building.specs.Register.{Words, previous, restsFrom, nodeAt, Group}
+use Rattle.building.proofs.Words.{word-length, letter-at, words-length, words-at, words-out, words-split}
 
--- ---- the words of a table, by place
-
-pub words-length : (t : List ℕ) (i n : ℕ) → length (wordsFrom t i n) ≡ n
-unfolding wordsFrom
-words-length t i zero = refl
-words-length t i (suc n) = ap suc (words-length t (suc i) n)
-
-pub words-at : (t : List ℕ) (i n k : ℕ) → k < n → getD (wordsFrom t i n) k [] ≡ wordAt t (i + k)
-unfolding wordsFrom
-words-at t i zero k h = absurd (omega arith)
-words-at t i (suc n) zero h = ap (wordAt t) (sym (add-zero i))
-words-at t i (suc n) (suc k) h =
-    let e : suc i + k ≡ i + suc k = omega arith in
-    words-at t (suc i) n k (omega arith) ∙ ap (wordAt t) e
-
--- a word among them
-pub words-out : (t : List ℕ) {w : List ℕ} (i n : ℕ) → In w (wordsFrom t i n)
-    → (k : ℕ) × (i ≤ k) × (k < i + n) × (w ≡ wordAt t k)
-unfolding wordsFrom
-words-out t i zero m = absurd (not-nil m)
-words-out t {w} i (suc n) m = ⊎-elim
-    (λ e. (i, omega arith, omega arith, e))
-    (λ k. let r = words-out t (suc i) n k in (r .0, omega (arith, r .1), omega (arith, r .2), r .3))
-    (cases m)
-
-pub words-split : (t : List ℕ) (i m n : ℕ) → wordsFrom t i (m + n) ≡ wordsFrom t i m ++ wordsFrom t (i + m) n
-unfolding wordsFrom
-words-split t i zero n = let e : zero + n ≡ n = omega arith in let f : i + zero ≡ i = omega arith in rw (e, f)
-words-split t i (suc m) n =
-    let e : suc m + n ≡ suc (m + n) = omega arith in
-    let f : i + suc m ≡ suc i + m = omega arith in
-    rw (e, f) (ap (λ l. wordAt t i ∷ l) (words-split t (suc i) m n))
+-- ---- what follows a prefix
 
 rests-map : (t : List ℕ) (d i n : ℕ) → map (drop d) (wordsFrom t i n) ≡ restsFrom t d i n
 unfolding wordsFrom restsFrom
@@ -68,21 +35,6 @@ last-take d [] h = absurd (omega arith)
 last-take zero (a ∷ w) h = refl
 last-take (suc d) (a ∷ []) h = absurd (omega arith)
 last-take (suc d) (a ∷ b ∷ w) h = last-take d (b ∷ w) (omega arith)
-
-pub word-length : {t : List ℕ} {i : ℕ} → Slot t i → length (wordAt t i) ≡ getD t (33 * i) 0
-unfolding wordAt
-word-length {t} {i} s =
-    let a = s .room in
-    let b = s .short in
-    omega (arith, length-take (getD t (33 * i) 0) (drop (33 * i + 1) t), length-drop (33 * i + 1) t)
-
-letter-at : (t : List ℕ) (i d : ℕ) → d < getD t (33 * i) 0 → getD (wordAt t i) d 0 ≡ getD t (33 * i + suc d) 0
-unfolding wordAt
-letter-at t i d h =
-    let e : 33 * i + 1 + d ≡ 33 * i + suc d = omega arith in
-    getD-take (getD t (33 * i) 0) (drop (33 * i + 1) t) d 0 h
-    ∙ getD-drop (33 * i + 1) t d 0
-    ∙ ap (λ k. getD t k 0) e
 
 -- ---- the words in order
 
@@ -118,7 +70,7 @@ module _ {t : List ℕ} {n : ℕ} (w : Words t n) where
 
 -- ---- the run of a prefix
 
-module _ {t : List ℕ} {N i n d top : ℕ} (w : Words t N) (g : Group t N i n d top) where
+module _ {t : List ℕ} {N i n d top mark : ℕ} (w : Words t N) (g : Group t N i n d top mark) where
   inside : i < N
   inside = omega (arith, g .reach .inside, g .reach .one)
 

@@ -19,7 +19,8 @@ use Rattle.building.specs.Register.{nodeIn, registered, Register, Chaine
 use Rattle.building.specs.Register.{known, added, full}
 use Rattle.building.specs.Walking.{freshAll, freshTo, ahead, within, Walked, Walking}
 use Rattle.building.proofs.Common.{common-most, common-short}
-use Rattle.building.proofs.Runs.{words-out, previous-of, letters-of, in-order, ordered, run-node}
+use Rattle.building.proofs.Words.{words-out}
+use Rattle.building.proofs.Runs.{previous-of, letters-of, in-order, ordered, run-node}
 use Rattle.building.proofs.Fresh.{to-next, to-none, all-next, all-none, all-reached, longest-row}
 use Rattle.building.proofs.PassedRuns.{run-passed}
 use Rattle.building.proofs.Registered.{registered-in, registered-more, unknown-next, unknown-length}
@@ -41,7 +42,7 @@ module _ {t : List ℕ} {n : ℕ} {shared : List ℕ} (w : Words t n) (s : Share
       )
 
   -- words of a group that are not its first share its letters
-  alike : {f m d top : ℕ} → Group t n f m d top → (k : ℕ) → f < k → k < f + m → d ≤ getD shared k 0
+  alike : {f m d top mark : ℕ} → Group t n f m d top mark → (k : ℕ) → f < k → k < f + m → d ≤ getD shared k 0
   alike {f} {m} {d} g zero h l = absurd (omega arith)
   alike {f} {m} {d} g (suc k) h l =
       let inside = g .reach .inside in
@@ -128,7 +129,7 @@ module _ {t : List ℕ} {n : ℕ} {shared : List ℕ} (w : Words t n) (s : Share
 
     -- ---- a letter more
 
-    module _ (long : d < getD t (33 * i) 0) {m top : ℕ} (g : Group t n i m (d + 1) top) where
+    module _ (long : d < getD t (33 * i) 0) {m top mark : ℕ} (g : Group t n i m (d + 1) top mark) where
       abbrev x : Node
       x = nodeOf (wordsFrom t 0 n) (take (d + 1) (wordAt t i))
 

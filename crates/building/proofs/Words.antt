@@ -1,14 +1,14 @@
--- Words in slots: their lengths and letters by the bytes of the table, and what follows a prefix in a run of them, word
--- by word. Assumes nothing.
+-- Words in slots: their lengths and letters by the bytes of the table, so that slots with the same bytes hold the same
+-- word, and what follows a prefix in a run of them, word by word. Assumes nothing.
 use Prim.Native.Nat.{ℕ, zero, suc, _+_, _*_, _-_, _≤_, _<_, max}
-use mathlib.Core.Path.{_≡_, refl, sym, ap, _∙_}
+use mathlib.Core.Path.{_≡_, refl, sym, ap, ap₂, _∙_}
 use mathlib.Core.Logic.{⊎-elim}
 use mathlib.Core.List.{List, [], _∷_, _++_}
 use mathlib.Core.List.{List·Memᴰ as In, List·Memᴰ·cases-cons as cases, List·Memᴰ·not-nil as not-nil}
-use native.Mathlib.Nat.{add-zero}
+use native.Mathlib.Nat.{add-zero, add-assoc}
 use native.Mathlib.Omega.{arith}
-use lib.ListN.{length, getD, drop, length-take, length-drop}
-use lib.Seq.{getD-take, getD-drop}
+use lib.ListN.{length, getD, take, drop, length-take, length-drop}
+use lib.Seq.{getD-take, getD-drop, ext-getD}
 use Rattle.canonical.specs.Dictionary.{longest}
 use Rattle.sorting.specs.Slots.{wordAt, Slot, wordsFrom}
 use Rattle.building.specs.Register.{restsFrom}
@@ -22,10 +22,10 @@ word-length {t} {i} s =
     let b = s .short in
     omega (arith, length-take (getD t (33 * i) 0) (drop (33 * i + 1) t), length-drop (33 * i + 1) t)
 
-pub letter-at : (t : List ℕ) (i d : ℕ) → d < getD t (33 * i) 0 → getD (wordAt t i) d 0 ≡ getD t (33 * i + (d + 1)) 0
+pub letter-at : (t : List ℕ) (i d : ℕ) → d < getD t (33 * i) 0 → getD (wordAt t i) d 0 ≡ getD t (33 * i + suc d) 0
 unfolding wordAt
 letter-at t i d h =
-    let e : 33 * i + 1 + d ≡ 33 * i + (d + 1) = omega arith in
+    let e : 33 * i + 1 + d ≡ 33 * i + suc d = omega arith in
     getD-take (getD t (33 * i) 0) (drop (33 * i + 1) t) d 0 h
     ∙ getD-drop (33 * i + 1) t d 0
     ∙ ap (λ k. getD t k 0) e
@@ -37,7 +37,7 @@ rest-length {t} {i} s d = length-drop d (wordAt t i) ∙ ap (λ n. n - d) (word-
 pub rest-letter : (t : List ℕ) (i d k : ℕ) → d + k < getD t (33 * i) 0
     → getD (drop d (wordAt t i)) k 0 ≡ getD t (33 * i + 1 + d + k) 0
 rest-letter t i d k h =
-    let e : 33 * i + (d + k + 1) ≡ 33 * i + 1 + d + k = omega arith in
+    let e : 33 * i + suc (d + k) ≡ 33 * i + 1 + d + k = omega arith in
     getD-drop d (wordAt t i) k 0 ∙ letter-at t i (d + k) h ∙ ap (λ j. getD t j 0) e
 
 -- ---- the words of a table, by place
@@ -72,6 +72,50 @@ words-split t i (suc m) n =
     let e : suc m + n ≡ suc (m + n) = omega arith in
     let f : i + suc m ≡ suc i + m = omega arith in
     rw (e, f) (ap (λ l. wordAt t i ∷ l) (words-split t (suc i) m n))
+
+pub words-same : (t u : List ℕ) (i j m : ℕ) → ((k : ℕ) → k < m → wordAt u (i + k) ≡ wordAt t (j + k))
+    → wordsFrom u i m ≡ wordsFrom t j m
+unfolding wordsFrom
+words-same t u i j zero h = refl
+words-same t u i j (suc m) h =
+    ap₂ _∷_ (ap (wordAt u) (sym (add-zero i)) ∙ h 0 (omega arith) ∙ ap (wordAt t) (add-zero j))
+    (words-same t u (suc i) (suc j) m
+    (λ k l. let e : suc i + k ≡ i + suc k = omega arith in
+    let f : suc j + k ≡ j + suc k = omega arith in
+    ap (wordAt u) e ∙ h (suc k) (omega arith) ∙ ap (wordAt t) (sym f)))
+
+-- ---- slots with the same bytes hold the same word
+
+module _ (t u : List ℕ) (i j : ℕ) (same : (b : ℕ) → b < 33 → getD u (33 * i + b) 0 ≡ getD t (33 * j + b) 0) where
+  same-size : getD u (33 * i) 0 ≡ getD t (33 * j) 0
+  same-size =
+      ap (λ k. getD u k 0) (sym (add-zero (33 * i)))
+      ∙ same 0 (omega arith)
+      ∙ ap (λ k. getD t k 0) (add-zero (33 * j))
+
+  module _ (s : Slot t j) (room : 33 * i + 33 ≤ length u) where
+    pub slot-same : Slot u i
+    slot-same = record { room = room; short = let a = s .short in omega (arith, same-size) }
+
+    pub word-same : wordAt u i ≡ wordAt t j
+    unfolding wordAt
+    word-same =
+        let a = s .room in
+        let b = s .short in
+        let n = getD t (33 * j) 0 in
+        let left = take n (drop (33 * i + 1) u) in
+        let right = take n (drop (33 * j + 1) t) in
+        let p : length left ≡ n = omega (arith, length-take n (drop (33 * i + 1) u), length-drop (33 * i + 1) u) in
+        let q : length right ≡ n = omega (arith, length-take n (drop (33 * j + 1) t), length-drop (33 * j + 1) t) in
+        ap (λ k. take k (drop (33 * i + 1) u)) same-size
+        ∙ ext-getD 0 left right (p ∙ sym q)
+        (λ k h. getD-take n (drop (33 * i + 1) u) k 0 (omega arith)
+        ∙ getD-drop (33 * i + 1) u k 0
+        ∙ ap (λ m. getD u m 0) (add-assoc (33 * i) 1 k)
+        ∙ same (1 + k) (omega arith)
+        ∙ ap (λ m. getD t m 0) (sym (add-assoc (33 * j) 1 k))
+        ∙ sym (getD-drop (33 * j + 1) t k 0)
+        ∙ sym (getD-take n (drop (33 * j + 1) t) k 0 (omega arith)))
 
 -- ---- what follows a prefix in a run of words
 

@@ -1,4 +1,5 @@
--- What the code that makes a canonical image works with, and what it leaves. No public contract cites it. Assumes nothing.
+-- What the code that makes a canonical image works with, and what it leaves. No public contract cites it. Assumes
+-- nothing.
 use Prim.Native.Nat.{ℕ, _<_}
 use mathlib.Core.Path.{_≡_}
 use mathlib.Core.List.{List, [], _∷_, _++_, List·Memᴰ}

@@ -1,4 +1,5 @@
 pub mod Register
+pub mod Marking
 pub mod Finding
 pub mod Walking
 pub mod Building

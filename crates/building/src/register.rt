@@ -48,15 +48,18 @@ fn same_rests(words: &[u8], i: usize, d: usize, j: usize, e: usize, n: usize) ->
     true
 }
 
-// Whether the node of a row is that of a group with the same letter: another number of words, or another longest
-// continuation, tells that it is not before any word is looked at.
-fn is_node(words: &[u8], n: usize, row: &[u16; 5], a: Group) -> bool
+// Whether the node of a row is that of a group with the same letter: another mark, another number of words, or another
+// longest continuation, tells that it is not before any word is looked at.
+fn is_node(words: &[u8], n: usize, row: &[u16; 6], a: Group) -> bool
     requires { ⌜ Words (now words) n × GroupRow (now words) n (now row) ⌝ }
-    requires { ⌜ WordGroup (now words) n (a .first) (a .many) (a .depth) (a .longest) ⌝ }
+    requires { ⌜ WordGroup (now words) n (a .first) (a .many) (a .depth) (a .longest) (a .mark) ⌝ }
     requires { ⌜ rowNode (now words) (now row) .letter ≡ getD (now words) (33 * a .first + a .depth) 0 ⌝ }
     ensures { λ r. ⌜ r ≡ sameNode (rowNode (now (words .entry)) (now (row .entry)))
         (nodeAt (now (words .entry)) (a .first) (a .many) (a .depth)) ⌝ }
 {
+    if row[5] as usize != a.mark {
+        return false;
+    }
     let many = row[1] as usize;
     if many != a.many {
         return false;
@@ -79,7 +82,7 @@ fn is_node(words: &[u8], n: usize, row: &[u16; 5], a: Group) -> bool
 fn find(
     words: &[u8],
     n: usize,
-    rows: &[[u16; 5]; 400],
+    rows: &[[u16; 6]; 400],
     chains: &[u16; 256],
     count: usize,
     letter: u8,
@@ -87,7 +90,7 @@ fn find(
 ) -> usize
     requires { ⌜ Words (now words) n × Register (now words) n (now rows) count ⌝ }
     requires { ⌜ Chained (now words) (now rows) (now chains) count ⌝ }
-    requires { ⌜ WordGroup (now words) n (a .first) (a .many) (a .depth) (a .longest) ⌝ }
+    requires { ⌜ WordGroup (now words) n (a .first) (a .many) (a .depth) (a .longest) (a .mark) ⌝ }
     requires { ⌜ letter ≡ getD (now words) (33 * a .first + a .depth) 0 ⌝ }
     ensures { λ r. ⌜ Found (now (words .entry)) (now (rows .entry)) count
         (nodeAt (now (words .entry)) (a .first) (a .many) (a .depth)) r ⌝ }
@@ -104,19 +107,21 @@ fn find(
 }
 
 // Puts the row of a group behind count rows, and at the head of the chain of its letter.
-fn append(rows: &mut [[u16; 5]; 400], chains: &mut [u16; 256], count: usize, letter: u8, a: Group)
-    requires { ⌜ (count < 400) × (a .first ≤ 2000) × (a .many ≤ 2000) × (a .depth ≤ 32) × (a .longest ≤ 32) ⌝ }
+fn append(rows: &mut [[u16; 6]; 400], chains: &mut [u16; 256], count: usize, letter: u8, a: Group)
+    requires { ⌜ (count < 400) × (a .first ≤ 2000) × (a .many ≤ 2000) × (a .depth ≤ 32) × (a .longest ≤ 32)
+        × (a .mark < 65536) ⌝ }
     ensures { λ _. ⌜ now (rows .exit) ≡ set (now (rows .entry)) count
-        (a .first ∷ a .many ∷ a .depth ∷ a .longest ∷ getD (now (chains .entry)) letter 0 ∷ []) ⌝ }
+        (a .first ∷ a .many ∷ a .depth ∷ a .longest ∷ getD (now (chains .entry)) letter 0 ∷ a .mark ∷ []) ⌝ }
     ensures { λ _. ⌜ now (chains .exit) ≡ set (now (chains .entry)) letter (count + 1) ⌝ }
 {
     let chain = letter as usize;
-    let mut row = [0; 5];
+    let mut row = [0; 6];
     row[0] = a.first as u16;
     row[1] = a.many as u16;
     row[2] = a.depth as u16;
     row[3] = a.longest as u16;
     row[4] = chains[chain];
+    row[5] = a.mark as u16;
     rows[count] = row;
     chains[chain] = (count + 1) as u16;
 }
@@ -126,14 +131,14 @@ fn append(rows: &mut [[u16; 5]; 400], chains: &mut [u16; 256], count: usize, let
 pub(crate) fn enter(
     words: &[u8],
     n: usize,
-    rows: &mut [[u16; 5]; 400],
+    rows: &mut [[u16; 6]; 400],
     chains: &mut [u16; 256],
     count: usize,
     a: Group,
 ) -> usize
     requires { ⌜ Words (now words) n × Register (now words) n (now rows) count ⌝ }
     requires { ⌜ Chained (now words) (now rows) (now chains) count ⌝ }
-    requires { ⌜ WordGroup (now words) n (a .first) (a .many) (a .depth) (a .longest) ⌝ }
+    requires { ⌜ WordGroup (now words) n (a .first) (a .many) (a .depth) (a .longest) (a .mark) ⌝ }
     ensures { λ r. ⌜ Entered (now (words .entry)) n (now (rows .entry)) count (a .first) (a .many) (a .depth)
         (now (rows .exit)) (now (chains .exit)) r ⌝ }
 {

@@ -6,13 +6,14 @@ ghost use Rattle.canonical.specs.Groups.{common};
 ghost use Rattle.sorting.specs.Slots.{wordAt, Holds};
 ghost use Rattle.building.specs.Register.{Words, Shared, Group as WordGroup, previous};
 
-// The words with the first depth letters of the word in slot first, which is the first of them, and the letters of the
-// longest continuation.
+// The words with the first depth letters of the word in slot first, which is the first of them, the letters of the
+// longest continuation, and the mark of the continuations.
 pub(crate) struct Group {
     pub first: usize,
     pub many: usize,
     pub depth: usize,
     pub longest: usize,
+    pub mark: usize,
 }
 
 fn lesser(a: u8, b: u8) -> u8
@@ -72,15 +73,17 @@ pub(crate) fn group_of(words: &[u8], shared: &[u8], n: usize, i: usize, d: usize
     requires { ⌜ Words (now words) n × Shared (now words) n (now shared) ⌝ }
     requires { ⌜ (i < n) × (getD (now shared) i 0 < d) × (d ≤ getD (now words) (33 * i) 0) ⌝ }
     ensures { λ r. ⌜ (r .first ≡ i) × (r .depth ≡ d)
-        × WordGroup (now (words .entry)) n i (r .many) d (r .longest) ⌝ }
+        × WordGroup (now (words .entry)) n i (r .many) d (r .longest) (r .mark) ⌝ }
 {
     let mut letters = words[33 * i];
+    let mut mark = words[33 * (2001 + i) + d] as usize;
     let mut k = i + 1;
     while k < n {
         if (shared[k] as usize) < d {
             break;
         }
         letters = greater(letters, words[33 * k]);
+        mark = (91 * mark + words[33 * (2001 + k) + d] as usize) % 65536;
         k += 1;
     }
     Group {
@@ -88,5 +91,6 @@ pub(crate) fn group_of(words: &[u8], shared: &[u8], n: usize, i: usize, d: usize
         many: k - i,
         depth: d,
         longest: letters as usize - d,
+        mark,
     }
 }

@@ -43,7 +43,7 @@ append-requires c κs =
     let e = c .before .before in
     let s = e .before .before .before .before .before .before .before .before .before in
     let h = group-small (s .pre .0 .0) (s .pre .1 .1) in
-    (e .if2 .left, h .0, h .1, h .2, h .3)
+    (e .if2 .left, h .0, h .1, h .2, h .3, h .4)
 
 returns-3 : tie.Need-returns-3
 returns-3 c =

@@ -1,12 +1,28 @@
--- `register::is_node` meets its contract: nodes with other numbers of continuations, or another longest one, differ,
--- and else the continuations decide. Assumes nothing.
+-- `register::is_node` meets its contract: nodes with another mark of their continuations, another number of them, or
+-- another longest one, differ, and else the continuations decide. Assumes nothing.
 use mathlib.Core.Path.{sym, subst}
 use native.Mathlib.Omega.{arith}
 use Rattle.building.specs.Finding.{Lettered}
-use Rattle.building.proofs.Rests.{group-lettered, group-small, other-many, other-longest, same-letters}
+use Rattle.building.proofs.Rests.{group-lettered, group-small, other-mark, other-many, other-longest}
+use Rattle.building.proofs.Rests.{same-letters}
 use borrow.Author.Needs.{needs}
 use Rattle.building.proofs.register.is_node.Statement.{statement}
 use Rattle.building.proofs.register.is_node.Tie as tie
+
+element-copy-out-if1 : tie.Need-element-copy-out-if1
+element-copy-out-if1 c = search needs
+
+cast-if1 : tie.Need-cast-if1
+cast-if1 c = let s = c .before .before in omega (arith, group-small (s .pre .0 .0) (s .pre .0 .1) .4)
+
+returns : tie.Need-returns
+returns c =
+    let s = c .before .before .before .before in
+    other-mark (s .args .row .now) (s .pre .0 .1) (s .pre .1 .0) (c .if1 .taken)
+
+-- where the marks are the same
+abbrev start : tie.Else1 → tie.Start
+start e = e .before .before .before .before
 
 element-copy-out-many : tie.Need-element-copy-out-many
 element-copy-out-many c = search needs
@@ -14,23 +30,23 @@ element-copy-out-many c = search needs
 cast-many : tie.Need-cast-many
 cast-many c = search needs
 
-returns : tie.Need-returns
-returns c =
-    let s = c .before .before .before .before in
-    other-many (s .args .row .now) (s .pre .0 .1) (s .pre .1 .0) (c .if1 .taken)
+returns-2 : tie.Need-returns-2
+returns-2 c =
+    let s = start (c .before .before .before) in
+    other-many (s .args .row .now) (s .pre .0 .1) (s .pre .1 .0) (c .if2 .taken)
 
 element-copy-out-longest : tie.Need-element-copy-out-longest
 element-copy-out-longest c = search needs
 
 cast-longest : tie.Need-cast-longest
 cast-longest c =
-    let s = c .before .before .before .before .before in
+    let s = start (c .before .before .before .before) in
     omega (arith, group-small (s .pre .0 .0) (s .pre .0 .1) .3)
 
-returns-2 : tie.Need-returns-2
-returns-2 c =
-    let s = c .before .before .before .before .before .before .before in
-    other-longest (s .args .row .now) (s .pre .0 .1) (s .pre .1 .0) (c .if2 .taken)
+returns-3 : tie.Need-returns-3
+returns-3 c =
+    let s = start (c .before .before .before .before .before .before) in
+    other-longest (s .args .row .now) (s .pre .0 .1) (s .pre .1 .0) (c .if3 .taken)
 
 element-copy-out-same-rests : tie.Need-element-copy-out-same-rests
 element-copy-out-same-rests c = search needs
@@ -43,38 +59,41 @@ element-copy-out-same-rests-2 c = search needs
 
 cast-same-rests-2 : tie.Need-cast-same-rests-2
 cast-same-rests-2 c =
-    let s = c .before .before .before .before .before .before .before .before .before in
+    let s = start (c .before .before .before .before .before .before .before .before) in
     omega (arith, group-small (s .pre .0 .0) (s .pre .0 .1) .2)
 
 same-rests-requires : tie.Need-same-rests-requires
 same-rests-requires c κs =
     let e = c .before .before .before .before .before in
-    let s = e .before .before .before .before in
+    let s = start (e .before .before .before) in
     let a = s .args .a in
     let g = group-lettered (s .pre .0 .0) (s .pre .1 .0) in
-    let h = subst (λ m. Lettered (s .args .words .now) (a .first) m (a .depth)) (sym (e .if1 .left)) g in
+    let h = subst (λ m. Lettered (s .args .words .now) (a .first) m (a .depth)) (sym (e .if2 .left)) g in
     (group-lettered (s .pre .0 .0) (s .pre .0 .1), h)
 
-returns-3 : tie.Need-returns-3
-returns-3 c =
+returns-4 : tie.Need-returns-4
+returns-4 c =
     let e = c .before .before .before .before .before .before in
-    let s = e .before .before .before .before in
-    same-letters (s .args .row .now) (s .pre .0 .1) (s .pre .1 .0) (s .pre .1 .1) (e .if1 .left)
+    let s = start (e .before .before .before) in
+    same-letters (s .args .row .now) (s .pre .0 .1) (s .pre .1 .0) (s .pre .1 .1) (e .if2 .left)
     (c .same-rests .ensures)
 
 pub is-node-spec : {M : Type 1} → statement M
 is-node-spec =
     tie.close
     (tie.spec
+    element-copy-out-if1
+    cast-if1
+    returns
     element-copy-out-many
     cast-many
-    returns
+    returns-2
     element-copy-out-longest
     cast-longest
-    returns-2
+    returns-3
     element-copy-out-same-rests
     cast-same-rests
     element-copy-out-same-rests-2
     cast-same-rests-2
     same-rests-requires
-    returns-3)
+    returns-4)

@@ -74,7 +74,7 @@ group : (c : tie.After-group-of Inv-loop μ-loop) →
     let l = c .before .before in
     let a = start l .args in
     let r = c .group-of .result in
-    Group (a .words .now) (a .n) (a .i) (r .many) (l .loop .d + 1) (r .longest)
+    Group (a .words .now) (a .n) (a .i) (r .many) (l .loop .d + 1) (r .longest) (r .mark)
 group c = c .group-of .ensures .2
 
 enter-requires : tie.Need-enter-requires Inv-loop μ-loop
