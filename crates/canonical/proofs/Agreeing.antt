@@ -16,11 +16,11 @@ use Rattle.graph.specs.Words.{letterWords}
 use Rattle.image.proofs.Same.{Agree}
 
 module _ {g h : Graph} (a : Agree g h) where
-  same-sink : sink h ≡ sink g
+  pub same-sink : sink h ≡ sink g
   unfolding sink
   same-sink = ap suc (a .nodes)
 
-  same-letters : (p : List ℕ) → pathLetters h p ≡ pathLetters g p
+  pub same-letters : (p : List ℕ) → pathLetters h p ≡ pathLetters g p
   unfolding pathLetters select isNode
   same-letters [] = refl
   same-letters (n ∷ p) = rw (a .nodes) (go (ltb 0 n && leb n (g .nodes)) refl (rw (a .nodes) at (same-letters p)))

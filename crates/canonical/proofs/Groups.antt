@@ -154,7 +154,7 @@ fresh-sorted y (w ∷ ws) (next r (next o p)) =
     (fresh-new w ws (next o p) j))
 
 -- no prefix is empty, and the empty word begins with none
-empty : (w : List ℕ) → In [] (prefixesOf w) → ⊥
+pub empty : (w : List ℕ) → In [] (prefixesOf w) → ⊥
 unfolding precedes
 empty w m = false≢true (lettered w m)
 

@@ -15,5 +15,12 @@ pub mod Groups
 pub mod Registering
 pub mod Arcs
 pub mod PassedOver
+pub mod Reaching
+pub mod Numbering
+pub mod Carried
+pub mod Sentences
+pub mod Print
 pub mod Theorems
+pub mod Call
+pub mod Refusing
 pub mod Rows

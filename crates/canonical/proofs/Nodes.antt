@@ -26,7 +26,7 @@ use Rattle.canonical.proofs.Continuations.{rest-in, rest-out, rest-next
 
 -- ---- the test of two nodes
 
-words-eq : (l m : List (List ℕ)) → sameWords l m ≡ true → l ≡ m
+pub words-eq : (l m : List (List ℕ)) → sameWords l m ≡ true → l ≡ m
 unfolding sameWords
 words-eq [] [] h = refl
 words-eq [] (b ∷ m) h = absurd (false≢true h)
@@ -34,7 +34,7 @@ words-eq (a ∷ l) [] h = absurd (false≢true h)
 words-eq (a ∷ l) (b ∷ m) h =
     let u = and-out (same a b) (sameWords l m) h in rw (same-eq a b (u .0), words-eq l m (u .1))
 
-words-refl : (l : List (List ℕ)) → sameWords l l ≡ true
+pub words-refl : (l : List (List ℕ)) → sameWords l l ≡ true
 unfolding sameWords
 words-refl [] = refl
 words-refl (a ∷ l) = and-in (same-refl a) (words-refl l)
@@ -72,13 +72,17 @@ distinct-out (a ∷ ns) m =
 abbrev pub Apart : Node → Node → Type 0
 Apart m n = ¬ (m ≡ n)
 
+-- behind a node stands none that is the same
+pub not-same : (a : Node) {n : Node} (ns : List Node) → In n (select (λ o. not (sameNode a o)) ns) → Apart a n
+not-same a {n} ns m e =
+    true≢false
+    (sym (node-same a n e) ∙ not-true (sameNode a n) (select-out (λ o. not (sameNode a o)) ns m .1))
+
 distinct-apart : (ns : List Node) → Pairs Apart (distinct ns)
 unfolding distinct
 distinct-apart [] = none
 distinct-apart (a ∷ ns) =
-    next
-    (λ b m e. true≢false
-    (sym (node-same a b e) ∙ not-true (sameNode a b) (select-out (λ o. not (sameNode a o)) (distinct ns) m .1)))
+    next (λ b m. not-same a (distinct ns) m)
     (pairs-select (λ o. not (sameNode a o)) (distinct-apart ns))
 
 -- ---- prefixes
@@ -168,7 +172,7 @@ unfolding downFrom
 down-out zero m = absurd (not-nil m)
 down-out (suc n) m = elim (cases m) [ inl e ↦ omega arith | inr k ↦ omega (arith, down-out n k) ]
 
-down-falls : (n : ℕ) → Pairs (λ a b. b < a) (downFrom n)
+pub down-falls : (n : ℕ) → Pairs (λ a b. b < a) (downFrom n)
 unfolding downFrom
 down-falls zero = none
 down-falls (suc n) = next (λ b m. down-out n m) (down-falls n)
@@ -176,7 +180,7 @@ down-falls (suc n) = next (λ b m. down-out n m) (down-falls n)
 abbrev height : Node → ℕ
 height n = longest (n .rest)
 
-level-out : (ws : List (List ℕ)) {h : ℕ} {n : Node} → In n (level ws h) → In n (reached ws) × (height n ≡ h)
+pub level-out : (ws : List (List ℕ)) {h : ℕ} {n : Node} → In n (level ws h) → In n (reached ws) × (height n ≡ h)
 unfolding level
 level-out ws {h} {n} m =
     let u = select-out (λ n. eqb (longest (n .rest)) h) (reached ws) m in (u .0, eqb-true (height n) h (u .1))

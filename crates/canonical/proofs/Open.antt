@@ -1,5 +1,5 @@
--- Every definition of this crate's specs/, open: a computed example names `everything` on its `unfolding` line in place of
--- them all. Assumes nothing.
+-- Every definition of this crate's specs/, open: a computed example names `everything` on its `unfolding` line in place
+-- of them all. Assumes nothing.
 use Rattle.canonical.specs.Dictionary.{precedes, insert, inOrder, prefixesOf}
 use Rattle.canonical.specs.Dictionary.{prefixes, after, continuations, longest}
 use Rattle.canonical.specs.Nodes.{sameWords, sameNode, lastLetter, nodeOf}

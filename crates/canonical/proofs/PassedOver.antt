@@ -104,14 +104,14 @@ module _ (ws : List (List ℕ)) where
 
   -- ---- prefixes are what has continuations
 
-  prefix-some : {x : List ℕ} → In x (prefixes ws) → 1 ≤ length (continuations x ws)
+  pub prefix-some : {x : List ℕ} → In x (prefixes ws) → 1 ≤ length (continuations x ws)
   unfolding prefixes
   prefix-some {x} m =
       let f = of-flatMap prefixesOf ws (order-out (flatMap prefixesOf ws) m) in
       let s = begins-split x (f .0) (prefix-begins (f .0) (f .2)) in
       mem-some (rest-in x (subst (λ w. In w ws) (s .1) (f .1)))
 
-  some-prefix : (a : ℕ) (x : List ℕ) → 1 ≤ length (continuations (a ∷ x) ws) → In (a ∷ x) (prefixes ws)
+  pub some-prefix : (a : ℕ) (x : List ℕ) → 1 ≤ length (continuations (a ∷ x) ws) → In (a ∷ x) (prefixes ws)
   unfolding prefixes
   some-prefix a x h =
       let w = some-mem (continuations (a ∷ x) ws) h in

@@ -1,14 +1,14 @@
--- In dictionary order a word's place is the number of words before it, and no word stands twice. Words that stand once
--- are as many that pass a test before they are put into order as behind it, so a rank can be counted in either list.
--- Assumes nothing.
+-- In dictionary order a word's place is the number of words before it, and no word stands twice. A sum over words that
+-- stand once is the same before they are put into order and behind it, so a rank, the words and their letters can be
+-- counted in either list. Assumes nothing.
 use Prim.Native.Nat.{ℕ, zero, suc, _+_, _<_}
 use mathlib.Core.Path.{_≡_, refl, sym, ap, _∙_}
 use mathlib.Core.Bool.{Bool, true, false, cond, true≢false}
-use mathlib.Core.List.{List, [], _∷_, List·Memᴰ as In, List·Memᴰ·head as here, List·Memᴰ·tail as there}
+use mathlib.Core.List.{List, [], _∷_, map, List·Memᴰ as In, List·Memᴰ·head as here, List·Memᴰ·tail as there}
 use native.Mathlib.Decide.{decLt}
 use native.Mathlib.Omega.{arith}
 use lib.ListN.{length, getD}
-use Rattle.endian.specs.Lists.{select, hasList, repeats, any}
+use Rattle.endian.specs.Lists.{sum, select, hasList, repeats, any}
 use Rattle.endian.proofs.Booleans.{or-none}
 use Rattle.endian.proofs.Lists.{mem-getD, mem-hasList, repeats-places}
 use Rattle.endian.proofs.Pairs.{none, next, pairs-at}
@@ -49,51 +49,49 @@ unfolding any
 none-in p [] h = refl
 none-in p (a ∷ l) h = rw (h a (here refl)) (none-in p l (λ b m. h b (there m)))
 
--- ---- in order or not, the same words pass a test
+-- ---- in order or not, the same sums over the words
 
-module _ (p : List ℕ → Bool) where
-  select-more : (w : List ℕ) (l : List (List ℕ)) → length (select p (w ∷ l)) ≡ cond (p w) 1 0 + length (select p l)
-  unfolding select
-  select-more w l = go (p w)
+module _ (f : List ℕ → ℕ) where
+  insert-sum : (w : List ℕ) (ws : List (List ℕ)) → ¬ In w ws → sum (map f (insert w ws)) ≡ f w + sum (map f ws)
+  unfolding insert sum
+  insert-sum w [] n = refl
+  insert-sum w (y ∷ ws) n = go (inserted w y ws) (insert-sum w ws (λ m. n (there m)))
     where
-      go : (t : Bool) → length (cond t (w ∷ select p l) (select p l)) ≡ cond t 1 0 + length (select p l)
-      go true = omega arith
-      go false = omega arith
-
-  insert-count : (w : List ℕ) (ws : List (List ℕ)) → ¬ In w ws
-      → length (select p (insert w ws)) ≡ length (select p (w ∷ ws))
-  unfolding insert
-  insert-count w [] n = refl
-  insert-count w (y ∷ ws) n = go (inserted w y ws) (insert-count w ws (λ m. n (there m)))
-    where
-      go : {l : List (List ℕ)} → Inserted w y ws l → length (select p (insert w ws)) ≡ length (select p (w ∷ ws))
-          → length (select p l) ≡ length (select p (w ∷ y ∷ ws))
+      go : {l : List (List ℕ)} → Inserted w y ws l → sum (map f (insert w ws)) ≡ f w + sum (map f ws)
+          → sum (map f l) ≡ f w + (f y + sum (map f ws))
       go (ahead h) ih = refl
       go (found e) ih = absurd (n (here e))
-      go (later h) ih =
-          omega (
-            arith,
-            ih,
-            select-more y (insert w ws),
-            select-more w ws,
-            select-more w (y ∷ ws),
-            select-more y ws,
-          )
+      go (later h) ih = omega arith
 
-  pub order-count : (l : List (List ℕ)) → repeats l ≡ false → length (select p (inOrder l)) ≡ length (select p l)
-  unfolding inOrder repeats
-  order-count [] h = refl
-  order-count (w ∷ l) h =
+  pub order-sum : (l : List (List ℕ)) → repeats l ≡ false → sum (map f (inOrder l)) ≡ sum (map f l)
+  unfolding inOrder repeats sum
+  order-sum [] h = refl
+  order-sum (w ∷ l) h =
       let r = or-none (hasList w l) (repeats l) h in
       let n : ¬ In w l = λ m. true≢false (sym (mem-hasList m) ∙ r .0) in
-      omega (
-        arith,
-        insert-count w (inOrder l) (λ m. n (order-out l m)),
-        select-more w (inOrder l),
-        select-more w l,
-        order-count l (r .1),
-      )
+      omega (arith, insert-sum w (inOrder l) (λ m. n (order-out l m)), order-sum l (r .1))
+
+-- so the words that pass a test are as many, and so are all
+selected : (p : List ℕ → Bool) (l : List (List ℕ)) → length (select p l) ≡ sum (map (λ w. cond (p w) 1 0) l)
+unfolding select sum
+selected p [] = refl
+selected p (w ∷ l) = go (p w) (selected p l)
+  where
+    go : (t : Bool) → length (select p l) ≡ sum (map (λ y. cond (p y) 1 0) l)
+        → length (cond t (w ∷ select p l) (select p l)) ≡ cond t 1 0 + sum (map (λ y. cond (p y) 1 0) l)
+    go true e = omega arith
+    go false e = omega arith
+
+each-counts : (l : List (List ℕ)) → sum (map (λ w. 1) l) ≡ length l
+unfolding sum
+each-counts [] = refl
+each-counts (w ∷ l) = omega (arith, each-counts l)
 
 pub rank-order : (w : List ℕ) (l : List (List ℕ)) → repeats l ≡ false → rank w (inOrder l) ≡ rank w l
 unfolding rank
-rank-order w l h = order-count (λ y. precedes y w) l h
+rank-order w l h =
+    let p : List ℕ → Bool = λ y. precedes y w in
+    selected p (inOrder l) ∙ order-sum (λ y. cond (p y) 1 0) l h ∙ sym (selected p l)
+
+pub order-length : (l : List (List ℕ)) → repeats l ≡ false → length (inOrder l) ≡ length l
+order-length l h = sym (each-counts (inOrder l)) ∙ order-sum (λ w. 1) l h ∙ each-counts l

@@ -1,5 +1,5 @@
--- More laws of a relation between every two elements of a list: of what a test selects, under a map, and of members
--- that are all related. Assumes nothing.
+-- More laws of a relation between every two elements of a list: of what a test selects, under a map, and of what holds
+-- of the members. Assumes nothing.
 use mathlib.Core.Path.{refl}
 use mathlib.Core.Bool.{Bool}
 use mathlib.Core.List.{List, [], _∷_, _++_, map, List·Memᴰ as In, List·Memᴰ·head as here}
@@ -22,6 +22,13 @@ module _ {A : Type 0} {R : A → A → Type 0} where
   pairs-of-members [] h = none
   pairs-of-members (a ∷ l) h =
       next (λ b m. h a b (here refl) (there m)) (pairs-of-members l (λ x y i j. h x y (there i) (there j)))
+
+  -- a relation that follows for members
+  pub pairs-follow : {S : A → A → Type 0} {l : List A} → Pairs R l
+      → ((a b : A) → In a l → In b l → R a b → S a b) → Pairs S l
+  pairs-follow none h = none
+  pairs-follow (next {a} {l} r q) h =
+      next (λ b m. h a b (here refl) (there m) (r b m)) (pairs-follow q (λ x y i j. h x y (there i) (there j)))
 
   -- what stands behind an element
   pub pairs-behind : (l : List A) (s : A) (m : List A) → Pairs R (l ++ s ∷ m) → (a : A) → In a l → R a s

@@ -13,11 +13,10 @@ use Rattle.endian.proofs.Lists.{flatMap-append, flatMap-cong, flatMap-map, map-
 use Rattle.graph.specs.Graph.{Graph, sink, ways, fullPaths, wordCount, isNode, pathLetters}
 use Rattle.graph.proofs.Sound.{is-node, sink-no-node}
 use Rattle.graph.proofs.Codes.{length-fullPaths}
-use Rattle.canonical.specs.Dictionary.{after}
-use Rattle.canonical.specs.Nodes.{Node, nodes, restOf, letterOf, nextLetters, nextVertex, arcsOf, canonicalGraph}
+use Rattle.canonical.specs.Nodes.{nodes, restOf, nextLetters, nextVertex, arcsOf, canonicalGraph}
 use Rattle.graph.specs.Words.{letterWords}
 use Rattle.canonical.proofs.Continuations.{branch, grouped}
-use Rattle.canonical.proofs.Vertices.{WordList, next-vertex, next-rises-above, vertex-sorted, vertex-below}
+use Rattle.canonical.proofs.Vertices.{WordList, Led, led, vertex-sorted, vertex-below}
 
 map-flatMap : {A B C : Type 0} (f : B → C) (g : A → List B) (l : List A)
     → map f (flatMap g l) ≡ flatMap (λ a. map f (g a)) l
@@ -43,6 +42,14 @@ module _ (g : Graph) where
   pub letters-root : (p : List ℕ) → pathLetters g (0 ∷ p) ≡ pathLetters g p
   unfolding pathLetters select isNode
   letters-root p = refl
+
+-- in the canonical graph, of a path that goes on by a letter
+pub letters-led : (L : ℕ) {ws : List (List ℕ)} {u a s : ℕ} → Led ws u a s → (p : List ℕ)
+    → pathLetters (canonicalGraph L ws) (s ∷ p) ≡ a ∷ pathLetters (canonicalGraph L ws) p
+unfolding canonicalGraph sink
+letters-led L {ws} t p =
+    letters-node (canonicalGraph L ws) p (omega (arith, t .above)) (omega (arith, t .inside))
+    ∙ ap (λ b. b ∷ pathLetters (canonicalGraph L ws) p) (t .letter)
 
 module _ {L : ℕ} {ws : List (List ℕ)} (ok : WordList L ws) where
   -- the graph
@@ -72,18 +79,13 @@ module _ {L : ℕ} {ws : List (List ℕ)} (ok : WordList L ws) where
   by-letter : (d u a : ℕ) → u ≤ length (nodes ws) → In a (nextLetters L (restOf ws u))
       → ((s : ℕ) → u < s → s ≤ length (nodes ws) → spelt d s ≡ restOf ws s)
       → map (pathLetters g) (by d (nextVertex ws (restOf ws u) a)) ≡ branch L (restOf ws u) a
-  unfolding canonicalGraph sink letterOf restOf
   by-letter d u a h m ih =
-      let t = next-vertex ok u a h m in
+      let t = led ok u a h m in
       let s = nextVertex ws (restOf ws u) a in
-      let low : s ≤ length (nodes ws) = omega (arith, t .is, t .inside) in
-      let letter : letterOf ws s ≡ a = ap (letterOf ws) (t .is) ∙ ap (λ (n : Node). n .letter) (t .holds) in
-      let rest : restOf ws s ≡ after a (restOf ws u) = ap (restOf ws) (t .is) ∙ ap (λ (n : Node). n .rest) (t .holds) in
       map-map (pathLetters g) (λ p. s ∷ p) (ways g d s)
-      ∙ map-cong _ (λ p. a ∷ pathLetters g p) (ways g d s)
-      (λ p i. letters-node g p (omega (arith, t .is)) (omega arith) ∙ ap (λ b. b ∷ pathLetters g p) letter)
+      ∙ map-cong _ (λ p. a ∷ pathLetters g p) (ways g d s) (λ p i. letters-led L t p)
       ∙ sym (map-map (λ w. a ∷ w) (pathLetters g) (ways g d s))
-      ∙ ap (map (λ w. a ∷ w)) (ih s (next-rises-above ok u a h m) low ∙ rest)
+      ∙ ap (map (λ w. a ∷ w)) (ih s (t .above) (t .inside) ∙ t .rest)
 
   pub ways-spell : (d u : ℕ) → u ≤ length (nodes ws) → length (nodes ws) < u + d → spelt d u ≡ restOf ws u
   unfolding ways canonicalGraph sink arcsOf flatMap

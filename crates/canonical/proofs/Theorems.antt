@@ -16,7 +16,8 @@ use Rattle.graph.proofs.Accepted.{AcceptedImages, accepted}
 use Rattle.graph.specs.Words.{letterWords}
 use Rattle.graph.specs.Conditions.{sameLetters}
 use Rattle.canonical.specs.Canonical.{sortedWords, canonicalImage, wordsImage, wordListRows}
-use Rattle.canonical.specs.Theorems.{Spells, SameWords, Listable, rank, OneImage, CanonicalTheorems, CanonicalImages}
+use Rattle.canonical.specs.Theorems.{Spells, SameWords, Listable, rank, OneImage, CanonicalTheorems}
+use Rattle.canonical.specs.Theorems.{CanonicalImages}
 use Rattle.canonical.proofs.Sorting.{order-out, order-in, order-same}
 use Rattle.canonical.proofs.Ranks.{rank-order}
 use Rattle.canonical.proofs.Vertices.{WordList}

@@ -18,7 +18,7 @@ use Rattle.graph.specs.Graph.{sink}
 use Rattle.graph.proofs.Sound.{Sound}
 use Rattle.image.proofs.ArcCount.{Preceded}
 use Rattle.canonical.specs.Dictionary.{after, continuations, longest}
-use Rattle.canonical.specs.Nodes.{Node, node, nodes, placeOf, restOf, nextLetters}
+use Rattle.canonical.specs.Nodes.{Node, node, nodes, placeOf, restOf, letterOf, nextLetters}
 use Rattle.canonical.specs.Nodes.{nextVertex, arcsOf, canonicalGraph}
 use Rattle.canonical.proofs.Related.{pairs-map, pairs-behind}
 use Rattle.canonical.proofs.Sorting.{Sorted}
@@ -46,6 +46,13 @@ behind (a ∷ p) = inr (⊎-elim
     (λ c. (a ∷ c .0, c .1, ap (λ l. a ∷ l) (c .2)))
     (behind p))
 
+-- letter a leads from vertex u to node s
+pub record Led (ws : List (List ℕ)) (u a s : ℕ) : Type 0 where
+  pub above : u < s
+  pub inside : s ≤ length (nodes ws)
+  pub letter : letterOf ws s ≡ a
+  pub rest : restOf ws s ≡ after a (restOf ws u)
+
 module _ {L : ℕ} {ws : List (List ℕ)} (ok : WordList L ws) where
   -- the node of a vertex
   pub vertex-node : (i : ℕ) → i < length (nodes ws) → Reached ws (getD (nodes ws) i noNode)
@@ -66,7 +73,7 @@ module _ {L : ℕ} {ws : List (List ℕ)} (ok : WordList L ws) where
   pub vertex-below : (u : ℕ) → u ≤ length (nodes ws) → Below L (restOf ws u)
   vertex-below u h = let p = vertex-rest u h in rw (p .1) (below-rest (p .0) (ok .below))
 
-  vertex-some : (u : ℕ) → u ≤ length (nodes ws) → 1 ≤ length (restOf ws u)
+  pub vertex-some : (u : ℕ) → u ≤ length (nodes ws) → 1 ≤ length (restOf ws u)
   unfolding restOf
   vertex-some zero h = ok .some
   vertex-some (suc i) h = vertex-node i (omega arith) .some
@@ -123,6 +130,18 @@ module _ {L : ℕ} {ws : List (List ℕ)} (ok : WordList L ws) where
         ]
       ]
 
+  pub led : (u a : ℕ) → u ≤ length (nodes ws) → In a (nextLetters L (restOf ws u))
+      → Led ws u a (nextVertex ws (restOf ws u) a)
+  unfolding letterOf restOf
+  led u a h m =
+      let t = next-vertex u a h m in
+      record {
+        above = next-rises-above u a h m;
+        inside = omega (arith, t .is, t .inside);
+        letter = ap (letterOf ws) (t .is) ∙ ap (λ (n : Node). n .letter) (t .holds);
+        rest = ap (restOf ws) (t .is) ∙ ap (λ (n : Node). n .rest) (t .holds);
+      }
+
   -- ---- the successors of a vertex
 
   -- s is the sink and a word ends at u, or a letter leads there
@@ -139,7 +158,7 @@ module _ {L : ℕ} {ws : List (List ℕ)} (ok : WordList L ws) where
       by-letter (t .0) (t .1) (sym (t .2)))
       (append-cases (cond (hasList [] (restOf ws u)) (suc (length (nodes ws)) ∷ []) []) m)
 
-  letter-leads : (u : ℕ) {a : ℕ} → In a (nextLetters L (restOf ws u))
+  pub letter-leads : (u : ℕ) {a : ℕ} → In a (nextLetters L (restOf ws u))
       → In (nextVertex ws (restOf ws u) a) (arcsOf L ws (restOf ws u))
   unfolding arcsOf
   letter-leads u m =

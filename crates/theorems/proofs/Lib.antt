@@ -1,1 +1,2 @@
+pub mod CodeRanks
 pub mod Main

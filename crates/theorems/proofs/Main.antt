@@ -1,8 +1,9 @@
 -- The main theorems: each demand of the customer and each promise of the README, as a statement whose proof cites its
 -- law. They speak of the definitions that the contracts name: a call answers its `..Answer`, and leaves its `..Out` in
--- the output and its `..Work` in the work space. v is a voice model, x a lexicon, g its graph; out and work are what
--- output and work space held before the call. That a call reads and writes nothing else, and keeps the length of what
--- it is lent, is no statement here: the checker proves it of every function. Assumes nothing.
+-- the output and its `..Work` in the work space; one that is lent a further work space leaves its `..Further` in that.
+-- v is a voice model, x a lexicon, g its graph; out, work and further are what output, work space and further work
+-- space held before the call. That a call reads and writes nothing else, and keeps the length of what it is lent, is no
+-- statement here: the checker proves it of every function. Assumes nothing.
 use Prim.Native.Nat.{ℕ, suc, _+_, _*_, _%_, _-_, _^_, _≤_, _<_}
 use mathlib.Core.Path.{_≡_, refl, _∙_}
 use mathlib.Core.Bool.{true}
@@ -12,10 +13,10 @@ use mathlib.Core.Option.{some}
 use lib.IntN.{ℤ, pos, natAbs, _-ℤ_, _*ℤ_}
 use lib.Signed.{_≤ℤ_}
 use lib.ListN.{length, take, getD}
-use Rattle.endian.specs.Lists.{from, isNone}
+use Rattle.endian.specs.Lists.{from, sum, isNone}
 use Rattle.endian.specs.Bytes.{Bytes, i16, u32Bytes}
-use Rattle.call.specs.declared.Refusal.the-variants.{Frames}
-use Rattle.call.specs.Table.{value, on, numbers, AnswersBy}
+use Rattle.call.specs.declared.Refusal.the-variants.{Frames, WordList, CanonicalImage}
+use Rattle.call.specs.Table.{value, refused, on, numbers, AnswersBy}
 use Rattle.call.specs.Limits.{badFrameCount}
 use Rattle.call.specs.Buffers.{Clears, ClearsBoth, Writes}
 use Rattle.call.proofs.Table.{answers-by}
@@ -23,7 +24,8 @@ use Rattle.call.proofs.Buffers.{clears, clears-both, writes}
 use Rattle.voice.specs.Voice.{letterCount, linksAt, linkCount}
 use Rattle.voice.proofs.Theorems.{links-are-by-letter}
 use Rattle.graph.specs.Graph.{Graph, graphOf, FullPath, fullPaths, wordCount, pathCode, pathLetters}
-use Rattle.graph.specs.Words.{letterWords, LexiconWord, pathOfWord, codeOf, wordOfCode}
+use Rattle.graph.specs.Words.{letterWords, spelled, LexiconWord, pathOfWord, codeOf, wordOfCode}
+use Rattle.graph.specs.Conditions.{placeCount}
 use Rattle.graph.specs.Checking.{Accepted, firstRows, checkAnswer, checkWork}
 use Rattle.graph.proofs.Accepted.{accepted as images}
 use Rattle.graph.proofs.Theorems.{path-theorems, check-numbers}
@@ -39,11 +41,16 @@ use Rattle.codes.specs.Lookup.{listing, listRows, listAnswer, listOut, listWork
 use Rattle.codes.proofs.Rows.{word-to-code-numbers, code-to-word-numbers, list-numbers}
 use Rattle.codes.specs.Theorems.{WordComesBack, CodeComesBack}
 use Rattle.codes.proofs.Theorems.{code-theorems, word-comes-back, code-comes-back}
-use Rattle.canonical.specs.Canonical.{canonicalImage, canonicalRows, canonicalAnswer, canonicalOut}
-use Rattle.canonical.specs.Canonical.{canonicalWork, canonicalFurther}
-use Rattle.canonical.specs.Theorems.{SameWords, Listable, rank}
+use Rattle.canonical.specs.Canonical.{sortedWords, wordsGraph, canonicalImage, canonicalRows, canonicalAnswer}
+use Rattle.canonical.specs.Canonical.{canonicalOut, canonicalWork, canonicalFurther}
+use Rattle.canonical.specs.Theorems.{SameWords, Listable, rank, ArcsFollow, Answered, CanonicalGraph}
 use Rattle.canonical.proofs.Rows.{canonical-numbers}
 use Rattle.canonical.proofs.Theorems.{one-image, canonical-images}
+use Rattle.canonical.proofs.Call.{call-answers, equal-bytes}
+use Rattle.canonical.proofs.Refusing.{lists-refused}
+use Rattle.canonical.proofs.ArcLimit.{never-by-arcs}
+use Rattle.canonical.proofs.Sentences.{canonical-graphs}
+use Rattle.canonical.proofs.Print.{same-in-print}
 use Rattle.ranking.specs.Hits.{Hit, hitBytes, hitsRead}
 use Rattle.ranking.specs.Mean.{mean, meanAnswer}
 use Rattle.ranking.proofs.Hits.{length-read}
@@ -59,6 +66,7 @@ use Rattle.passing.specs.Tokens.{decoded}
 use Rattle.passing.proofs.Theorems.{graph-decoding}
 use Rattle.report.specs.Report.{report}
 use Rattle.report.proofs.Theorems.{cut-reports-the-same}
+use Rattle.theorems.proofs.CodeRanks.{code-ranks}
 
 module _ (v x : List ℕ) where
   abbrev g : Graph
@@ -67,8 +75,8 @@ module _ (v x : List ℕ) where
   -- ---- Demand 1: any call, whatever it is given
 
   module _ (frames word work further out codes bytes : List ℕ) (n c W T : ℕ) (score : ℤ) where
-    -- A call (`check`, `word_to_code`, `code_to_word`, `list`, `decode`, `canonical`; `pack`, `unpack`, `width`, `mean`)
-    -- answers its value where no row of its table applies, else the first refusal that applies: with a lexicon,
+    -- A call (`check`, `word_to_code`, `code_to_word`, `list`, `decode`, `canonical`; `pack`, `unpack`, `width`,
+    -- `mean`) answers its value where no row of its table applies, else the first refusal that applies: with a lexicon,
     lexicon-calls-answer :
         AnswersBy (firstRows v x work) (wordCount g) (checkAnswer v x work)
         × AnswersBy (wordToCodeRows v x word work) (codeOf g (pathOfWord v g word)) (wordToCodeAnswer v x word work)
@@ -89,8 +97,8 @@ module _ (v x : List ℕ) where
     unfolding packAnswer unpackAnswer widthAnswer meanAnswer
     other-calls-answer = (answers-by, answers-by, answers-by, answers-by)
 
-    -- The order in which refusals are tested. In the tables of document 01 it rises, so the first refusal that applies is
-    -- the lowest; the canonical writer tests 17 and 18 directly after 10.
+    -- The order in which refusals are tested. In the tables of document 01 it rises, so the first refusal that applies
+    -- is the lowest; the canonical writer tests 17 and 18 directly after 10, and 16 after them.
     numbers-tested :
         (numbers (firstRows v x work) ≡ from 1 10)
         × (numbers (wordToCodeRows v x word work) ≡ from 1 10 ++ 13 ∷ [])
@@ -165,8 +173,8 @@ module _ (v x : List ℕ) where
         ↔ (Attains v (pathLetters g path) frames a × ((b : ℤ) → Attains v (pathLetters g path) frames b → b ≤ℤ a))
     true-score path frames = score-theorems v x frames path accepted .highest
 
-    -- Passing to the next letter takes the link of the letter that is left: with one link that one, else there are L, in
-    -- letter order.
+    -- Passing to the next letter takes the link of the letter that is left: with one link that one, else there are L,
+    -- in letter order.
     link-left : (word : List ℕ) (i s : ℕ) → letterAt word i < letterCount v
         → ((linkCount v ≡ 1) × (moveScore v word (spot i s) (spot (suc i) 0) ≡ i16 v (linksAt v + 1)))
         ⊎ ((linkCount v ≡ letterCount v)
@@ -220,21 +228,68 @@ calls-undo = (word-comes-back, code-comes-back)
 -- ---- One image for one list: lexicons that are accepted, with at most 2,000 words, 16,000 letters in all, and whose
 -- canonical image keeps the limits on nodes, arcs and places
 
--- Under one voice model, equal bytes if and only if they hold the same words.
+-- The call answers k exactly where the lexicon is such a one, both work spaces are long enough, and the k bytes of its
+-- canonical image fit into the output.
+canonical-answers : (v x work further out : List ℕ) (k : ℕ)
+    → (canonicalAnswer v x work further out ≡ value k) ↔ Answered v x work further out k
+canonical-answers = call-answers
+
+-- Under one voice model, two such calls write equal bytes if and only if their lexicons hold the same words,
+equal-calls : (v x y work further out work′ further′ out′ : List ℕ) (k k′ : ℕ)
+    → canonicalAnswer v x work further out ≡ value k → canonicalAnswer v y work′ further′ out′ ≡ value k′
+    → (take k (canonicalOut v x work further out) ≡ take k′ (canonicalOut v y work′ further′ out′)) ↔ SameWords x y
+equal-calls = equal-bytes
+
+-- and their images are equal exactly then.
 equal-images : (v x y : List ℕ) → Listable v x → Listable v y
     → (canonicalImage v x ≡ canonicalImage v y) ↔ SameWords x y
 equal-images = one-image
+
+-- The same words, by their letters: that is the same as by their print bytes.
+same-words-in-print : (v x y : List ℕ) → Accepted v x → Accepted v y
+    → SameWords x y ↔ ((word : List ℕ) → LexiconWord v (graphOf x) word ↔ LexiconWord v (graphOf y) word)
+same-words-in-print = same-in-print
+
+module _ (v x work further out : List ℕ) (accepted : Accepted v x) (space : 64000 ≤ length work)
+    (further-space : 262144 ≤ length further) where
+  -- 17 refuses an accepted lexicon exactly where it has over 2,000 words or 16,000 letters in all,
+  refused-17 : (canonicalAnswer v x work further out ≡ refused WordList)
+      ↔ ((2000 < wordCount (graphOf x)) ⊎ (16000 < sum (map length (letterWords (graphOf x)))))
+  refused-17 = lists-refused v x work further out accepted space further-space .long
+
+  -- and 18 exactly where 17 does not and its canonical graph has over 400 nodes or 1,000 places,
+  refused-18 : (canonicalAnswer v x work further out ≡ refused CanonicalImage)
+      ↔ ((¬ ((2000 < wordCount (graphOf x)) ⊎ (16000 < sum (map length (letterWords (graphOf x))))))
+      × ((400 < wordsGraph v (sortedWords (graphOf x)) .nodes)
+      ⊎ (1000 < placeCount v (wordsGraph v (sortedWords (graphOf x))))))
+  refused-18 = lists-refused v x work further out accepted space further-space .outside
+
+  -- since the limit on arcs decides nothing: arcs are no more than nodes and words together.
+  arcs-decide-nothing : ArcsFollow v (sortedWords (graphOf x))
+  arcs-decide-nothing = never-by-arcs v x accepted
 
 module _ (v x : List ℕ) (ok : Listable v x) where
   -- The canonical image is accepted, and neither 17 nor 18 refuses it; it holds the words of the lexicon.
   canonical-accepted : Listable v (canonicalImage v x) × SameWords x (canonicalImage v x)
   canonical-accepted = let t = canonical-images v x ok in (t .listable, t .same-words)
 
-  -- Codes in it are dictionary ranks: the number of words of the lexicon that stand before.
+  -- Its graph: two nodes are one if letter and set of continuations agree; a vertex that leads to the sink does so
+  -- first, then come its letters in rising index, each at most once; nodes are numbered by their longest continuation,
+  -- longest first, and equals by the dictionary-first prefix that reaches them.
+  canonical-sentences : CanonicalGraph (graphOf (canonicalImage v x))
+  canonical-sentences = canonical-graphs v x ok
+
+  -- Codes in it are dictionary ranks, the number of words of the lexicon that stand before: of its full paths,
   codes-are-ranks : (p : List ℕ) → FullPath (graphOf (canonicalImage v x)) p
       → pathCode (graphOf (canonicalImage v x)) p
       ≡ rank (pathLetters (graphOf (canonicalImage v x)) p) (letterWords (graphOf x))
   codes-are-ranks = canonical-images v x ok .ranks
+
+  -- and of the call word to code, for every word of the lexicon by its letters.
+  calls-answer-ranks : (letters work : List ℕ) → List·Memᴰ letters (letterWords (graphOf x)) → 64000 ≤ length work
+      → wordToCodeAnswer v (canonicalImage v x) (spelled v letters) work
+      ≡ value (rank letters (letterWords (graphOf x)))
+  calls-answer-ranks = code-ranks v x ok
 
   -- Its canonical image is itself.
   canonical-again : canonicalImage v (canonicalImage v x) ≡ canonicalImage v x
