@@ -11,3 +11,15 @@ pub mod PassedRuns
 pub mod Registered
 pub mod Linking
 pub mod Walking
+pub mod Selected
+pub mod Numbers
+pub mod Branches
+pub mod Arcs
+pub mod Behind
+pub mod Putting
+pub mod Partings
+pub mod Rows
+pub mod Images
+pub mod Vertex
+pub mod Limits
+pub mod Whole

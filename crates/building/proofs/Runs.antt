@@ -22,7 +22,7 @@ use Rattle.building.proofs.Words.{word-length, letter-at, words-length,
 
 -- ---- what follows a prefix
 
-rests-map : (t : List ℕ) (d i n : ℕ) → map (drop d) (wordsFrom t i n) ≡ restsFrom t d i n
+pub rests-map : (t : List ℕ) (d i n : ℕ) → map (drop d) (wordsFrom t i n) ≡ restsFrom t d i n
 unfolding wordsFrom restsFrom
 rests-map t d i zero = refl
 rests-map t d i (suc n) = ap (λ l. drop d (wordAt t i) ∷ l) (rests-map t d (suc i) n)
@@ -51,7 +51,7 @@ module _ {t : List ℕ} {n : ℕ} (w : Words t n) where
   pub letters-of : {i : ℕ} → i < n → length (wordAt t i) ≡ getD t (33 * i) 0
   letters-of {i} h = word-length (w .holds i h)
 
-  words-sorted : Sorted (wordsFrom t 0 n)
+  pub words-sorted : Sorted (wordsFrom t 0 n)
   words-sorted = rw (w .order) at (order-sorted (wordsFrom t 0 n))
 
   pub in-order : Sorted ([] ∷ wordsFrom t 0 n)

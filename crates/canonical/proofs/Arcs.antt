@@ -24,7 +24,7 @@ use Rattle.canonical.proofs.Continuations.{Below, some-mem, after-out, 
 use Rattle.canonical.proofs.Groups.{prefix-begins, begins-prefix}
 
 -- a prefix of one letter
-pub single : List ℕ → Bool
+unfoldable pub single : List ℕ → Bool
 single p = eqb (length p) 1
 
 single-is : (p : List ℕ) → length p ≡ 1 → p ≡ lastLetter p ∷ []
@@ -33,7 +33,7 @@ single-is [] e = absurd (omega arith)
 single-is (a ∷ []) e = refl
 single-is (a ∷ b ∷ p) e = absurd (omega arith)
 
-pub singles : List (List ℕ) → List (List ℕ)
+unfoldable pub singles : List (List ℕ) → List (List ℕ)
 singles ws = select single (prefixes ws)
 
 singles-out : {p : List ℕ} (ws : List (List ℕ)) → In p (singles ws) → In p (prefixes ws) × (p ≡ lastLetter p ∷ [])

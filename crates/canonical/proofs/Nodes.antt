@@ -78,7 +78,7 @@ not-same a {n} ns m e =
     true≢false
     (sym (node-same a n e) ∙ not-true (sameNode a n) (select-out (λ o. not (sameNode a o)) ns m .1))
 
-distinct-apart : (ns : List Node) → Pairs Apart (distinct ns)
+pub distinct-apart : (ns : List Node) → Pairs Apart (distinct ns)
 unfolding distinct
 distinct-apart [] = none
 distinct-apart (a ∷ ns) =
@@ -125,7 +125,7 @@ last-next [] a = refl
 last-next (b ∷ []) a = refl
 last-next (b ∷ c ∷ q) a = last-next (c ∷ q) a
 
-node-next : (ws : List (List ℕ)) (q : List ℕ) (a : ℕ) → nodeOf ws (q ++ a ∷ []) ≡ node a (after a (continuations q ws))
+pub node-next : (ws : List (List ℕ)) (q : List ℕ) (a : ℕ) → nodeOf ws (q ++ a ∷ []) ≡ node a (after a (continuations q ws))
 unfolding nodeOf
 node-next ws q a = let l = last-next q a in let r = rest-next q a ws in λ i. record { letter = l i; rest = r i }
 
@@ -137,7 +137,7 @@ pub record Reached (ws : List (List ℕ)) (n : Node) : Type 0 where
   pub follows : n .rest ≡ after (n .letter) (continuations start ws)
   pub some : 1 ≤ length (n .rest)
 
-reached-out : {ws : List (List ℕ)} {n : Node} → In n (reached ws) → Reached ws n
+pub reached-out : {ws : List (List ℕ)} {n : Node} → In n (reached ws) → Reached ws n
 unfolding reached prefixes
 reached-out {ws} {n} m =
     let t = Memᴰ·of-map (nodeOf ws) (prefixes ws) (distinct-out (map (nodeOf ws) (prefixes ws)) m) in
@@ -162,7 +162,7 @@ reached-in {ws} {n} r =
 
 -- ---- the row of nodes
 
-down-in : (n i : ℕ) → i < n → In i (downFrom n)
+pub down-in : (n i : ℕ) → i < n → In i (downFrom n)
 unfolding downFrom
 down-in zero i h = absurd (omega arith)
 down-in (suc n) i h = elim (ℕ-discrete i n) [ yes e ↦ here e | no d ↦ there (down-in n i (omega arith)) ]

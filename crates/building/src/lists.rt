@@ -1,0 +1,84 @@
+// The arcs of a vertex, by its row: the first word behind it, how many there are, how many of their letters stand
+// before it, and where its first arc leads. Another arc begins with each further word that parts from the word before
+// it there.
+ghost use mathlib.Core.Path.{_≡_};
+ghost use Prim.Native.Nat.{_+_, _≤_};
+ghost use lib.ListN.{length};
+ghost use Rattle.endian.specs.Bytes.{u16Bytes};
+ghost use Rattle.image.specs.Image.{listBytes};
+ghost use Rattle.building.specs.Arcs.{listOf, listLength, Spanned, Readable};
+ghost use Rattle.building.specs.Image.{Put};
+
+// The columns of a vertex's row.
+pub(crate) const FIRST: usize = 0;
+
+pub(crate) const MANY: usize = 1;
+
+pub(crate) const DEPTH: usize = 2;
+
+pub(crate) const HEAD: usize = 3;
+
+// Where the links of words begin.
+pub(crate) const WORD_LINKS: usize = 400;
+
+// Writes a number at an offset.
+pub(crate) fn put_number(out: &mut [u8], at: usize, n: u16)
+    requires { ⌜ at + 2 ≤ length (now out) ⌝ }
+    ensures { λ _. ⌜ Put (u16Bytes n) at (now (out .entry)) (now (out .exit)) (at + 2) ⌝ }
+{
+    out[at] = (n % 256) as u8;
+    out[at + 1] = (n / 256 % 256) as u8;
+}
+
+// How many arcs a vertex has.
+pub(crate) fn list_length(shared: &[u8], row: &[u16; 4]) -> usize
+    requires { ⌜ Spanned (now shared) (now row) ⌝ }
+    ensures { λ r. ⌜ r ≡ listLength (now (shared .entry)) (now (row .entry)) ⌝ }
+{
+    let stop = row[FIRST] as usize + row[MANY] as usize;
+    let depth = row[DEPTH];
+    let mut arcs = 1;
+    let mut i = row[FIRST] as usize + 1;
+    while i < stop {
+        if shared[i] as u16 == depth {
+            arcs += 1;
+        }
+        i += 1;
+    }
+    arcs
+}
+
+// Writes the list of a vertex from an offset on, its count last, since that is known last, and answers where it ends.
+pub(crate) fn put_list(
+    shared: &[u8],
+    links: &[u16; 2400],
+    numbers: &[u16; 400],
+    row: &[u16; 4],
+    out: &mut [u8],
+    at: usize,
+) -> usize
+    requires { ⌜ Readable (now shared) (now links) (now row) ⌝ }
+    requires { ⌜ at + length (listBytes (listOf (now shared) (now links) (now numbers) (now row)))
+        ≤ length (now out) ⌝ }
+    ensures { λ r. ⌜ Put (listBytes (listOf (now (shared .entry)) (now (links .entry)) (now (numbers .entry))
+        (now (row .entry)))) at (now (out .entry)) (now (out .exit)) r ⌝ }
+{
+    let stop = row[FIRST] as usize + row[MANY] as usize;
+    let depth = row[DEPTH];
+    let mut arcs = 1;
+    let mut i = row[FIRST] as usize + 1;
+    while i < stop {
+        if shared[i] as u16 == depth {
+            put_number(
+                out,
+                at + 2 + 2 * arcs,
+                numbers[links[WORD_LINKS + i] as usize],
+            );
+            arcs += 1;
+        }
+        i += 1;
+    }
+    put_number(out, at + 2, row[HEAD]);
+    put_number(out, at, arcs as u16);
+    at + 2 + 2 * arcs
+}
