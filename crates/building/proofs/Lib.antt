@@ -23,3 +23,5 @@ pub mod Images
 pub mod Vertex
 pub mod Limits
 pub mod Whole
+pub mod Calls
+pub mod Ready

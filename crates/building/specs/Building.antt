@@ -1,6 +1,6 @@
 -- What the code that makes a canonical image works with, and what it leaves. No public contract cites it. Assumes
 -- nothing.
-use Prim.Native.Nat.{ℕ, _<_}
+use Prim.Native.Nat.{ℕ, _≤_, _<_}
 use mathlib.Core.Path.{_≡_}
 use mathlib.Core.List.{List, [], _∷_, _++_, List·Memᴰ}
 use lib.ListN.{length}
@@ -12,9 +12,16 @@ use Rattle.voice.specs.Fields.{wellFormed}
 use Rattle.voice.specs.Voice.{letterCount, voiceVerdict}
 use Rattle.canonical.specs.Canonical.{wordsImage, outsideRows}
 use Rattle.sorting.specs.Slots.{wordsFrom}
-use Rattle.building.specs.Register.{Words}
+use Rattle.building.specs.Register.{Listed, Words}
 
--- the words of the table can be made into an image under the voice model: their letters are below L
+-- a table of words, of which there is one, whose letters are below L: what can be made into an image under the voice model
+pub record Given (v t : List ℕ) (n : ℕ) : Type 0 where
+  pub words : Listed t n
+  pub some : 1 ≤ n
+  pub voice : voiceVerdict v ≡ wellFormed
+  pub letters : (w : List ℕ) → List·Memᴰ w (wordsFrom t 0 n) → (a : ℕ) → List·Memᴰ a w → a < letterCount v
+
+-- the same once the marks are there
 pub record Buildable (v t : List ℕ) (n : ℕ) : Type 0 where
   pub words : Words t n
   pub voice : voiceVerdict v ≡ wellFormed

@@ -1,4 +1,21 @@
-// The nodes of a table of words in dictionary order, their numbers and their arcs, and the image that they make.
+// The nodes of a table of words in dictionary order, their numbers and their arcs, and the call that writes the canonical
+// image that they make: definitions in canonical/specs.
+ghost use mathlib.Core.Path.{_≡_};
+ghost use Prim.Native.Nat.{_≤_};
+ghost use lib.ListN.{length};
+ghost use Rattle.call.specs.Table.{answerOf};
+ghost use Rattle.canonical.specs.Canonical.{canonicalAnswer, canonicalOut, canonicalWork, canonicalFurther};
+ghost use Rattle.sorting.specs.Slots.{wordsFrom};
+ghost use Rattle.building.specs.Building.{Given, ImageAnswered};
+use crate::marking::mark_words;
+use crate::sharing::share;
+use crate::walk::walk_all;
+use crate::writing::build_image;
+use call::Answer;
+use call::Refusal;
+use call::zero;
+use sorting::word_table;
+
 mod lists;
 mod marking;
 mod numbering;
@@ -7,3 +24,62 @@ mod sharing;
 mod vertices;
 mod walk;
 mod writing;
+
+// The bytes of 2,000 words in their slots with the marks behind them, and of the letters that each shares with the word
+// before it.
+const TABLE: usize = 132033;
+const SHARED: usize = 2000;
+
+// The most nodes of an image.
+const NODES: usize = 400;
+
+// Writes the canonical image of the words in the table, or answers 18 or 16.
+fn build(voice: &[u8], words: &mut [u8], n: usize, shared: &mut [u8], out: &mut [u8]) -> Answer
+    requires { ⌜ Given (now voice) (now words) n ⌝ }
+    requires { ⌜ (132033 ≤ length (now words)) × (2000 ≤ length (now shared)) ⌝ }
+    ensures { λ r. ⌜ ImageAnswered (now (voice .entry)) (wordsFrom (now (words .entry)) 0 n) (answerOf r)
+        (now (out .entry)) (now (out .exit)) ⌝ }
+{
+    mark_words(words, n);
+    share(words, n, shared);
+    let mut rows = [[0u16; 6]; 400];
+    let mut chains = [0u16; 256];
+    let mut links = [0u16; 2400];
+    let count = walk_all(words, n, shared, &mut rows, &mut chains, &mut links);
+    if NODES < count {
+        return Answer::Refused(Refusal::CanonicalImage);
+    }
+    build_image(voice, words, n, shared, &rows, &links, count, out)
+}
+
+// Writes the canonical image of a lexicon, and answers the bytes written.
+pub fn canonical(
+    voice: &[u8],
+    lexicon: &[u8],
+    work: &mut [u8],
+    further: &mut [u8],
+    out: &mut [u8],
+) -> Answer
+    ensures { λ r. ⌜ answerOf r ≡ canonicalAnswer (now (voice .entry)) (now (lexicon .entry)) (now (work .entry))
+        (now (further .entry)) (now (out .entry)) ⌝ }
+    ensures { λ _. ⌜ now (work .exit) ≡ canonicalWork (now (work .entry)) (now (further .entry)) ⌝ }
+    ensures { λ _. ⌜ now (further .exit) ≡ canonicalFurther (now (work .entry)) (now (further .entry)) ⌝ }
+    ensures { λ _. ⌜ now (out .exit) ≡ canonicalOut (now (voice .entry)) (now (lexicon .entry)) (now (work .entry))
+        (now (further .entry)) (now (out .entry)) ⌝ }
+{
+    let listed = word_table(voice, lexicon, work, further);
+    let Answer::Value(n) = listed else {
+        return listed;
+    };
+    let answer = build(
+        voice,
+        &mut further[0..TABLE],
+        n as usize,
+        &mut work[0..SHARED],
+        out,
+    );
+    // all that was written there since the spaces were cleared
+    zero(&mut further[0..TABLE]);
+    zero(&mut work[0..SHARED]);
+    answer
+}

@@ -1,5 +1,5 @@
--- The words of an accepted lexicon in dictionary order, in slots of the further work space: what the code that makes a canonical image
--- begins with (document 02, 3/13). Assumes nothing.
+-- The words of an accepted lexicon in dictionary order, in slots of the further work space: what the code that makes a
+-- canonical image begins with (document 02, 3/13). Assumes nothing.
 use Prim.Native.Nat.{ℕ}
 use mathlib.Core.List.{List, _++_}
 use lib.ListN.{length}

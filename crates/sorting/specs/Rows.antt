@@ -1,5 +1,5 @@
--- Rows of slot numbers, two bytes each, that are sorted by the words in their slots: places 0 to 3,999 are the row, the 4,000 behind them a
--- spare one. No public contract cites them. Assumes nothing.
+-- Rows of slot numbers, two bytes each, that are sorted by the words in their slots: places 0 to 3,999 are the row, the
+-- 4,000 behind them a spare one. No public contract cites them. Assumes nothing.
 use Prim.Native.Nat.{ℕ, zero, suc, _+_, _*_, _-_, _≤_, _<_}
 use mathlib.Core.Path.{_≡_}
 use mathlib.Core.Logic.{_⊎_}
@@ -8,7 +8,7 @@ use mathlib.Core.List.{List, [], _∷_, _++_}
 use lib.ListN.{length, getD}
 use Rattle.endian.specs.Bytes.{u16}
 use Rattle.canonical.specs.Dictionary.{precedes, inOrder}
-use Rattle.sorting.specs.Slots.{wordAt, Slot, Holds, wordsFrom, Filled, Copied}
+use Rattle.sorting.specs.Slots.{wordAt, Slot, Holds, Padded, wordsFrom, Filled, Copied}
 
 -- the slot number at place k
 unfoldable pub numberAt : List ℕ → ℕ → ℕ
@@ -39,7 +39,8 @@ pub record Somewhere (r : List ℕ) (off lo hi v : ℕ) : Type 0 where
   pub high : place < hi
   pub number : numberAt r (off + place) ≡ v
 
--- the next number goes to place k of the spare row: from place i of the first run, or from place k + mid - i of the second
+-- the next number goes to place k of the spare row: from place i of the first run, or from place k + mid - i of the
+-- second
 pub data Taken (t r : List ℕ) (mid hi i k : ℕ) : ℕ → List ℕ → Type 0 where
   first : {u : List ℕ} → i < mid → (k + mid - i < hi → precedes (wordOf t r (k + mid - i)) (wordOf t r i) ≡ false)
       → NumberPut r (4000 + k) (numberAt r i) u → Taken t r mid hi i k (i + 1) u
@@ -87,15 +88,18 @@ New t r k = 1 ≤ k → precedes (wordOf t r (k - 1)) (wordOf t r k) ≡ true
 pub data LaidWord (t r : List ℕ) (q k : ℕ) : ℕ → List ℕ → Type 0 where
   known : 1 ≤ k → precedes (wordOf t r (k - 1)) (wordOf t r k) ≡ false → LaidWord t r q k q t
   over : New t r k → 2000 ≤ q → LaidWord t r q k (q + 1) t
-  laid : {slot u : List ℕ} → New t r k → q < 2000 → Copied t (33 * numberAt r k) 33 slot → Filled t (33 * q) slot 33 u → LaidWord t r q k (q + 1) u
+  laid : {slot u : List ℕ} → New t r k → q < 2000 → Copied t (33 * numberAt r k) 33 slot → Filled t (33 * q) slot 33 u
+      → LaidWord t r q k (q + 1) u
 
--- the words of the first k places, q different ones, stand from slot 0 on in dictionary order, if they are at most 2,000
+-- the words of the first k places, q different ones, stand from slot 0 on in dictionary order, if they are at most
+-- 2,000
 pub record LaidOut (t r : List ℕ) (k q : ℕ) (u : List ℕ) : Type 0 where
   pub long : length u ≡ length t
   pub far : (b : ℕ) → 66033 ≤ b → getD u b 0 ≡ getD t b 0
   pub many : q ≡ length (inOrder (rowWords t r k))
   pub holds : q ≤ 2000 → Holds u q
   pub words : q ≤ 2000 → wordsFrom u 0 q ≡ inOrder (rowWords t r k)
+  pub padded : q ≤ 2000 → ((p : ℕ) → p < k → Padded t (numberAt r p)) → (i : ℕ) → i < q → Padded u i
 
 -- the first n places number the slots of words as gathered, in turn
 pub record Numbered (r : List ℕ) (n : ℕ) (u : List ℕ) : Type 0 where
@@ -109,3 +113,4 @@ pub record Dictionary (t : List ℕ) (n q : ℕ) (u : List ℕ) : Type 0 where
   pub many : q ≡ length (inOrder (wordsFrom t 2001 n))
   pub holds : q ≤ 2000 → Holds u q
   pub words : q ≤ 2000 → wordsFrom u 0 q ≡ inOrder (wordsFrom t 2001 n)
+  pub padded : q ≤ 2000 → ((p : ℕ) → p < n → Padded t (2001 + p)) → (i : ℕ) → i < q → Padded u i

@@ -17,6 +17,10 @@ pub record Slot (t : List ℕ) (i : ℕ) : Type 0 where
 abbrev pub Holds : List ℕ → ℕ → Type 0
 Holds t n = (i : ℕ) → i < n → Slot t i
 
+-- the bytes behind the letters of slot i's word are 0
+abbrev pub Padded : List ℕ → ℕ → Type 0
+Padded t i = (b : ℕ) → getD t (33 * i) 0 < b → b < 33 → getD t (33 * i + b) 0 ≡ 0
+
 -- the words of n slots from i on
 unfoldable pub wordsFrom : List ℕ → ℕ → ℕ → List (List ℕ)
 wordsFrom t i zero = []

@@ -1,0 +1,10 @@
+pub mod SlotWords
+pub mod SlotBytes
+pub mod Comparing
+pub mod Rising
+pub mod Halves
+pub mod Laid
+pub mod Numbering
+pub mod Tabling
+pub mod Collecting
+pub mod Calls

@@ -1,0 +1,23 @@
+-- `rows::put_number` meets its contract: it writes the number's two bytes. Assumes nothing.
+use native.Mathlib.Omega.{arith}
+use lib.ListN.{length-set}
+use Rattle.sorting.proofs.Rising.{number-put}
+use borrow.Author.Needs.{needs}
+use Rattle.sorting.proofs.rows.put_number.Statement.{statement}
+use Rattle.sorting.proofs.rows.put_number.Tie as tie
+
+returns : tie.Need-returns
+returns c = number-put (c .args .rows .now) (c .args .k) (c .args .v) (c .pre .0)
+
+pub put-number-spec : {M : Type 1} → statement M
+put-number-spec =
+    tie.close
+    (tie.spec
+    (λ c. search needs)
+    (λ c. search needs)
+    (λ c. search needs)
+    (λ c. search needs)
+    (λ c. search needs)
+    (λ c. simp length-set (omega arith))
+    (λ c. search needs)
+    returns)
