@@ -8,7 +8,7 @@
 #include <stdlib.h>
 #include <sys/mman.h>
 
-enum role { VOICE, LEXICON, GIVEN, WORK, OUT, ROLES };
+enum role { VOICE, LEXICON, GIVEN, WORK, FURTHER, OUT, ROLES };
 enum { PAINTED = 64, PAINT = 0xa5 };
 
 /* Bytes between two pages that may not be touched. */
@@ -25,11 +25,11 @@ struct lent {
     bool is_heap;
 };
 
-static uint8_t held_work[72 << 10], held_out[OUTPUT];
+static uint8_t held_work[72 << 10], held_further[272 << 10], held_out[OUTPUT];
 
 static void reserve(void)
 {
-    static const size_t least[ROLES] = {IMAGE, IMAGE, 16 << 10, sizeof held_work, OUTPUT};
+    static const size_t least[ROLES] = {IMAGE, IMAGE, 16 << 10, sizeof held_work, sizeof held_further, OUTPUT};
     size_t page = (size_t)sysconf(_SC_PAGESIZE);
     for (int role = 0; role < ROLES; role++) {
         size_t size = (least[role] + page - 1) / page * page;

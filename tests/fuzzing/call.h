@@ -22,12 +22,13 @@ static void put_number(struct bytes *bytes, uint32_t value)
     put(bytes, value >> 8);
 }
 
-/* `given` is the word, the frames, the codes or the packed bytes; `number` the code or n; `words` the W of packing. */
+/* `given` is the word, the frames, the codes or the packed bytes; `number` the code or n; `words` the W of packing;
+ * `work`, `further` and `out` are how long these buffers are. */
 struct call {
     enum function which;
     struct bytes *given;
     uint32_t number, words;
-    size_t work, out;
+    size_t work, further, out;
 };
 
 static struct bytes voice, lexicon;
@@ -45,7 +46,7 @@ static int32_t made(const struct call *call, const struct lent *lent)
 {
     const uint8_t *v = lent[VOICE].at, *l = lent[LEXICON].at, *given = lent[GIVEN].at;
     size_t v_length = lent[VOICE].length, l_length = lent[LEXICON].length, given_length = lent[GIVEN].length;
-    uint8_t *work = lent[WORK].at, *out = lent[OUT].at;
+    uint8_t *work = lent[WORK].at, *further = lent[FURTHER].at, *out = lent[OUT].at;
     switch (call->which) {
     case CHECK:
         return wundaleth_check(v, v_length, l, l_length, work, call->work);
@@ -55,6 +56,8 @@ static int32_t made(const struct call *call, const struct lent *lent)
         return wundaleth_code_to_word(v, v_length, l, l_length, call->number, work, call->work, out, call->out);
     case LIST:
         return wundaleth_list(v, v_length, l, l_length, work, call->work, out, call->out);
+    case CANONICAL:
+        return wundaleth_canonical(v, v_length, l, l_length, work, call->work, further, call->further, out, call->out);
     case DECODE:
         return wundaleth_decode(v, v_length, l, l_length, given, given_length, call->number, work, call->work, out,
                                 call->out);
@@ -70,15 +73,25 @@ static bool is_zero(const uint8_t *at, size_t length)
     return at[0] == 0 && memcmp(at, at + 1, length - 1) == 0;
 }
 
-static void test_work(const struct call *call, const struct lent *work, int32_t answer)
+/* What holds of the work space and of the further one, of which a call needs so many bytes. */
+static void test_space(const struct lent *space, size_t need, int32_t answer)
 {
-    must((answer == -1) == (call->work < WUNDALETH_WORK_BYTES), "refusal 1 does not fit the work space");
     if (answer == -1)
-        must(kept(work, 0), "refusal 1 changed the work space");
-    else if (call->work >= WUNDALETH_WORK_BYTES) {
-        must(is_zero(work->at, WUNDALETH_WORK_BYTES), "the work space is not zero");
-        must(kept(work, WUNDALETH_WORK_BYTES), "work bytes after the first 64,000 changed");
+        must(kept(space, 0), "refusal 1 changed a work space");
+    else if (space->length >= need) {
+        must(is_zero(space->at, need), "a work space is not zero");
+        must(kept(space, need), "work bytes after those that the call needs changed");
     }
+}
+
+static void test_work(const struct call *call, const struct lent *lent, int32_t answer)
+{
+    bool has_further = functions[called].has_further, is_short = call->work < WUNDALETH_WORK_BYTES;
+    is_short = is_short || (has_further && call->further < WUNDALETH_FURTHER_BYTES);
+    must((answer == -1) == is_short, "refusal 1 does not fit the work spaces");
+    test_space(&lent[WORK], WUNDALETH_WORK_BYTES, answer);
+    if (has_further)
+        test_space(&lent[FURTHER], WUNDALETH_FURTHER_BYTES, answer);
     if (call->which != CHECK && answer != -1)
         must(verdict < 0 ? answer == verdict : answer >= 0 || answer < -10, "the images' verdict is not that of check");
 }
@@ -91,12 +104,14 @@ static int32_t once(const struct call *call, uint8_t *written)
     struct lent lent[ROLES];
     size_t length = 0;
     fill(held_work, call->work);
+    fill(held_further, call->further);
     fill(held_out, call->out);
     lent[VOICE] = lend(VOICE, voice.at, voice.length);
     lent[LEXICON] = lend(LEXICON, lexicon.at, lexicon.length);
     struct bytes *given = call->given != NULL ? call->given : &nothing;
     lent[GIVEN] = lend(GIVEN, given->at, given->length);
     lent[WORK] = lend(WORK, held_work, call->work);
+    lent[FURTHER] = lend(FURTHER, held_further, call->further);
     lent[OUT] = lend(OUT, held_out, call->out);
 
     called = call->which;
@@ -107,14 +122,14 @@ static int32_t once(const struct call *call, uint8_t *written)
         length = functions[called].unit * (size_t)answer;
         must(length <= call->out, "more bytes are answered than the output has");
         length = length <= call->out ? length : 0;
-    } else if (answer < -16 || !(functions[called].refusals & BIT(-answer)))
+    } else if (answer < -REFUSALS || !(functions[called].refusals & BIT(-answer)))
         found("a refusal that this call cannot give");
     else
         counts[called][-answer]++;
     must(kept(&lent[OUT], length), answer < 0 ? "a refusal changed the output" : "bytes after those written changed");
     must(kept(&lent[VOICE], 0) && kept(&lent[LEXICON], 0) && kept(&lent[GIVEN], 0), "an input changed");
     if (functions[called].has_images)
-        test_work(call, &lent[WORK], answer);
+        test_work(call, lent, answer);
     if (written != NULL && length > 0)
         memcpy(written, lent[OUT].at, length);
     for (int role = 0; role < ROLES; role++)

@@ -12,6 +12,7 @@ WRAPPED(check);
 WRAPPED(word_to_code);
 WRAPPED(code_to_word);
 WRAPPED(list);
+WRAPPED(canonical);
 WRAPPED(decode);
 WRAPPED(pack);
 WRAPPED(unpack);
@@ -69,6 +70,33 @@ int32_t __wrap_wundaleth_list(const uint8_t *voice, size_t voice_length, const u
                                            out_length);
     if (FAULT == 10 && answer == -16 && out_length > 0)
         out[0] = 0;
+    return answer;
+}
+
+int32_t __wrap_wundaleth_canonical(const uint8_t *voice, size_t voice_length, const uint8_t *lexicon,
+                                   size_t lexicon_length, uint8_t *work, size_t work_length, uint8_t *further,
+                                   size_t further_length, uint8_t *out, size_t out_length)
+{
+    int32_t answer = __real_wundaleth_canonical(voice, voice_length, lexicon, lexicon_length, work, work_length,
+                                                further, further_length, out, out_length);
+    if (FAULT == 19 && answer == -17)
+        further[262143] = 1;
+    if (FAULT == 20 && answer == -1 && further_length > 0)
+        further[0] = 0;
+    /* a lexicon of the right length is taken as its own canonical image */
+    if (FAULT == 21 && answer > 0 && lexicon_length == (size_t)answer)
+        memcpy(out, lexicon, lexicon_length);
+    /* the root's first two letters are swapped */
+    size_t list = answer > 0 ? 2 + out[0] + 256u * out[1] : 0;
+    if (FAULT == 22 && answer > 0 && out[list] > 1) {
+        uint8_t first[2] = {out[list + 2], out[list + 3]};
+        memcpy(out + list + 2, out + list + 4, 2);
+        memcpy(out + list + 4, first, 2);
+    }
+    if (FAULT == 23 && (answer == -17 || answer == -18) && out_length < 20)
+        return -16;
+    if (FAULT == 24 && answer == -17)
+        return -18;
     return answer;
 }
 

@@ -1,4 +1,4 @@
-/* The seven functions, and what a run counts and finds. */
+/* The eight functions, and what a run counts and finds. */
 #ifndef FUZZ_FINDINGS_H
 #define FUZZ_FINDINGS_H
 
@@ -8,37 +8,39 @@
 #include <stdio.h>
 #include <unistd.h>
 
-enum function { CHECK, WORD_TO_CODE, CODE_TO_WORD, LIST, DECODE, PACK, UNPACK, FUNCTIONS };
+enum function { CHECK, WORD_TO_CODE, CODE_TO_WORD, LIST, CANONICAL, DECODE, PACK, UNPACK, FUNCTIONS };
 
 #define UP_TO_10 0x7fe
 #define BIT(k) (1 << (k))
 
-/* Which refusals a function can give, and how many bytes it writes for each one that it answers. */
+/* Which refusals a function can give, how many bytes it writes for each one that it answers, whether it is given images
+ * and a work space, and whether a further one too. */
 static const struct {
     const char *name;
     unsigned refusals, unit;
-    bool has_images;
+    bool has_images, has_further;
 } functions[FUNCTIONS] = {
-    {"check", UP_TO_10, 0, true},
-    {"word to code", UP_TO_10 | BIT(13), 0, true},
-    {"code to word", UP_TO_10 | BIT(15) | BIT(16), 1, true},
-    {"list", UP_TO_10 | BIT(16), 1, true},
-    {"decode", UP_TO_10 | BIT(11) | BIT(12) | BIT(16), 8, true},
-    {"pack", BIT(9) | BIT(12) | BIT(15) | BIT(16), 1, false},
-    {"unpack", BIT(9) | BIT(12) | BIT(14) | BIT(15) | BIT(16), 4, false},
+    {"check", UP_TO_10, 0, true, false},
+    {"word to code", UP_TO_10 | BIT(13), 0, true, false},
+    {"code to word", UP_TO_10 | BIT(15) | BIT(16), 1, true, false},
+    {"list", UP_TO_10 | BIT(16), 1, true, false},
+    {"canonical", UP_TO_10 | BIT(16) | BIT(17) | BIT(18), 1, true, true},
+    {"decode", UP_TO_10 | BIT(11) | BIT(12) | BIT(16), 8, true, false},
+    {"pack", BIT(9) | BIT(12) | BIT(15) | BIT(16), 1, false, false},
+    {"unpack", BIT(9) | BIT(12) | BIT(14) | BIT(15) | BIT(16), 4, false, false},
 };
 
-enum { HIGHEST_SCORE = 65501233, NODES = 400 };
+enum { HIGHEST_SCORE = 65501233, NODES = 400, REFUSALS = 18 };
 enum { IMAGE = 40 << 10, OUTPUT = 700 << 10, LISTED = 3000 };
 
 /* So many findings are printed, and end the run. */
 enum { SHOWN = 20 };
 
-static unsigned long long counts[FUNCTIONS][17], findings;
+static unsigned long long counts[FUNCTIONS][REFUSALS + 1], findings;
 
 /* Accepted voice models by their links: of one letter, where both forms are the same; else with one link, and with one
- * for each letter. And hits that were held to the sum of their links. */
-static unsigned long long one_letter, one_link, link_for_each, added_up;
+ * for each letter. And hits that were held to the sum of their links, and canonical images that were read back. */
+static unsigned long long one_letter, one_link, link_for_each, added_up, read_back;
 static unsigned long long seed, first_round, round_now;
 static enum function called;
 
@@ -58,14 +60,14 @@ static void must(bool is_true, const char *what)
 static void print_counts(void)
 {
     printf("rounds %llu\n%-14s%12s%12s", round_now - first_round, "", "calls", "answered");
-    for (int k = 1; k <= 16; k++)
+    for (int k = 1; k <= REFUSALS; k++)
         printf("%9d", -k);
     for (int f = 0; f < FUNCTIONS; f++) {
         unsigned long long calls = 0;
-        for (int k = 0; k <= 16; k++)
+        for (int k = 0; k <= REFUSALS; k++)
             calls += counts[f][k];
         printf("\n%-14s%12llu%12llu", functions[f].name, calls, counts[f][0]);
-        for (int k = 1; k <= 16; k++)
+        for (int k = 1; k <= REFUSALS; k++)
             if (functions[f].refusals & BIT(k))
                 printf("%9llu", counts[f][k]);
             else
@@ -73,7 +75,8 @@ static void print_counts(void)
     }
     printf("\naccepted voice models: %llu with one letter; with more, ", one_letter);
     printf("%llu with one link and %llu with a link for each\n", one_link, link_for_each);
-    printf("hits held to the sum of their links: %llu\nfindings %llu\n", added_up, findings);
+    printf("hits held to the sum of their links: %llu\ncanonical images read back: %llu\nfindings %llu\n", added_up,
+           read_back, findings);
     fflush(stdout);
 }
 

@@ -54,7 +54,7 @@ static struct {
  * further arcs lead to a node. */
 static struct {
     uint32_t nodes, letters, longest, branch, more;
-    bool twice_too;
+    bool twice_too, is_fan;
 } shape;
 
 static bool takes(uint32_t vertex, uint32_t node)
@@ -97,16 +97,41 @@ static uint32_t draw_graph(void)
     return n;
 }
 
+/* A graph that may be smaller than the canonical one. Up to five ways have the same letters but the last; each of the
+ * beginnings, which have letters of their own, leads to some of the ways. By letters the ways are one, so the canonical
+ * image needs them once for each beginning. Answers N. */
+static uint32_t draw_fan(void)
+{
+    uint32_t ways = between(2, 5), sets = (1u << ways) - 1, beginnings = between(sets / 2, sets);
+    uint32_t length = between(1, 30), step = 1 + below(sets), n = beginnings;
+    memset(vertices, 0, sizeof vertices);
+    for (uint32_t way = 0; way < ways; way++)
+        for (uint32_t k = 0; k <= length; k++) {
+            vertices[++n].letter = k == length ? way : shape.letters - 1 - k % 3;
+            if (k > 0)
+                join(n - 1, n);
+        }
+    for (uint32_t node = 1; node <= beginnings; node++) {
+        uint32_t set = node == 1 ? sets : 1 + node * step % sets;
+        vertices[node].letter = node;
+        join(0, node);
+        for (uint32_t way = 0; way < ways; way++)
+            if (set >> way & 1)
+                join(node, beginnings + 1 + way * (length + 1));
+    }
+    return n;
+}
+
 static void draw_lexicon(void)
 {
-    uint32_t n = draw_graph();
+    uint32_t n = shape.is_fan ? draw_fan() : draw_graph();
     lexicon.length = 0;
     put_number(&lexicon, n);
     for (uint32_t node = 1; node <= n; node++)
         put(&lexicon, vertices[node].letter);
     for (uint32_t vertex = 0; vertex <= n; vertex++) {
         uint32_t count = vertices[vertex].count, *list = vertices[vertex].list;
-        if (count == 0 || (vertex > 0 && once_in(3)))
+        if (count == 0 || (vertex > 0 && !shape.is_fan && once_in(3)))
             list[count++] = n + 1;
         put_number(&lexicon, count);
         for (; count > 0; count--) {
@@ -267,6 +292,9 @@ static void draw_images(void)
         shape.branch = once_in(4) ? 20 : 1;
         shape.more = once_in(8) ? 9 : below(3);
         shape.twice_too = once_in(8);
+        shape.is_fan = once_in(12);
+        if (shape.is_fan)
+            shape.letters = between(40, 64);
         draw_voice(shape.letters, between(1, 4), once_in(12) ? between(1, 64) : between(1, 4));
         draw_lexicon();
     }

@@ -7,8 +7,8 @@
  * the sanitizers to watch. Seed and round make a round again.
  */
 #define _GNU_SOURCE
+#include "canonical.h"
 #include "packing.h"
-#include "with_images.h"
 
 #include <time.h>
 
@@ -20,6 +20,7 @@ static void make_round(void)
     draw_images();
     test_check();
     test_list();
+    test_canonical();
     for (int k = 0; k < 3; k++) {
         test_word_to_code();
         test_code_to_word();

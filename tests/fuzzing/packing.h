@@ -35,7 +35,7 @@ static void test_pack(void)
         put_number(&codes, code >> 16);
     }
     size_t need = (count * packed_bits(words) + 7) / 8;
-    struct call call = {PACK, &codes, 0, words, 0, around(need)};
+    struct call call = {PACK, &codes, 0, words, 0, 0, around(need)};
     int32_t answer = twice(&call);
     int due = words == 0 || words > WUNDALETH_MOST_WORDS  ? -9
               : count < 1 || count > WUNDALETH_MOST_HITS ? -12
@@ -47,7 +47,7 @@ static void test_pack(void)
         return;
     must((size_t)answer == need, "not as many bytes as n codes take");
     memcpy(packed.at, first_written, packed.length = (size_t)answer);
-    call = (struct call){UNPACK, &packed, count, words, 0, 4 * count};
+    call = (struct call){UNPACK, &packed, count, words, 0, 0, 4 * count};
     must(once(&call, first_written) == (int32_t)count, "packed codes are not unpacked");
     must(memcmp(first_written, codes.at, codes.length) == 0, "unpacked codes are not those packed");
 }
@@ -64,7 +64,7 @@ static void test_unpack(void)
         for (size_t k = 0; k < packed.length; k++)
             packed.at[k] &= (uint8_t)(once_in(3) ? next() : 0);
     bool fits = packed.length == need && (need == 0 || (packed.at[need - 1] & ((1u << (8 * need - bits)) - 1)) == 0);
-    struct call call = {UNPACK, &packed, n, words, 0, around(n <= 300 ? 4 * n : 32)};
+    struct call call = {UNPACK, &packed, n, words, 0, 0, around(n <= 300 ? 4 * n : 32)};
     int32_t answer = twice(&call);
     int due = words == 0 || words > WUNDALETH_MOST_WORDS ? -9
               : n < 1 || n > WUNDALETH_MOST_HITS         ? -12
@@ -77,7 +77,7 @@ static void test_unpack(void)
     memcpy(codes.at, first_written, codes.length = 4 * (size_t)answer);
     for (int32_t k = 0; k < answer; k++)
         must(number(codes.at + 4 * k) < words, "an unpacked code is not below W");
-    call = (struct call){PACK, &codes, 0, words, 0, need};
+    call = (struct call){PACK, &codes, 0, words, 0, 0, need};
     must(once(&call, first_written) == (int32_t)need, "unpacked codes are not packed");
     must(memcmp(first_written, packed.at, need) == 0, "codes packed again are other bytes");
 }

@@ -12,9 +12,18 @@ static size_t work_bytes(void)
     return once_in(4) ? below(70001) : sizes[below(6)];
 }
 
+static size_t further_bytes(void)
+{
+    static const uint32_t sizes[] = {0, 1, 64000, 262143, 262145, 262152, 270000};
+    if (!once_in(8))
+        return WUNDALETH_FURTHER_BYTES;
+    return once_in(4) ? below(270001) : sizes[below(7)];
+}
+
 static struct call with_images(enum function which, struct bytes *given, uint32_t number, size_t out)
 {
-    struct call call = {which, given, number, 0, WUNDALETH_WORK_BYTES, out};
+    size_t further = functions[which].has_further ? WUNDALETH_FURTHER_BYTES : 0;
+    struct call call = {which, given, number, 0, WUNDALETH_WORK_BYTES, further, out};
     return call;
 }
 

@@ -34,7 +34,7 @@ struct Checking {
 pub fn run(seed: u64) -> usize {
     let mut random = Random::from_seed(seed);
     let mut checking = Checking {
-        work: Work::new(&mut random),
+        work: Work::new(&mut random, WORK_SPACE),
         random,
         voice: Buffer::new(),
         lexicon: Buffer::new(),
@@ -106,7 +106,7 @@ impl Checking {
     }
 
     fn call_with(&mut self, voice: &[u8], lexicon: &[u8]) -> i32 {
-        let work_length = work::any_length(&mut self.random);
+        let work_length = self.work.any_length(&mut self.random);
         self.call(whole(voice), whole(lexicon), work_length)
     }
 

@@ -90,7 +90,7 @@ pub fn run(seed: u64) -> usize {
     let mut random = Random::from_seed(seed);
     let numbers = |more: &[usize]| Counts::of(&[&OF_IMAGES, more].concat());
     let mut codes = Codes {
-        work: Work::new(&mut random),
+        work: Work::new(&mut random, WORK_SPACE),
         random,
         voice: Buffer::new(),
         lexicon: Buffer::new(),

@@ -2,6 +2,9 @@
 //! answers it has to show; a count of 0 there is a fault of the test. And counts of voice models by the form of their
 //! links.
 
+/// Values, and the refusals 1 to 18.
+const COLUMNS: usize = 19;
+
 struct Row {
     group: &'static str,
     due: Vec<usize>,
@@ -27,7 +30,7 @@ impl Counts {
         self.rows.push(Row {
             group,
             due: due.to_vec(),
-            seen: vec![0; 17],
+            seen: vec![0; COLUMNS],
         });
     }
 
@@ -38,7 +41,7 @@ impl Counts {
     pub fn add(&mut self, answer: i32) {
         let column = if answer < 0 { -answer as usize } else { 0 };
         if let Some(row) = self.rows.last_mut() {
-            row.seen[column.min(16)] += 1;
+            row.seen[column.min(COLUMNS - 1)] += 1;
         }
     }
 
@@ -47,7 +50,7 @@ impl Counts {
     }
 
     pub fn calls(&self) -> u64 {
-        (0..17).map(|column| self.total(column)).sum()
+        (0..COLUMNS).map(|column| self.total(column)).sum()
     }
 
     pub fn print(&self, value: &str) {

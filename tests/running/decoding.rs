@@ -83,7 +83,7 @@ struct Decoding {
 pub fn run(seed: u64) -> usize {
     let mut random = Random::from_seed(seed);
     let mut decoding = Decoding {
-        work: Work::new(&mut random),
+        work: Work::new(&mut random, WORK_SPACE),
         random,
         voice: Buffer::new(),
         lexicon: Buffer::new(),

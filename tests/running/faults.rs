@@ -4,12 +4,22 @@ use crate::damage::{damaged, is_link_count, link_counts};
 use crate::draw;
 use crate::image::{bytes_of, Field, Lexicon, Voice};
 use crate::random::Random;
-use crate::sketch::{ROOT, SINK};
+use crate::sketch::{Sketch, ROOT, SINK};
 
 /// Images to which conditions 2 to 10 apply: 2 if bit 0 of `several` is set, and so on.
 pub fn faulty_images(random: &mut Random, several: usize) -> (Vec<u8>, Vec<u8>) {
+    faulty_images_with(random, several, |_, _| {})
+}
+
+/// The same with more in the graph, for conditions beyond 10: `add` has for itself the words that begin with a letter
+/// from 8 on, and up to 180 nodes.
+pub fn faulty_images_with(
+    random: &mut Random,
+    several: usize,
+    add: impl FnOnce(&mut Random, &mut Sketch),
+) -> (Vec<u8>, Vec<u8>) {
     let has = |number: usize| several >> (number - 2) & 1 == 1;
-    let (voice, lexicon) = faulty_graph(random, has);
+    let (voice, lexicon) = faulty_graph(random, has, add);
     let (links_at, letters) = (voice.fields_before_links().len(), voice.letters.len());
     let (mut voice, mut lexicon) = (voice.fields(), lexicon.fields());
     if has(3) && random.once_in(6) {
@@ -29,7 +39,11 @@ pub fn faulty_images(random: &mut Random, several: usize) -> (Vec<u8>, Vec<u8>) 
 
 /// A graph to which 6 to 10 apply as wanted: a long chain, many nodes and many words beside a few words, one of them
 /// spelled twice, and a node that nobody names.
-fn faulty_graph(random: &mut Random, has: impl Fn(usize) -> bool) -> (Voice, Lexicon) {
+fn faulty_graph(
+    random: &mut Random,
+    has: impl Fn(usize) -> bool,
+    add: impl FnOnce(&mut Random, &mut Sketch),
+) -> (Voice, Lexicon) {
     let letters = random.between(3, 8);
     let mut sketch = draw::few_words(random, letters);
     while sketch.nodes() > 40 {
@@ -50,12 +64,14 @@ fn faulty_graph(random: &mut Random, has: impl Fn(usize) -> bool) -> (Voice, Lex
         let node = sketch.node(0);
         sketch.arc(node, SINK);
     }
+    add(random, &mut sketch);
     let states = if has(7) { 4 } else { 2 };
     if has(7) {
         let nodes = sketch.nodes().max(251);
         draw::fill_up(random, &mut sketch, nodes, letters);
     }
-    let voice = draw::voice_of(random, &vec![states; letters], 1);
+    let highest = sketch.letters.iter().max().map_or(0, |l| usize::from(*l));
+    let voice = draw::voice_of(random, &vec![states; letters.max(highest + 1)], 1);
     (voice, sketch.lexicon(random))
 }
 

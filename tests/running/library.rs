@@ -78,6 +78,29 @@ pub fn list(voice: &mut Buffer, lexicon: &mut Buffer, work: &mut Buffer, out: &m
     }
 }
 
+pub fn canonical(
+    voice: &mut Buffer,
+    lexicon: &mut Buffer,
+    work: &mut Buffer,
+    further: &mut Buffer,
+    out: &mut Buffer,
+) -> i32 {
+    unsafe {
+        wundaleth_canonical(
+            voice.pointer(),
+            voice.length(),
+            lexicon.pointer(),
+            lexicon.length(),
+            work.pointer(),
+            work.length(),
+            further.pointer(),
+            further.length(),
+            out.pointer(),
+            out.length(),
+        )
+    }
+}
+
 pub fn decode(
     voice: &mut Buffer,
     lexicon: &mut Buffer,

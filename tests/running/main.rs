@@ -3,6 +3,8 @@
 
 mod buffers;
 #[allow(dead_code)] // each part may be left out of the list below
+mod canonical;
+#[allow(dead_code)]
 mod checking;
 #[allow(dead_code)]
 mod codes;
@@ -36,6 +38,7 @@ const PARTS: &[(&str, Part)] = &[
     ("the format page", format::run),
     ("checking", checking::run),
     ("words and codes", codes::run),
+    ("canonical images", canonical::run),
     ("packed codes", packing::run),
     ("decoding", decoding::run),
 ];

@@ -7,6 +7,7 @@
 use std::collections::{HashMap, HashSet};
 
 pub const WORK_SPACE: usize = 64_000;
+pub const FURTHER_SPACE: usize = 262_144;
 const MOST_ARCS: usize = 4_000;
 const MOST_PLACES: usize = 1_000;
 const MOST_LETTERS: usize = 32;

@@ -14,7 +14,7 @@ use crate::work;
 impl Codes {
     /// The three calls with any word, code and output: often good ones, if the images are.
     fn call_with_any(&mut self, images: &Images, word: &[u8], code: u32) {
-        let work_length = work::any_length(&mut self.random);
+        let work_length = self.work.any_length(&mut self.random);
         let word = match self.random.below(4) {
             0 => {
                 let length = self.random.below(4);

@@ -298,7 +298,7 @@ impl Decoding {
             }
             let pair = Pair::of(voice, lexicon);
             let mut call = pair.call(&[0, 2], 3);
-            call.work_length = work::any_length(&mut self.random);
+            call.work_length = self.work.any_length(&mut self.random);
             self.call(&pair.images, call).ok();
         }
     }

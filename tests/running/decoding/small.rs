@@ -6,7 +6,6 @@ use crate::draw;
 use crate::image::{Lexicon, Voice};
 use crate::reference::{self, WORK_SPACE};
 use crate::sketch::Sketch;
-use crate::work;
 
 /// Small images have no more words than this.
 const FEW_WORDS: i32 = 48;
@@ -108,7 +107,7 @@ impl Decoding {
             let pair = Pair::of(voice, lexicon);
             let frames = self.frames_for(&pair);
             let mut call = pair.call(&frames, self.random.between(1, 8) as u32);
-            call.work_length = work::any_length(&mut self.random);
+            call.work_length = self.work.any_length(&mut self.random);
             self.call(&pair.images, call).ok();
         }
     }
