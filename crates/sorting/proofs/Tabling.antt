@@ -9,6 +9,7 @@ use native.Mathlib.Omega.{arith}
 use lib.ListN.{length, getD, take, drop, replicate, length-drop, length-replicate}
 use lib.Seq.{ext-getD, getD-drop, drop-append-le, length-take-le}
 use lib.Dec.{ltb}
+use borrow.Rule.Slice.PartMut.{midOf, putMid, post-is, mid-len}
 use borrow.Author.Tests.{lt-ltb, ltb-false}
 use Rattle.endian.specs.Lists.{sum}
 use Rattle.endian.proofs.Booleans.{or-none}
@@ -22,7 +23,7 @@ use Rattle.canonical.specs.Dictionary.{inOrder}
 use Rattle.canonical.specs.Canonical.{longList, longRows}
 use Rattle.sorting.specs.Slots.{Slot, wordsFrom}
 use Rattle.sorting.specs.Rows.{Dictionary}
-use Rattle.sorting.specs.Tabled.{Waiting, tableAnswer, Tabled}
+use Rattle.sorting.specs.Tabled.{Waiting, zeroedPart, tableAnswer, Tabled}
 use Rattle.sorting.proofs.SlotWords.{words-next, word-length}
 use Rattle.sorting.proofs.SlotBytes.{table-bytes}
 
@@ -56,6 +57,17 @@ unfolding zeroed
 zeros-behind k n t h =
     ap (λ l. l ++ drop n t) (sym (drop-copies k n))
     ∙ sym (drop-append-le k (replicate n 0) (drop n t) (omega (arith, length-replicate {A = ℕ} n 0)))
+
+pub part-zeroed : (from to : ℕ) (t ys : List ℕ) → from ≤ to → to ≤ length t
+    → ys ≡ replicate (length (midOf from (to - from) t)) 0
+    → putMid from (to - from) t ys ≡ zeroedPart from to t
+unfolding zeroedPart
+part-zeroed from to t ys h k e =
+    ap₂ (λ a b. take from t ++ (a ++ b)) (e ∙ ap (λ n. replicate n 0) (mid-len from to t k)) (post-is from to t h)
+
+pub all-zeroed : (n : ℕ) (t : List ℕ) → zeroedPart 0 n t ≡ zeroed n t
+unfolding zeroedPart zeroed
+all-zeroed n t = let e : n - 0 ≡ n = omega arith in rw e
 
 -- bytes from n on that are kept
 kept-behind : (n : ℕ) (t u : List ℕ) → length u ≡ length t → ((b : ℕ) → n ≤ b → getD u b 0 ≡ getD t b 0)
@@ -100,12 +112,14 @@ module _ {t u : List ℕ} {n q : ℕ} (w : Waiting t n) (d : Dictionary t n q u)
   behind = kept-behind furtherSpace t u (d .long) (λ b h. d .far b (omega arith))
 
   pub table-refused : longList (inOrder (wordsFrom t 2001 n)) ≡ true
-      → Tabled (inOrder (wordsFrom t 2001 n)) t (refused WordList) (zeroed furtherSpace u)
+      → Tabled (inOrder (wordsFrom t 2001 n)) t (refused WordList) (zeroedPart 0 furtherSpace u)
   table-refused h =
       let e = refused-long (inOrder (wordsFrom t 2001 n)) h in
       record {
         answers = sym e;
-        leaves = zeroed-same furtherSpace u t behind ∙ sym (written-refused _ (zeroed furtherSpace t) e);
+        leaves = all-zeroed furtherSpace u
+            ∙ zeroed-same furtherSpace u t behind
+            ∙ sym (written-refused _ (zeroed furtherSpace t) e);
       }
 
   module _ (h : longList (inOrder (wordsFrom t 2001 n)) ≡ false) where
@@ -113,8 +127,8 @@ module _ {t u : List ℕ} {n q : ℕ} (w : Waiting t n) (d : Dictionary t n q u)
     few-words = omega (arith, d .many, few-long (inOrder (wordsFrom t 2001 n)) h)
 
     pub table-value : furtherSpace ≤ length t
-        → Tabled (inOrder (wordsFrom t 2001 n)) t (value q)
-        (take (33 * q) u ++ (replicate (furtherSpace - 33 * q) 0 ++ drop furtherSpace u))
+        → Tabled (inOrder (wordsFrom t 2001 n)) t (value q) (zeroedPart (33 * q) furtherSpace u)
+    unfolding zeroedPart
     table-value room = record {
       answers = ap value (d .many) ∙ sym e;
       leaves = ap₂ (λ a b. a ++ (replicate (furtherSpace - 33 * q) 0 ++ b)) bytes behind

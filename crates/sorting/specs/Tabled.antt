@@ -1,8 +1,8 @@
 -- Words gathered in the further work space, and the table made of them. No public contract cites it. Assumes nothing.
-use Prim.Native.Nat.{ℕ, _+_, _≤_, _<_}
+use Prim.Native.Nat.{ℕ, _+_, _-_, _≤_, _<_}
 use mathlib.Core.Path.{_≡_}
 use mathlib.Core.List.{List, _++_}
-use lib.ListN.{length, drop}
+use lib.ListN.{length, take, drop, replicate}
 use Rattle.call.specs.declared.Refusal.{Refusal}
 use Rattle.call.specs.Limits.{furtherSpace}
 use Rattle.call.specs.Table.{Answer, value, refused, unless}
@@ -41,6 +41,10 @@ pub record Collected (v x t : List ℕ) (answer : Answer ℕ) (u : List ℕ) : T
   pub behind : drop furtherSpace u ≡ drop furtherSpace t
 
 -- ---- the table
+
+-- the bytes from one place up to another are zero, and the others unchanged
+unfoldable pub zeroedPart : ℕ → ℕ → List ℕ → List ℕ
+zeroedPart from to t = take from t ++ (replicate (to - from) 0 ++ drop to t)
 
 -- 17, and then the number of words
 unfoldable pub tableAnswer : List (List ℕ) → Answer ℕ

@@ -4,12 +4,12 @@ ghost use Rattle.call.specs.Table.{answerOf};
 ghost use Rattle.sorting.specs.Listing.{wordTableAnswer, wordTableWork, wordTableFurther};
 use crate::gathering::collect;
 use crate::table::put_table;
+use crate::table::zero_part;
 use call::Answer;
 use call::FURTHER_SPACE;
 use call::Refusal;
 use call::WORK_SPACE;
 use call::clear;
-use call::zero;
 
 mod gathering;
 mod laying;
@@ -39,7 +39,7 @@ pub fn word_table(voice: &[u8], lexicon: &[u8], work: &mut [u8], further: &mut [
     }
     let gathered = collect(voice, lexicon, work, further);
     let Answer::Value(n) = gathered else {
-        zero(&mut further[0..FURTHER_SPACE]);
+        zero_part(further, 0, FURTHER_SPACE);
         return gathered;
     };
     let answer = put_table(further, &mut work[0..ROWS], n as usize);

@@ -10,7 +10,7 @@ ghost use Rattle.call.specs.Limits.{furtherSpace};
 ghost use Rattle.call.specs.Table.{answerOf};
 ghost use Rattle.canonical.specs.Dictionary.{inOrder};
 ghost use Rattle.sorting.specs.Slots.{Holds, wordsFrom};
-ghost use Rattle.sorting.specs.Tabled.{Waiting, Tabled};
+ghost use Rattle.sorting.specs.Tabled.{Waiting, zeroedPart, Tabled};
 use crate::laying::in_order;
 use call::Answer;
 use call::FURTHER_SPACE;
@@ -47,6 +47,15 @@ fn is_long(words: &[u8], q: usize) -> bool
     LETTERS < letter_total(words, q)
 }
 
+// Makes a part zero. The ends are no constants here: a part with an end as large as the further work space's is slow to
+// check.
+pub(crate) fn zero_part(further: &mut [u8], from: usize, to: usize)
+    requires { ⌜ (from ≤ to) × (to ≤ length (now further)) ⌝ }
+    ensures { λ _. ⌜ now (further .exit) ≡ zeroedPart from to (now (further .entry)) ⌝ }
+{
+    zero(&mut further[from..to]);
+}
+
 // Makes the table of n gathered words, each once, and answers how many there are.
 pub(crate) fn put_table(further: &mut [u8], rows: &mut [u8], n: usize) -> Answer
     requires { ⌜ (16000 ≤ length (now rows)) × (furtherSpace ≤ length (now further)) ⌝ }
@@ -56,10 +65,9 @@ pub(crate) fn put_table(further: &mut [u8], rows: &mut [u8], n: usize) -> Answer
 {
     let q = in_order(further, rows, n);
     if is_long(further, q) {
-        zero(&mut further[0..FURTHER_SPACE]);
+        zero_part(further, 0, FURTHER_SPACE);
         return Answer::Refused(Refusal::WordList);
     }
-    let end = 33 * q;
-    zero(&mut further[end..FURTHER_SPACE]);
+    zero_part(further, 33 * q, FURTHER_SPACE);
     Answer::Value(q as u32)
 }
