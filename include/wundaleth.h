@@ -101,13 +101,13 @@ int32_t wundaleth_list(const uint8_t *voice, size_t voice_length, const uint8_t 
                        uint8_t *work, size_t work_length, uint8_t *out, size_t out_length);
 
 /* Writes the canonical image of the lexicon: a lexicon image of the same words, which depends on nothing but the voice
- * model and the set of words. Two nodes are one if their letter and the set of their continuations agree; a vertex that
- * leads to the sink does so first, then come its letters in rising index, each at most once; nodes are numbered by their
- * longest continuation, longest first, and equals by the dictionary-first prefix that reaches them; dictionary order is
- * by letter index. Codes in it are dictionary ranks, from 0, a word before its extensions. Answers the bytes written, at
- * most WUNDALETH_CANONICAL_BYTES, or refuses with 1 to 10, 17, 18 or 16, tested in this order; 1 is for either space. A
- * canonical image is accepted under the same voice model, is its own canonical image, and 17 and 18 do not apply to it.
- */
+ * model and the set of words. Two nodes are one if their letter and the set of their continuations agree; a vertex
+ * that leads to the sink does so first, then come its letters in rising index, each at most once; nodes are numbered
+ * by their longest continuation, longest first, and equals by the dictionary-first prefix that reaches them;
+ * dictionary order is by letter index. Codes in it are dictionary ranks, from 0, a word before its extensions. Answers
+ * the bytes written, at most WUNDALETH_CANONICAL_BYTES, or refuses with 1 to 10, 17, 18 or 16, tested in this order; 1
+ * is for either space. A canonical image is accepted under the same voice model, is its own canonical image, and 17
+ * and 18 do not apply to it. / */
 int32_t wundaleth_canonical(const uint8_t *voice, size_t voice_length, const uint8_t *lexicon, size_t lexicon_length,
                             uint8_t *work, size_t work_length, uint8_t *further, size_t further_length, uint8_t *out,
                             size_t out_length);
