@@ -107,7 +107,7 @@ int32_t wundaleth_list(const uint8_t *voice, size_t voice_length, const uint8_t 
  * dictionary order is by letter index. Codes in it are dictionary ranks, from 0, a word before its extensions. Answers
  * the bytes written, at most WUNDALETH_CANONICAL_BYTES, or refuses with 1 to 10, 17, 18 or 16, tested in this order; 1
  * is for either space. A canonical image is accepted under the same voice model, is its own canonical image, and 17
- * and 18 do not apply to it. / */
+ * and 18 do not apply to it. */
 int32_t wundaleth_canonical(const uint8_t *voice, size_t voice_length, const uint8_t *lexicon, size_t lexicon_length,
                             uint8_t *work, size_t work_length, uint8_t *further, size_t further_length, uint8_t *out,
                             size_t out_length);

@@ -1,5 +1,5 @@
-// The nodes of a table of words in dictionary order, their numbers and their arcs, and the call that writes the canonical
-// image that they make: definitions in canonical/specs.
+// The nodes of a table of words in dictionary order, their numbers and their arcs, and the call that writes the
+// canonical image that they make: definitions in canonical/specs.
 ghost use mathlib.Core.Path.{_≡_};
 ghost use Prim.Native.Nat.{_≤_};
 ghost use lib.ListN.{length};
@@ -28,6 +28,7 @@ mod writing;
 // The bytes of 2,000 words in their slots with the marks behind them, and of the letters that each shares with the word
 // before it.
 const TABLE: usize = 132033;
+
 const SHARED: usize = 2000;
 
 // The most nodes of an image.

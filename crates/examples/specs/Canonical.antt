@@ -1,5 +1,5 @@
--- Canonical images, their call and their limits, computed: each example shows one sentence of document 02, 3/13. Assumes
--- nothing.
+-- Canonical images, their call and their limits, computed: each example shows one sentence of document 02, 3/13.
+-- Assumes nothing.
 use Prim.Native.Nat.{ℕ}
 use mathlib.Core.Path.{_≡_}
 use mathlib.Core.Bool.{true, false, cond}
@@ -95,27 +95,21 @@ graph k n arcs = record {
 pub record CanonicalExamples : Type 0 where
   -- P is its own canonical image, and that of Q, which is P with root arcs 2, 1: equal lists are equal bytes
   pub small-itself : canonicalImage voice P ≡ P
-
   pub small-reordered : canonicalImage voice Q ≡ P
-
   -- i is the beginning of in and it: its node leads to the sink first, wherever that arc stood, then to n and t
   pub sink-first : map (λ x. canonicalImage voice x) (small 1 2 3 4 5 ∷ small 1 2 4 5 3 ∷ []) ≡ P ∷ P ∷ []
-
   -- by letter index, a word before its extensions, each once: an, at, i, in, it
   pub dictionary :
       inOrder ((1 ∷ 3 ∷ []) ∷ (1 ∷ []) ∷ (0 ∷ 3 ∷ []) ∷ (1 ∷ 2 ∷ []) ∷ (0 ∷ 2 ∷ []) ∷ (1 ∷ []) ∷ [])
       ≡ (0 ∷ 2 ∷ []) ∷ (0 ∷ 3 ∷ []) ∷ (1 ∷ []) ∷ (1 ∷ 2 ∷ []) ∷ (1 ∷ 3 ∷ []) ∷ []
-
   -- the words by code are in dictionary order, whatever the codes were: with root arcs 2, 1 and it before in
   pub codes-by-rank :
       letterWords (graphOf (canonicalImage voice (small 2 1 4 5 3)))
       ≡ (0 ∷ 2 ∷ []) ∷ (0 ∷ 3 ∷ []) ∷ (1 ∷ []) ∷ (1 ∷ 2 ∷ []) ∷ (1 ∷ 3 ∷ []) ∷ []
-
   -- one word: an
   pub one-word :
       wordsImage voice ((0 ∷ 2 ∷ []) ∷ [])
       ≡ 2 ∷ 0 ∷ 0 ∷ 2 ∷ 1 ∷ 0 ∷ 1 ∷ 0 ∷ 1 ∷ 0 ∷ 2 ∷ 0 ∷ 1 ∷ 0 ∷ 3 ∷ 0 ∷ 0 ∷ 0 ∷ []
-
   -- the two nodes n are one
   pub one-end :
       canonicalImage voice twoEnds
@@ -126,11 +120,9 @@ pub record CanonicalExamples : Type 0 where
       ∷ 1 ∷ 0 ∷ 4 ∷ 0
       ∷ 0 ∷ 0
       ∷ []
-
   pub one-start : canonicalImage voice twoStarts ≡ split
-
-  -- ati and ina: nodes with continuations of one length stand by their first prefix, at before in and ati before ina, and
-  -- not by their letters
+  -- ati and ina: nodes with continuations of one length stand by their first prefix, at before in and ati before ina,
+  -- and not by their letters
   pub by-first-prefix :
       wordsImage voice ((0 ∷ 3 ∷ 1 ∷ []) ∷ (1 ∷ 2 ∷ 0 ∷ []) ∷ [])
       ≡ 6 ∷ 0 ∷ 0 ∷ 1 ∷ 3 ∷ 2 ∷ 1 ∷ 0
@@ -143,9 +135,8 @@ pub record CanonicalExamples : Type 0 where
       ∷ 1 ∷ 0 ∷ 7 ∷ 0
       ∷ 0 ∷ 0
       ∷ []
-
-  -- at, ia, ii, in, nat: a before t is one node, though a and na are of different lengths, and so is the t behind it; it
-  -- stands before i, whose continuations are more but no longer, as its first prefix is a and not na
+  -- at, ia, ii, in, nat: a before t is one node, though a and na are of different lengths, and so is the t behind it;
+  -- it stands before i, whose continuations are more but no longer, as its first prefix is a and not na
   pub first-of-several :
       wordsImage voice ((0 ∷ 3 ∷ []) ∷ (1 ∷ 0 ∷ []) ∷ (1 ∷ 1 ∷ []) ∷ (1 ∷ 2 ∷ []) ∷ (2 ∷ 0 ∷ 3 ∷ []) ∷ [])
       ≡ 7 ∷ 0 ∷ 2 ∷ 0 ∷ 1 ∷ 3 ∷ 0 ∷ 1 ∷ 2
@@ -159,23 +150,17 @@ pub record CanonicalExamples : Type 0 where
       ∷ 1 ∷ 0 ∷ 8 ∷ 0
       ∷ 0 ∷ 0
       ∷ []
-
   pub called : canonicalAnswer voice twoStarts work further (replicate 50 7) ≡ value 37
-
   pub written-out : canonicalOut voice twoStarts work further (replicate 50 7) ≡ split ++ replicate 13 7
-
   pub spaces-zeroed :
       canonicalWork (work ++ 9 ∷ []) (further ++ 9 ∷ []) ++ canonicalFurther (work ++ 9 ∷ []) (further ++ 9 ∷ [])
       ≡ replicate 64000 0 ++ 9 ∷ replicate 262144 0 ++ 9 ∷ []
-
   -- 16: one byte too few
   pub short-output :
       map (λ n. canonicalAnswer voice twoStarts work further (replicate n 7)) (36 ∷ 37 ∷ [])
       ≡ refused Output ∷ value 37 ∷ []
-
   -- 10 comes before 16
   pub same-letters-first : canonicalAnswer voice twoAs work further [] ≡ refused SameLetters
-
   -- 1: either space is one byte too short, and both stay as they were
   pub short-spaces :
       canonicalAnswer voice twoStarts (replicate 63999 9) further []
@@ -183,24 +168,18 @@ pub record CanonicalExamples : Type 0 where
       ∷ canonicalAnswer voice twoStarts work further []
       ∷ []
       ≡ refused WorkSpace ∷ refused WorkSpace ∷ refused Output ∷ []
-
   pub spaces-kept :
       canonicalWork work (replicate 262143 9) ∷ canonicalFurther work (replicate 262143 9)
       ∷ canonicalWork (replicate 63999 9) further ∷ canonicalFurther (replicate 63999 9) further
       ∷ []
       ≡ work ∷ replicate 262143 9 ∷ replicate 63999 9 ∷ further ∷ []
-
   -- 17: 2,000 and 2,001 words; 16,000 and 16,001 letters
   pub word-limit : map (λ n. longList (replicate n (0 ∷ []))) (2000 ∷ 2001 ∷ []) ≡ false ∷ true ∷ []
-
   pub letter-limit :
       map (λ n. longList (replicate n 0 ∷ replicate 1999 (replicate 8 0))) (8 ∷ 9 ∷ [])
       ++ map (λ n. longList (replicate 499 (replicate 32 0) ++ replicate n (0 ∷ []))) (32 ∷ 33 ∷ [])
       ≡ false ∷ true ∷ false ∷ true ∷ []
-
   pub node-limit : map (λ n. outsideLimits fourAndOne (graph 0 n 0)) (400 ∷ 401 ∷ []) ≡ false ∷ true ∷ []
-
   pub arc-limit : map (λ n. outsideLimits fourAndOne (graph 0 1 n)) (4000 ∷ 4001 ∷ []) ≡ false ∷ true ∷ []
-
   -- 249 letters of four states with four or five of one
   pub place-limit : map (λ n. outsideLimits fourAndOne (graph 249 n 0)) (253 ∷ 254 ∷ []) ≡ false ∷ true ∷ []

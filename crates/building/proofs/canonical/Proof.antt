@@ -15,7 +15,8 @@ use Rattle.canonical.specs.Canonical.{sortedWords}
 use Rattle.sorting.specs.Slots.{wordsFrom}
 use Rattle.sorting.specs.Listing.{wordTableAnswer, wordTableFurther}
 use Rattle.building.specs.Building.{Given}
-use Rattle.building.proofs.Calls.{table-refused, table-refused-out, table-refused-further, work-room, further-room}
+use Rattle.building.proofs.Calls.{table-refused, table-refused-out, table-refused-further}
+use Rattle.building.proofs.Calls.{work-room, further-room}
 use Rattle.building.proofs.Calls.{work-zeroed, given, part-bytes, further-again, work-again}
 use Rattle.building.proofs.Calls.{work-length, further-length, out-past}
 use Rattle.building.proofs.canonical.Statement.{statement}
@@ -31,8 +32,7 @@ returns c =
     let x = a .lexicon .now in
     let w = a .work .now in
     let f = a .further .now in
-    let o = a .out .now in
-    (
+    let o = a .out .now in (
       e ∙ sym (table-refused v x w f o r),
       (
         t .word-table .ensures .1 .0,
@@ -129,8 +129,11 @@ module _ (b : tie.After-build) where
   work-lent-long = omega (arith, length-append shared (drop 2000 (work-now made)), shared-kept)
 
 -- the place of building, from the end
+abbrev cleared : tie.After-slice-known10 → tie.After-zero
+cleared c = c .before .before .before .before .before .before
+
 abbrev built : tie.After-slice-known10 → tie.After-build
-built c = c .before .before .before .before .before .before .before .before .before .before .before .before .before .before
+built c = cleared c .before .before .before .before .before .before .before .before
 
 work-left : (c : tie.After-slice-known10) →
     c .before .before .zero2 .last .0 ++ drop 2000 (work-lent (built c))
@@ -144,12 +147,12 @@ work-left c =
     ∙ work-again (v k) (x k) (w k) (f k) (o k) (answered k) (shared b) (shared-kept b)
 
 further-left : (c : tie.After-slice-known10) →
-    c .before .before .before .before .before .before .zero .last .0 ++ drop 132033 (further-lent (built c))
+    cleared c .zero .last .0 ++ drop 132033 (further-lent (built c))
     ≡ furtherCleared (w (made (built c))) (f (made (built c)))
 further-left c =
     let b = built c in
     let k = made b in
-    ap (λ z. z ++ drop 132033 (further-lent b)) (c .before .before .before .before .before .before .zero .ensures)
+    ap (λ z. z ++ drop 132033 (further-lent b)) (cleared c .zero .ensures)
     ∙ zeroed-part 132033 (further-lent b) (further-lent-long b)
     ∙ ap (λ z. zeroed 132033 (words b ++ drop 132033 z)) (table k .word-table .ensures .1 .1)
     ∙ further-again (v k) (x k) (w k) (f k) (o k) (answered k) (words b) (words-kept b)
