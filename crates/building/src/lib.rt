@@ -6,7 +6,7 @@ ghost use lib.ListN.{length};
 ghost use Rattle.call.specs.Table.{answerOf};
 ghost use Rattle.canonical.specs.Canonical.{canonicalAnswer, canonicalOut, canonicalWork, canonicalFurther};
 ghost use Rattle.sorting.specs.Slots.{wordsFrom};
-ghost use Rattle.building.specs.Building.{Given, ImageAnswered};
+ghost use Rattle.registering.specs.Building.{Given, ImageAnswered};
 use crate::marking::mark_words;
 use crate::sharing::share;
 use crate::walk::walk_all;

@@ -6,8 +6,8 @@ ghost use Prim.Native.Nat.{_+_, _≤_};
 ghost use lib.ListN.{length};
 ghost use Rattle.endian.specs.Bytes.{u16Bytes};
 ghost use Rattle.image.specs.Image.{listBytes};
-ghost use Rattle.building.specs.Arcs.{listOf, listLength, Spanned, Readable};
-ghost use Rattle.building.specs.Image.{Put};
+ghost use Rattle.registering.specs.Arcs.{listOf, listLength, Spanned, Readable};
+ghost use Rattle.registering.specs.Image.{Put};
 
 // The columns of a vertex's row.
 pub(crate) const FIRST: usize = 0;

@@ -2,8 +2,8 @@
 ghost use Prim.Native.Nat.{_≤_, _<_};
 ghost use lib.ListN.{length};
 ghost use Rattle.sorting.specs.Slots.{Slot};
-ghost use Rattle.building.specs.Register.{Listed};
-ghost use Rattle.building.specs.Marking.{WordMarked, WordsMarked};
+ghost use Rattle.registering.specs.Register.{Listed};
+ghost use Rattle.registering.specs.Marking.{WordMarked, WordsMarked};
 
 // Puts the marks of the word in slot i into slot 2001 + i, from the last down: each is made from the next.
 fn mark_word(words: &mut [u8], i: usize)

@@ -3,7 +3,7 @@ ghost use mathlib.Core.Path.{_≡_};
 ghost use Prim.Native.Nat.{_≤_};
 ghost use mathlib.Core.List.{[], _++_};
 ghost use lib.ListN.{length};
-ghost use Rattle.building.specs.Numbering.{placesOf, placesBelow, Rows, Low, Placed};
+ghost use Rattle.registering.specs.Numbering.{placesOf, placesBelow, Rows, Low, Placed};
 
 // The column of the register that has the letters of the longest continuation.
 const LONGEST: usize = 3;

@@ -6,9 +6,9 @@ ghost use lib.ListN.{getD, drop, set};
 ghost use Rattle.endian.specs.Lists.{same};
 ghost use Rattle.canonical.specs.Nodes.{sameWords, sameNode};
 ghost use Rattle.sorting.specs.Slots.{wordAt, Slot};
-ghost use Rattle.building.specs.Register.{Words, Register, Chained, Group as WordGroup, GroupRow, Entered};
-ghost use Rattle.building.specs.Register.{restsFrom, nodeAt, rowNode};
-ghost use Rattle.building.specs.Finding.{Lettered, Found};
+ghost use Rattle.registering.specs.Register.{Words, Register, Chained, Group as WordGroup, GroupRow, Entered};
+ghost use Rattle.registering.specs.Register.{restsFrom, nodeAt, rowNode};
+ghost use Rattle.registering.specs.Finding.{Lettered, Found};
 use crate::sharing::Group;
 
 // Whether the word in slot i has behind its first d letters what the word in slot j has behind its first e.

@@ -4,7 +4,7 @@ ghost use Prim.Native.Nat.{_*_, _+_, _≤_, _<_, max, min};
 ghost use lib.ListN.{length, getD};
 ghost use Rattle.canonical.specs.Groups.{common};
 ghost use Rattle.sorting.specs.Slots.{wordAt, Holds};
-ghost use Rattle.building.specs.Register.{Words, Shared, Group as WordGroup, previous};
+ghost use Rattle.registering.specs.Register.{Words, Shared, Group as WordGroup, previous};
 
 // The words with the first depth letters of the word in slot first, which is the first of them, the letters of the
 // longest continuation, and the mark of the continuations.

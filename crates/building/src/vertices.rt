@@ -2,8 +2,8 @@
 ghost use mathlib.Core.Path.{_≡_};
 ghost use Prim.Native.Nat.{suc, _≤_};
 ghost use lib.ListN.{length};
-ghost use Rattle.building.specs.Arcs.{vertexRow, NodeRow, NodeRows, Vertices};
-ghost use Rattle.building.specs.Image.{letterIn, LetterRow};
+ghost use Rattle.registering.specs.Arcs.{vertexRow, NodeRow, NodeRows, Vertices};
+ghost use Rattle.registering.specs.Image.{letterIn, LetterRow};
 use crate::lists::DEPTH;
 use crate::lists::FIRST;
 use crate::lists::MANY;

@@ -2,8 +2,8 @@
 ghost use mathlib.Core.Path.{_≡_};
 ghost use Prim.Native.Nat.{_≤_, _<_};
 ghost use lib.ListN.{length};
-ghost use Rattle.building.specs.Register.{Words, Shared, Register, Chained, Built};
-ghost use Rattle.building.specs.Walking.{Walked, Passed};
+ghost use Rattle.registering.specs.Register.{Words, Shared, Register, Chained, Built};
+ghost use Rattle.registering.specs.Walking.{Walked, Passed};
 use crate::register::enter;
 use crate::sharing::group_of;
 

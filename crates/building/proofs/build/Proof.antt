@@ -4,7 +4,7 @@ use mathlib.Core.Path.{refl}
 use mathlib.Core.List.{List}
 use borrow.Author.Needs.{needs}
 use Prim.Native.Nat.{ℕ}
-use Rattle.building.proofs.Ready.{marked-buildable, marked-answered, too-many, no-register, no-chains}
+use Rattle.registering.proofs.Ready.{marked-buildable, marked-answered, too-many, no-register, no-chains}
 use Rattle.building.proofs.build.Statement.{statement}
 use Rattle.building.proofs.build.Tie as tie
 

@@ -14,11 +14,11 @@ use Rattle.graph.specs.Graph.{graphOf}
 use Rattle.canonical.specs.Canonical.{sortedWords}
 use Rattle.sorting.specs.Slots.{wordsFrom}
 use Rattle.sorting.specs.Listing.{wordTableAnswer, wordTableFurther}
-use Rattle.building.specs.Building.{Given}
-use Rattle.building.proofs.Calls.{table-refused, table-refused-out, table-refused-further}
-use Rattle.building.proofs.Calls.{work-room, further-room}
-use Rattle.building.proofs.Calls.{work-zeroed, given, part-bytes, further-again, work-again}
-use Rattle.building.proofs.Calls.{work-length, further-length, out-past}
+use Rattle.registering.specs.Building.{Given}
+use Rattle.registering.proofs.Calls.{table-refused, table-refused-out, table-refused-further}
+use Rattle.registering.proofs.Calls.{work-room, further-room}
+use Rattle.registering.proofs.Calls.{work-zeroed, given, part-bytes, further-again, work-again}
+use Rattle.registering.proofs.Calls.{work-length, further-length, out-past}
 use Rattle.building.proofs.canonical.Statement.{statement}
 use Rattle.building.proofs.canonical.Tie as tie
 

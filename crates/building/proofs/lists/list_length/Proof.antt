@@ -4,7 +4,7 @@ use Prim.Native.Nat.{_-_}
 use mathlib.Core.Logic.{⊎-elim}
 use native.Mathlib.Omega.{arith}
 use borrow.Author.Needs.{needs}
-use Rattle.building.proofs.Partings.{Counting, count-start, count-here, count-past, count-done}
+use Rattle.registering.proofs.Partings.{Counting, count-start, count-here, count-past, count-done}
 use Rattle.building.proofs.lists.list_length.Statement.{statement}
 use Rattle.building.proofs.lists.list_length.Tie as tie
 

@@ -7,7 +7,7 @@ use mathlib.Core.Logic.{⊎-elim}
 use native.Mathlib.Omega.{arith}
 use borrow.Author.Needs.{needs}
 use lib.ListN.{length, getD}
-use Rattle.building.proofs.Partings.{Putting, put-start, put-room, part-room, put-here, put-past, put-done}
+use Rattle.registering.proofs.Partings.{Putting, put-start, put-room, part-room, put-here, put-past, put-done}
 use Rattle.building.proofs.lists.put_list.Statement.{statement}
 use Rattle.building.proofs.lists.put_list.Tie as tie
 

@@ -3,7 +3,7 @@ use Prim.Native.Nat.{_%_}
 use native.Mathlib.Omega.{arith}
 use borrow.Author.Needs.{needs}
 use lib.ListN.{length-set}
-use Rattle.building.proofs.Putting.{put-u16}
+use Rattle.registering.proofs.Putting.{put-u16}
 use Rattle.building.proofs.lists.put_number.Statement.{statement}
 use Rattle.building.proofs.lists.put_number.Tie as tie
 

@@ -4,8 +4,8 @@ use Prim.Native.Nat.{_+_, _*_, _≤_, _<_}
 use native.Mathlib.Omega.{arith}
 use lib.ListN.{length, drop, set}
 use Rattle.sorting.specs.Slots.{wordAt}
-use Rattle.building.specs.Marking.{WordMarked}
-use Rattle.building.proofs.Marks.{MarkedPast, mark-low, mark-start, mark-next, mark-done}
+use Rattle.registering.specs.Marking.{WordMarked}
+use Rattle.registering.proofs.Marks.{MarkedPast, mark-low, mark-start, mark-next, mark-done}
 use Rattle.building.proofs.marking.mark_word.Statement.{statement}
 use Rattle.building.proofs.marking.mark_word.Tie as tie
 

@@ -2,7 +2,7 @@
 -- these. The measure is the words left. Assumes nothing.
 use Prim.Native.Nat.{_-_}
 use native.Mathlib.Omega.{arith}
-use Rattle.building.proofs.Marks.{MarkedTo, marks-start, slot-kept, marks-next, marks-all}
+use Rattle.registering.proofs.Marks.{MarkedTo, marks-start, slot-kept, marks-next, marks-all}
 use borrow.Author.Needs.{needs}
 use Rattle.building.proofs.marking.mark_words.Statement.{statement}
 use Rattle.building.proofs.marking.mark_words.Tie as tie

@@ -4,8 +4,8 @@ use Prim.Native.Nat.{suc, _-_}
 use mathlib.Core.Path.{_≡_, ap}
 use native.Mathlib.Omega.{arith}
 use borrow.Author.Needs.{needs}
-use Rattle.building.specs.Numbering.{placesBelow, Placed}
-use Rattle.building.proofs.Numbers.{placed-start, placed-all, places-next, places-end}
+use Rattle.registering.specs.Numbering.{placesBelow, Placed}
+use Rattle.registering.proofs.Numbers.{placed-start, placed-all, places-next, places-end}
 use Rattle.building.proofs.numbering.number_all.Statement.{statement}
 use Rattle.building.proofs.numbering.number_all.Tie as tie
 

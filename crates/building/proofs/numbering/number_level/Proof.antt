@@ -7,9 +7,9 @@ use mathlib.Core.List.{[], _∷_, _++_}
 use native.Mathlib.Omega.{arith}
 use borrow.Author.Needs.{needs}
 use lib.ListN.{getD}
-use Rattle.building.specs.Register.{longestOf}
-use Rattle.building.specs.Numbering.{placesOf, placesBelow, Placed}
-use Rattle.building.proofs.Numbers.{placed-room, placed-put, places-here, places-past, places-none}
+use Rattle.registering.specs.Register.{longestOf}
+use Rattle.registering.specs.Numbering.{placesOf, placesBelow, Placed}
+use Rattle.registering.proofs.Numbers.{placed-room, placed-put, places-here, places-past, places-none}
 use Rattle.building.proofs.numbering.number_level.Statement.{statement}
 use Rattle.building.proofs.numbering.number_level.Tie as tie
 

@@ -7,8 +7,8 @@ use native.Mathlib.Decide.{ℕ-discrete}
 use native.Mathlib.Omega.{arith}
 use borrow.Author.Needs.{needs}
 use lib.ListN.{getD}
-use Rattle.building.specs.Register.{longestOf}
-use Rattle.building.specs.Numbering.{Low}
+use Rattle.registering.specs.Register.{longestOf}
+use Rattle.registering.specs.Numbering.{Low}
 use Rattle.building.proofs.numbering.top_of.Statement.{statement}
 use Rattle.building.proofs.numbering.top_of.Tie as tie
 

@@ -1,8 +1,8 @@
 -- `register::enter` meets its contract: the search tells whether the node is there. Assumes nothing.
 use Prim.Native.Nat.{_+_, _*_}
 use native.Mathlib.Omega.{arith}
-use Rattle.building.proofs.Rests.{group-small}
-use Rattle.building.proofs.Entering.{enter-known, enter-full, enter-new}
+use Rattle.registering.proofs.Rests.{group-small}
+use Rattle.registering.proofs.Entering.{enter-known, enter-full, enter-new}
 use borrow.Author.Needs.{needs}
 use Rattle.building.proofs.register.enter.Statement.{statement}
 use Rattle.building.proofs.register.enter.Tie as tie

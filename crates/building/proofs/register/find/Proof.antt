@@ -3,9 +3,9 @@
 use Prim.Native.Nat.{_-_}
 use mathlib.Core.Path.{sym, _∙_}
 use native.Mathlib.Omega.{arith}
-use Rattle.building.specs.Register.{nodeAt}
-use Rattle.building.proofs.Chains.{Passed, node-letter, passed-start, passed-next, passed-less}
-use Rattle.building.proofs.Chains.{passed-found, passed-none}
+use Rattle.registering.specs.Register.{nodeAt}
+use Rattle.registering.proofs.Chains.{Passed, node-letter, passed-start, passed-next, passed-less}
+use Rattle.registering.proofs.Chains.{passed-found, passed-none}
 use borrow.Author.Needs.{needs}
 use Rattle.building.proofs.register.find.Statement.{statement}
 use Rattle.building.proofs.register.find.Tie as tie

@@ -2,9 +2,9 @@
 -- another longest one, differ, and else the continuations decide. Assumes nothing.
 use mathlib.Core.Path.{sym, subst}
 use native.Mathlib.Omega.{arith}
-use Rattle.building.specs.Finding.{Lettered}
-use Rattle.building.proofs.Rests.{group-lettered, group-small, other-mark, other-many, other-longest}
-use Rattle.building.proofs.Rests.{same-letters}
+use Rattle.registering.specs.Finding.{Lettered}
+use Rattle.registering.proofs.Rests.{group-lettered, group-small, other-mark, other-many, other-longest}
+use Rattle.registering.proofs.Rests.{same-letters}
 use borrow.Author.Needs.{needs}
 use Rattle.building.proofs.register.is_node.Statement.{statement}
 use Rattle.building.proofs.register.is_node.Tie as tie

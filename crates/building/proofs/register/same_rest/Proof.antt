@@ -2,7 +2,7 @@
 -- all. The measure is the letters left. Assumes nothing.
 use Prim.Native.Nat.{_-_}
 use native.Mathlib.Omega.{arith}
-use Rattle.building.proofs.Rests.{EqualTo, equal-start, equal-next, equal-differs, equal-ends, other-lengths}
+use Rattle.registering.proofs.Rests.{EqualTo, equal-start, equal-next, equal-differs, equal-ends, other-lengths}
 use borrow.Author.Needs.{needs}
 use Rattle.building.proofs.register.same_rest.Statement.{statement}
 use Rattle.building.proofs.register.same_rest.Tie as tie

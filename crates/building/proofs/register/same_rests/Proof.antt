@@ -4,7 +4,7 @@ use Prim.Native.Nat.{_≤_, _-_}
 use mathlib.Core.Path.{_≡_}
 use native.Mathlib.Omega.{arith}
 use borrow.Author.Tests.{not-true, not-false}
-use Rattle.building.proofs.Rests.{Whole, Compared, rests-start, rests-equal, rests-differ, rests-end}
+use Rattle.registering.proofs.Rests.{Whole, Compared, rests-start, rests-equal, rests-differ, rests-end}
 use borrow.Author.Needs.{needs}
 use Rattle.building.proofs.register.same_rests.Statement.{statement}
 use Rattle.building.proofs.register.same_rests.Tie as tie

@@ -3,8 +3,8 @@
 use Prim.Native.Nat.{_-_}
 use mathlib.Core.Path.{_∙_}
 use native.Mathlib.Omega.{arith}
-use Rattle.building.proofs.CommonLetters.{Alike, alike-start, alike-next, alike-differs, alike-ends}
-use Rattle.building.proofs.CommonLetters.{first-shares, shared-words}
+use Rattle.registering.proofs.CommonLetters.{Alike, alike-start, alike-next, alike-differs, alike-ends}
+use Rattle.registering.proofs.CommonLetters.{first-shares, shared-words}
 use borrow.Author.Needs.{needs}
 use Rattle.building.proofs.sharing.common_letters.Statement.{statement}
 use Rattle.building.proofs.sharing.common_letters.Tie as tie

@@ -5,7 +5,7 @@ use mathlib.Core.Path.{refl}
 use mathlib.Core.Logic.{inl, inr, ⊎-elim}
 use native.Mathlib.Omega.{arith}
 use lib.ListN.{length, getD}
-use Rattle.building.proofs.CommonLetters.{Grouping, grouping-start, grouping-low, grouping-more, grouped}
+use Rattle.registering.proofs.CommonLetters.{Grouping, grouping-start, grouping-low, grouping-more, grouped}
 use borrow.Author.Needs.{needs}
 use Rattle.building.proofs.sharing.group_of.Statement.{statement}
 use Rattle.building.proofs.sharing.group_of.Tie as tie

@@ -2,7 +2,7 @@
 -- is the words left. Assumes nothing.
 use Prim.Native.Nat.{_-_}
 use native.Mathlib.Omega.{arith}
-use Rattle.building.proofs.CommonLetters.{SharedTo, shared-none, shared-more, shared-all}
+use Rattle.registering.proofs.CommonLetters.{SharedTo, shared-none, shared-more, shared-all}
 use borrow.Author.Needs.{needs}
 use Rattle.building.proofs.sharing.share.Statement.{statement}
 use Rattle.building.proofs.sharing.share.Tie as tie

@@ -6,8 +6,8 @@ use native.Mathlib.Numerals.{add-one}
 use native.Mathlib.Omega.{arith}
 use borrow.Author.Needs.{needs}
 use lib.ListN.{getD}
-use Rattle.building.specs.Arcs.{registerRow, linkOf, Vertices}
-use Rattle.building.proofs.Rows.{vertices-start, vertices-next}
+use Rattle.registering.specs.Arcs.{registerRow, linkOf, Vertices}
+use Rattle.registering.proofs.Rows.{vertices-start, vertices-next}
 use Rattle.building.proofs.vertices.put_vertices.Statement.{statement}
 use Rattle.building.proofs.vertices.put_vertices.Tie as tie
 

@@ -1,8 +1,8 @@
 -- `vertices::vertex_row` meets its contract: both ways the row is its definition. Assumes nothing.
 use Prim.Native.Nat.{_*_}
 use borrow.Author.Needs.{needs}
-use Rattle.building.specs.Register.{firstOf}
-use Rattle.building.proofs.Rows.{row-ends, row-goes}
+use Rattle.registering.specs.Register.{firstOf}
+use Rattle.registering.proofs.Rows.{row-ends, row-goes}
 use Rattle.building.proofs.vertices.vertex_row.Statement.{statement}
 use Rattle.building.proofs.vertices.vertex_row.Tie as tie
 

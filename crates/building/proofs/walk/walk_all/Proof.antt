@@ -3,8 +3,8 @@
 use Prim.Native.Nat.{_-_, _≤_}
 use mathlib.Core.Path.{_≡_}
 use native.Mathlib.Omega.{arith}
-use Rattle.building.specs.Walking.{Walked}
-use Rattle.building.proofs.Walking.{walk-first, walk-done, walk-over}
+use Rattle.registering.specs.Walking.{Walked}
+use Rattle.registering.proofs.Walking.{walk-first, walk-done, walk-over}
 use Rattle.building.proofs.walk.walk_all.Statement.{statement}
 use Rattle.building.proofs.walk.walk_all.Tie as tie
 

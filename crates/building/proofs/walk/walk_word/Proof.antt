@@ -4,11 +4,11 @@
 use Prim.Native.Nat.{_+_, _-_, _*_, _≤_, _<_}
 use native.Mathlib.Omega.{arith}
 use lib.ListN.{getD}
-use Rattle.building.specs.Register.{Group, Entered}
-use Rattle.building.specs.Walking.{Walking}
-use Rattle.building.proofs.Linking.{gap-low, gap-shared}
-use Rattle.building.proofs.Walking.{shared-short, walk-start, walk-end, step-known, step-full, step-added}
-use Rattle.building.proofs.Walking.{entered-low}
+use Rattle.registering.specs.Register.{Group, Entered}
+use Rattle.registering.specs.Walking.{Walking}
+use Rattle.registering.proofs.Linking.{gap-low, gap-shared}
+use Rattle.registering.proofs.Walking.{shared-short, walk-start, walk-end, step-known, step-full, step-added}
+use Rattle.registering.proofs.Walking.{entered-low}
 use Rattle.building.proofs.walk.walk_word.Statement.{statement}
 use Rattle.building.proofs.walk.walk_word.Tie as tie
 

@@ -9,10 +9,10 @@ use lib.ListN.{length}
 use Rattle.graph.specs.Conditions.{placeCount, manyPlaces}
 use Rattle.canonical.specs.Canonical.{wordsGraph, wordsImage, outsideLimits}
 use Rattle.sorting.specs.Slots.{wordsFrom}
-use Rattle.building.proofs.Images.{image-length, size-few}
-use Rattle.building.proofs.Whole.{drawn-rows, drawn-limits, drawn-nodes, drawn-measured, drawn-listed}
-use Rattle.building.proofs.Whole.{drawn-lettered, drawn-voiced}
-use Rattle.building.proofs.Whole.{image-is, places-is, too-many, no-room, all-written}
+use Rattle.registering.proofs.Images.{image-length, size-few}
+use Rattle.registering.proofs.Whole.{drawn-rows, drawn-limits, drawn-nodes, drawn-measured, drawn-listed}
+use Rattle.registering.proofs.Whole.{drawn-lettered, drawn-voiced}
+use Rattle.registering.proofs.Whole.{image-is, places-is, too-many, no-room, all-written}
 use Rattle.building.proofs.writing.build_image.Statement.{statement}
 use Rattle.building.proofs.writing.build_image.Tie as tie
 

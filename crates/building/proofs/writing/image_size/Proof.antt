@@ -4,8 +4,8 @@ use Prim.Native.Nat.{suc, _+_, _*_, _-_, _≤_}
 use mathlib.Core.Path.{_≡_}
 use native.Mathlib.Omega.{arith}
 use borrow.Author.Needs.{needs}
-use Rattle.building.specs.Image.{listsLength}
-use Rattle.building.proofs.Images.{list-few, size-none, size-more}
+use Rattle.registering.specs.Image.{listsLength}
+use Rattle.registering.proofs.Images.{list-few, size-none, size-more}
 use Rattle.building.proofs.writing.image_size.Statement.{statement}
 use Rattle.building.proofs.writing.image_size.Tie as tie
 

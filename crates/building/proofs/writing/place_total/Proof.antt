@@ -9,8 +9,8 @@ use lib.ListN.{length, getD}
 use Rattle.endian.specs.Lists.{sum}
 use Rattle.voice.specs.Voice.{letterCount, states}
 use Rattle.voice.proofs.Letters.{states-range, states-there}
-use Rattle.building.specs.Image.{lettersFrom}
-use Rattle.building.proofs.Images.{states-none, states-more}
+use Rattle.registering.specs.Image.{lettersFrom}
+use Rattle.registering.proofs.Images.{states-none, states-more}
 use Rattle.building.proofs.writing.place_total.Statement.{statement}
 use Rattle.building.proofs.writing.place_total.Tie as tie
 

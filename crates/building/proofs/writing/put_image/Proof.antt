@@ -5,8 +5,8 @@ use mathlib.Core.Path.{_≡_, _∙_}
 use native.Mathlib.Omega.{arith}
 use borrow.Author.Needs.{needs}
 use lib.ListN.{length}
-use Rattle.building.specs.Image.{listsFrom}
-use Rattle.building.proofs.Images.{image-parts, image-put}
+use Rattle.registering.specs.Image.{listsFrom}
+use Rattle.registering.proofs.Images.{image-parts, image-put}
 use Rattle.building.proofs.writing.put_image.Statement.{statement}
 use Rattle.building.proofs.writing.put_image.Tie as tie
 

@@ -5,9 +5,9 @@ use mathlib.Core.Path.{_≡_, refl, sym, _∙_}
 use native.Mathlib.Omega.{arith}
 use borrow.Author.Needs.{needs}
 use lib.ListN.{length, length-set}
-use Rattle.building.specs.Image.{Put, lettersFrom}
-use Rattle.building.proofs.Putting.{put-none, put-both, put-byte}
-use Rattle.building.proofs.Images.{letters-none, letters-more}
+use Rattle.registering.specs.Image.{Put, lettersFrom}
+use Rattle.registering.proofs.Putting.{put-none, put-both, put-byte}
+use Rattle.registering.proofs.Images.{letters-none, letters-more}
 use Rattle.building.proofs.writing.put_letters.Statement.{statement}
 use Rattle.building.proofs.writing.put_letters.Tie as tie
 

@@ -7,10 +7,10 @@ use native.Mathlib.Omega.{arith}
 use borrow.Author.Needs.{needs}
 use lib.ListN.{length, getD}
 use Rattle.image.specs.Image.{listBytes}
-use Rattle.building.specs.Arcs.{listOf}
-use Rattle.building.specs.Image.{Put, listsFrom}
-use Rattle.building.proofs.Putting.{put-none, put-both}
-use Rattle.building.proofs.Images.{lists-none, lists-more, lists-room}
+use Rattle.registering.specs.Arcs.{listOf}
+use Rattle.registering.specs.Image.{Put, listsFrom}
+use Rattle.registering.proofs.Putting.{put-none, put-both}
+use Rattle.registering.proofs.Images.{lists-none, lists-more, lists-room}
 use Rattle.building.proofs.writing.put_lists.Statement.{statement}
 use Rattle.building.proofs.writing.put_lists.Tie as tie
 
