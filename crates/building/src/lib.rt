@@ -43,14 +43,14 @@ fn build(voice: &[u8], words: &mut [u8], n: usize, shared: &mut [u8], out: &mut 
 {
     mark_words(words, n);
     share(words, n, shared);
-    let mut rows = [[0u16; 6]; 400];
+    let mut rows = [[0u16; 6]; 401];
     let mut chains = [0u16; 256];
     let mut links = [0u16; 2400];
     let count = walk_all(words, n, shared, &mut rows, &mut chains, &mut links);
     if NODES < count {
         return Answer::Refused(Refusal::CanonicalImage);
     }
-    build_image(voice, words, n, shared, &rows, &links, count, out)
+    build_image(voice, words, n, shared, &mut rows, &links, count, out)
 }
 
 // Writes the canonical image of a lexicon, and answers the bytes written.

@@ -1,25 +1,25 @@
-// The arcs of a vertex, by its row: the first word behind it, how many there are, how many of their letters stand
-// before it, and where its first arc leads. Another arc begins with each further word that parts from the word before
-// it there.
+// The arcs of a vertex, by its row: the first word behind it, how many there are, and how many of their letters stand
+// before it. The first arc is that of the first word, and another begins with each further word that parts from the
+// word before it there.
 ghost use mathlib.Core.Path.{_≡_};
 ghost use Prim.Native.Nat.{_+_, _≤_};
 ghost use lib.ListN.{length};
 ghost use Rattle.endian.specs.Bytes.{u16Bytes};
 ghost use Rattle.image.specs.Image.{listBytes};
+ghost use Rattle.registering.specs.Numbering.{numbersIn};
 ghost use Rattle.registering.specs.Arcs.{listOf, listLength, Spanned, Readable};
 ghost use Rattle.registering.specs.Image.{Put};
+use crate::numbering::NUMBER;
 
-// The columns of a vertex's row.
+// The columns of a row that say which words are behind a vertex.
 pub(crate) const FIRST: usize = 0;
 
-pub(crate) const MANY: usize = 1;
+const MANY: usize = 1;
 
 pub(crate) const DEPTH: usize = 2;
 
-pub(crate) const HEAD: usize = 3;
-
 // Where the links of words begin.
-pub(crate) const WORD_LINKS: usize = 400;
+const WORD_LINKS: usize = 400;
 
 // Writes a number at an offset.
 pub(crate) fn put_number(out: &mut [u8], at: usize, n: u16)
@@ -31,7 +31,7 @@ pub(crate) fn put_number(out: &mut [u8], at: usize, n: u16)
 }
 
 // How many arcs a vertex has.
-pub(crate) fn list_length(shared: &[u8], row: &[u16; 4]) -> usize
+pub(crate) fn list_length(shared: &[u8], row: &[u16; 6]) -> usize
     requires { ⌜ Spanned (now shared) (now row) ⌝ }
     ensures { λ r. ⌜ r ≡ listLength (now (shared .entry)) (now (row .entry)) ⌝ }
 {
@@ -52,16 +52,17 @@ pub(crate) fn list_length(shared: &[u8], row: &[u16; 4]) -> usize
 pub(crate) fn put_list(
     shared: &[u8],
     links: &[u16; 2400],
-    numbers: &[u16; 400],
-    row: &[u16; 4],
+    rows: &[[u16; 6]; 401],
+    row: &[u16; 6],
+    first: u16,
     out: &mut [u8],
     at: usize,
 ) -> usize
     requires { ⌜ Readable (now shared) (now links) (now row) ⌝ }
-    requires { ⌜ at + length (listBytes (listOf (now shared) (now links) (now numbers) (now row)))
+    requires { ⌜ at + length (listBytes (listOf (now shared) (now links) (numbersIn (now rows)) (now row) first))
         ≤ length (now out) ⌝ }
-    ensures { λ r. ⌜ Put (listBytes (listOf (now (shared .entry)) (now (links .entry)) (now (numbers .entry))
-        (now (row .entry)))) at (now (out .entry)) (now (out .exit)) r ⌝ }
+    ensures { λ r. ⌜ Put (listBytes (listOf (now (shared .entry)) (now (links .entry)) (numbersIn (now (rows .entry)))
+        (now (row .entry)) first)) at (now (out .entry)) (now (out .exit)) r ⌝ }
 {
     let stop = row[FIRST] as usize + row[MANY] as usize;
     let depth = row[DEPTH];
@@ -72,13 +73,13 @@ pub(crate) fn put_list(
             put_number(
                 out,
                 at + 2 + 2 * arcs,
-                numbers[links[WORD_LINKS + i] as usize],
+                rows[links[WORD_LINKS + i] as usize][NUMBER],
             );
             arcs += 1;
         }
         i += 1;
     }
-    put_number(out, at + 2, row[HEAD]);
+    put_number(out, at + 2, first);
     put_number(out, at, arcs as u16);
     at + 2 + 2 * arcs
 }

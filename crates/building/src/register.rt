@@ -82,7 +82,7 @@ fn is_node(words: &[u8], n: usize, row: &[u16; 6], a: Group) -> bool
 fn find(
     words: &[u8],
     n: usize,
-    rows: &[[u16; 6]; 400],
+    rows: &[[u16; 6]; 401],
     chains: &[u16; 256],
     count: usize,
     letter: u8,
@@ -107,7 +107,7 @@ fn find(
 }
 
 // Puts the row of a group behind count rows, and at the head of the chain of its letter.
-fn append(rows: &mut [[u16; 6]; 400], chains: &mut [u16; 256], count: usize, letter: u8, a: Group)
+fn append(rows: &mut [[u16; 6]; 401], chains: &mut [u16; 256], count: usize, letter: u8, a: Group)
     requires { ⌜ (count < 400) × (a .first ≤ 2000) × (a .many ≤ 2000) × (a .depth ≤ 32) × (a .longest ≤ 32)
         × (a .mark < 65536) ⌝ }
     ensures { λ _. ⌜ now (rows .exit) ≡ set (now (rows .entry)) count
@@ -131,7 +131,7 @@ fn append(rows: &mut [[u16; 6]; 400], chains: &mut [u16; 256], count: usize, let
 pub(crate) fn enter(
     words: &[u8],
     n: usize,
-    rows: &mut [[u16; 6]; 400],
+    rows: &mut [[u16; 6]; 401],
     chains: &mut [u16; 256],
     count: usize,
     a: Group,

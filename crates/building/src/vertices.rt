@@ -1,64 +1,51 @@
-// The table of vertices, in the order of their numbers: the root, and then the nodes.
+// The vertices of the image, by their rows in the register: the root, and then the nodes in the order of their numbers.
 ghost use mathlib.Core.Path.{_≡_};
-ghost use Prim.Native.Nat.{suc, _≤_};
-ghost use lib.ListN.{length};
-ghost use Rattle.registering.specs.Arcs.{vertexRow, NodeRow, NodeRows, Vertices};
+ghost use Prim.Native.Nat.{_≤_};
+ghost use Rattle.registering.specs.Numbering.{numbersIn};
+ghost use Rattle.registering.specs.Arcs.{placeIn, firstArc, NodeRow};
 ghost use Rattle.registering.specs.Image.{letterIn, LetterRow};
 use crate::lists::DEPTH;
 use crate::lists::FIRST;
-use crate::lists::MANY;
-use crate::lists::WORD_LINKS;
+use crate::numbering::NUMBER;
+use crate::numbering::ORDER;
 
 // The bytes of a word's slot: its length, and 32 letters.
 const SLOT: usize = 33;
 
-// The row of a vertex, by its row in the register and the place that its first word leads to, if that goes on.
-fn vertex_row(
+// The root's place in the register, behind those of the nodes. In the links its place is that of the first word's link.
+pub(crate) const ROOT: usize = 400;
+
+// The place of a vertex in the register.
+pub(crate) fn place_of(rows: &[[u16; 6]; 401], vertex: usize) -> usize
+    requires { ⌜ (vertex ≤ 400) × (placeIn (now rows) vertex ≤ 400) ⌝ }
+    ensures { λ r. ⌜ r ≡ placeIn (now (rows .entry)) vertex ⌝ }
+{
+    if vertex == 0 {
+        return ROOT;
+    }
+    rows[vertex - 1][ORDER] as usize
+}
+
+// Where the first arc of a vertex leads: to the sink where its first word ends, else along that word to the node at a
+// place.
+pub(crate) fn first_arc(
     words: &[u8],
-    numbers: &[u16; 400],
+    rows: &[[u16; 6]; 401],
     count: usize,
     row: &[u16; 6],
     place: u16,
-) -> [u16; 4]
+) -> u16
     requires { ⌜ (count ≤ 400) × NodeRow (now words) (now row) place ⌝ }
-    ensures { λ r. ⌜ r ≡ vertexRow (now (words .entry)) (now (numbers .entry)) count (now (row .entry)) place ⌝ }
+    ensures { λ r. ⌜ r ≡ firstArc (now (words .entry)) (numbersIn (now (rows .entry))) count (now (row .entry)) place ⌝ }
 {
-    let first = row[FIRST];
-    let depth = row[DEPTH];
-    if words[SLOT * (first as usize)] as u16 == depth {
-        return [first, row[MANY], depth, count as u16 + 1];
+    if words[SLOT * (row[FIRST] as usize)] as u16 == row[DEPTH] {
+        return count as u16 + 1;
     }
-    [first, row[MANY], depth, numbers[place as usize]]
-}
-
-// Makes the rows of the root and of count nodes. The root has all words behind it and none of their letters before it.
-pub(crate) fn put_vertices(
-    words: &[u8],
-    n: usize,
-    rows: &[[u16; 6]; 400],
-    links: &[u16; 2400],
-    order: &[u16; 400],
-    numbers: &[u16; 400],
-    count: usize,
-    vertices: &mut [[u16; 4]; 401],
-)
-    requires { ⌜ NodeRows (now words) n (now rows) (now links) (now order) count ⌝ }
-    requires { ⌜ length (now vertices) ≡ 401 ⌝ }
-    ensures { λ _. ⌜ Vertices (now (words .entry)) n (now (rows .entry)) (now (links .entry)) (now (order .entry))
-        (now (numbers .entry)) count (now (vertices .exit)) (suc count) ⌝ }
-{
-    let root = [0, n as u16, 0, 0, 0, 0];
-    vertices[0] = vertex_row(words, numbers, count, &root, links[WORD_LINKS]);
-    let mut node = 0;
-    while node < count {
-        let place = order[node] as usize;
-        vertices[node + 1] = vertex_row(words, numbers, count, &rows[place], links[place]);
-        node += 1;
-    }
+    rows[place as usize][NUMBER]
 }
 
 // The letter of a node: the last of those before it in its first word.
-pub(crate) fn letter_of(words: &[u8], row: &[u16; 4]) -> u8
+pub(crate) fn letter_of(words: &[u8], row: &[u16; 6]) -> u8
     requires { ⌜ LetterRow (now words) (now row) ⌝ }
     ensures { λ r. ⌜ r ≡ letterIn (now (words .entry)) (now (row .entry)) ⌝ }
 {

@@ -17,7 +17,7 @@ fn walk_word(
     words: &[u8],
     n: usize,
     shared: &[u8],
-    rows: &mut [[u16; 6]; 400],
+    rows: &mut [[u16; 6]; 401],
     chains: &mut [u16; 256],
     links: &mut [u16; 2400],
     count: usize,
@@ -54,7 +54,7 @@ pub(crate) fn walk_all(
     words: &[u8],
     n: usize,
     shared: &[u8],
-    rows: &mut [[u16; 6]; 400],
+    rows: &mut [[u16; 6]; 401],
     chains: &mut [u16; 256],
     links: &mut [u16; 2400],
 ) -> usize

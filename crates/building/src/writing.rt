@@ -14,8 +14,10 @@ use crate::lists::list_length;
 use crate::lists::put_list;
 use crate::lists::put_number;
 use crate::numbering::number_all;
+use crate::vertices::ROOT;
+use crate::vertices::first_arc;
 use crate::vertices::letter_of;
-use crate::vertices::put_vertices;
+use crate::vertices::place_of;
 use call::Answer;
 use call::Refusal;
 
@@ -23,35 +25,32 @@ use call::Refusal;
 const PLACES: usize = 1000;
 
 // The bytes of the image: the number of nodes, their letters, the lists of the vertices, and the reserve.
-pub(crate) fn image_size(shared: &[u8], vertices: &[[u16; 4]; 401], count: usize) -> usize
-    requires { ⌜ Measured (now shared) (now vertices) count ⌝ }
-    ensures { λ r. ⌜ r ≡ 4 + count + listsLength (now (shared .entry)) (now (vertices .entry)) 0 (suc count) ⌝ }
+fn image_size(shared: &[u8], rows: &[[u16; 6]; 401], count: usize) -> usize
+    requires { ⌜ Measured (now shared) (now rows) count ⌝ }
+    ensures { λ r. ⌜ r ≡ 4 + count + listsLength (now (shared .entry)) (now (rows .entry)) 0 (suc count) ⌝ }
 {
     let mut size = 4 + count;
     let mut vertex = 0;
     while vertex <= count {
-        size += 2 + 2 * list_length(shared, &vertices[vertex]);
+        let place = place_of(rows, vertex);
+        size += 2 + 2 * list_length(shared, &rows[place]);
         vertex += 1;
     }
     size
 }
 
 // The places of the nodes, one for each state of each.
-pub(crate) fn place_total(
-    voice: &[u8],
-    words: &[u8],
-    vertices: &[[u16; 4]; 401],
-    count: usize,
-) -> usize
-    requires { ⌜ Lettered (now words) (now vertices) count ⌝ }
-    requires { ⌜ Voiced (now voice) (now words) (now vertices) count ⌝ }
+fn place_total(voice: &[u8], words: &[u8], rows: &[[u16; 6]; 401], count: usize) -> usize
+    requires { ⌜ Lettered (now words) (now rows) count ⌝ }
+    requires { ⌜ Voiced (now voice) (now words) (now rows) count ⌝ }
     ensures { λ r. ⌜ r ≡ sum (map (states (now (voice .entry)))
-        (lettersFrom (now (words .entry)) (now (vertices .entry)) 1 count)) ⌝ }
+        (lettersFrom (now (words .entry)) (now (rows .entry)) 1 count)) ⌝ }
 {
     let mut places: usize = 0;
     let mut node = 0;
     while node < count {
-        let letter = letter_of(words, &vertices[node + 1]) as usize;
+        let place = place_of(rows, node + 1);
+        let letter = letter_of(words, &rows[place]) as usize;
         places += voice[2 + 2 * letter] as usize;
         node += 1;
     }
@@ -59,64 +58,65 @@ pub(crate) fn place_total(
 }
 
 // Writes the letters of the nodes, behind their number.
-fn put_letters(words: &[u8], vertices: &[[u16; 4]; 401], count: usize, out: &mut [u8])
-    requires { ⌜ Lettered (now words) (now vertices) count × (2 + count ≤ length (now out)) ⌝ }
-    ensures { λ _. ⌜ Put (lettersFrom (now (words .entry)) (now (vertices .entry)) 1 count) 2
+fn put_letters(words: &[u8], rows: &[[u16; 6]; 401], count: usize, out: &mut [u8])
+    requires { ⌜ Lettered (now words) (now rows) count × (2 + count ≤ length (now out)) ⌝ }
+    ensures { λ _. ⌜ Put (lettersFrom (now (words .entry)) (now (rows .entry)) 1 count) 2
         (now (out .entry)) (now (out .exit)) (2 + count) ⌝ }
 {
     let mut node = 0;
     while node < count {
-        out[2 + node] = letter_of(words, &vertices[node + 1]);
+        let place = place_of(rows, node + 1);
+        out[2 + node] = letter_of(words, &rows[place]);
         node += 1;
     }
 }
 
 // Writes the lists of the vertices, behind the letters, and answers where they end.
 fn put_lists(
+    words: &[u8],
     shared: &[u8],
     links: &[u16; 2400],
-    numbers: &[u16; 400],
-    vertices: &[[u16; 4]; 401],
+    rows: &[[u16; 6]; 401],
     count: usize,
     out: &mut [u8],
 ) -> usize
-    requires { ⌜ Listed (now shared) (now links) (now vertices) count ⌝ }
-    requires { ⌜ 2 + count + length (listsFrom (now shared) (now links) (now numbers) (now vertices) 0 (suc count))
+    requires { ⌜ Listed (now words) (now shared) (now links) (now rows) count ⌝ }
+    requires { ⌜ 2 + count + length (listsFrom (now words) (now shared) (now links) (now rows) count 0 (suc count))
         ≤ length (now out) ⌝ }
-    ensures { λ r. ⌜ Put (listsFrom (now (shared .entry)) (now (links .entry)) (now (numbers .entry))
-        (now (vertices .entry)) 0 (suc count)) (2 + count) (now (out .entry)) (now (out .exit)) r ⌝ }
+    ensures { λ r. ⌜ Put (listsFrom (now (words .entry)) (now (shared .entry)) (now (links .entry))
+        (now (rows .entry)) count 0 (suc count)) (2 + count) (now (out .entry)) (now (out .exit)) r ⌝ }
 {
     let mut at = 2 + count;
     let mut vertex = 0;
     while vertex <= count {
-        at = put_list(shared, links, numbers, &vertices[vertex], out, at);
+        let place = place_of(rows, vertex);
+        let first = first_arc(words, rows, count, &rows[place], links[place]);
+        at = put_list(shared, links, rows, &rows[place], first, out, at);
         vertex += 1;
     }
     at
 }
 
 // Writes the image at the output's start.
-pub(crate) fn put_image(
+fn put_image(
     words: &[u8],
     shared: &[u8],
     links: &[u16; 2400],
-    numbers: &[u16; 400],
-    vertices: &[[u16; 4]; 401],
+    rows: &[[u16; 6]; 401],
     count: usize,
     out: &mut [u8],
 )
-    requires { ⌜ Lettered (now words) (now vertices) count ⌝ }
-    requires { ⌜ Listed (now shared) (now links) (now vertices) count ⌝ }
-    requires { ⌜ length (tableImage (now words) (now shared) (now links) (now numbers) (now vertices) count)
-        ≤ length (now out) ⌝ }
+    requires { ⌜ Lettered (now words) (now rows) count ⌝ }
+    requires { ⌜ Listed (now words) (now shared) (now links) (now rows) count ⌝ }
+    requires { ⌜ length (tableImage (now words) (now shared) (now links) (now rows) count) ≤ length (now out) ⌝ }
     ensures { λ _. ⌜ Put (tableImage (now (words .entry)) (now (shared .entry)) (now (links .entry))
-        (now (numbers .entry)) (now (vertices .entry)) count) 0 (now (out .entry)) (now (out .exit))
-        (length (tableImage (now (words .entry)) (now (shared .entry)) (now (links .entry)) (now (numbers .entry))
-        (now (vertices .entry)) count)) ⌝ }
+        (now (rows .entry)) count) 0 (now (out .entry)) (now (out .exit))
+        (length (tableImage (now (words .entry)) (now (shared .entry)) (now (links .entry))
+        (now (rows .entry)) count)) ⌝ }
 {
     put_number(out, 0, count as u16);
-    put_letters(words, vertices, count, out);
-    let end = put_lists(shared, links, numbers, vertices, count, out);
+    put_letters(words, rows, count, out);
+    let end = put_lists(words, shared, links, rows, count, out);
     put_number(out, end, 0);
 }
 
@@ -126,7 +126,7 @@ pub(crate) fn build_image(
     words: &[u8],
     n: usize,
     shared: &[u8],
-    rows: &[[u16; 6]; 400],
+    rows: &mut [[u16; 6]; 401],
     links: &[u16; 2400],
     count: usize,
     out: &mut [u8],
@@ -135,27 +135,16 @@ pub(crate) fn build_image(
     ensures { λ r. ⌜ ImageAnswered (now (voice .entry)) (wordsFrom (now (words .entry)) 0 n) (answerOf r)
         (now (out .entry)) (now (out .exit)) ⌝ }
 {
-    let mut order = [0u16; 400];
-    let mut numbers = [0u16; 400];
-    let mut vertices = [[0u16; 4]; 401];
-    number_all(rows, count, &mut order, &mut numbers);
-    put_vertices(
-        words,
-        n,
-        rows,
-        links,
-        &order,
-        &numbers,
-        count,
-        &mut vertices,
-    );
-    if PLACES < place_total(voice, words, &vertices, count) {
+    // the root has all words behind it, and none of their letters before it
+    rows[ROOT] = [0, n as u16, 0, 0, 0, 0];
+    number_all(rows, count);
+    if PLACES < place_total(voice, words, rows, count) {
         return Answer::Refused(Refusal::CanonicalImage);
     }
-    let size = image_size(shared, &vertices, count);
+    let size = image_size(shared, rows, count);
     if out.len() < size {
         return Answer::Refused(Refusal::Output);
     }
-    put_image(words, shared, links, &numbers, &vertices, count, out);
+    put_image(words, shared, links, rows, count, out);
     Answer::Value(size as u32)
 }

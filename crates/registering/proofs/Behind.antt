@@ -5,6 +5,7 @@ use mathlib.Core.Path.{_≡_, refl, sym, ap, _∙_}
 use mathlib.Core.List.{List, [], _∷_, map}
 use native.Mathlib.Omega.{arith}
 use lib.ListN.{length, drop}
+use Rattle.checking.proofs.Columns.{column-at}
 use Rattle.canonical.specs.Dictionary.{continuations}
 use Rattle.canonical.specs.Nodes.{Node, nodeOf}
 use Rattle.canonical.specs.Groups.{begins}
@@ -56,7 +57,12 @@ module _ {t : List ℕ} {n : ℕ} (w : Words t n) where
         omega (arith, g .high, longest-low t d i m (λ k a b. w .holds k (omega (arith, g .reach .inside))))
 
   pub register-rows : {rows : List (List ℕ)} {count : ℕ} → Register t n rows count → Rows rows count
-  register-rows g = record { few = g .few; low = λ r h. omega (arith, group-low (g .groups r h)) }
+  register-rows {rows} g = record {
+    few = g .few;
+    long = g .long;
+    wide = g .wide;
+    low = λ r h. rw (column-at 3 r rows) (omega (arith, group-low (g .groups r h)));
+  }
 
   -- ---- the root
 

@@ -56,7 +56,7 @@ module _ {t : List ℕ} {n count : ℕ} {rows : List (List ℕ)} {chains : List 
   other : (r : ℕ) → ¬ (r ≡ count) → getD more r [] ≡ getD rows r []
   other r k = getD-set-other rows count r row [] k
 
-  wide : (r : ℕ) → r < 400 → length (getD more r []) ≡ 6
+  wide : (r : ℕ) → r < 401 → length (getD more r []) ≡ 6
   wide r k = elim (ℕ-discrete r count) [ yes e ↦ rw (e, here) | no e ↦ rw (other r e) (g .wide r k) ]
 
   groups : (r : ℕ) → r < count + 1 → GroupRow t n (getD more r [])

@@ -17,42 +17,44 @@ use Rattle.voice.specs.Voice.{states}
 use Rattle.image.specs.Image.{listBytes}
 use Rattle.image.proofs.Reading.{length-from, length-u16, length-list}
 use Rattle.registering.specs.Register.{firstOf, manyOf, depthOf}
-use Rattle.registering.specs.Arcs.{partings, linkNumber, listOf, listLength, Spanned}
+use Rattle.registering.specs.Numbering.{numbersIn}
+use Rattle.registering.specs.Arcs.{placeIn, vertexIn, firstArc, vertexList, partings, linkNumber, listOf}
+use Rattle.registering.specs.Arcs.{listLength, Spanned}
 use Rattle.registering.specs.Image.{Put, letterIn, lettersFrom, listsFrom, listsLength, tableImage, Measured}
 use Rattle.registering.proofs.Putting.{put-both}
 
 -- ---- letters, and their states
 
-module _ (t : List ℕ) (vertices : List (List ℕ)) where
-  pub letters-none : lettersFrom t vertices 1 0 ≡ []
+module _ (t : List ℕ) (rows : List (List ℕ)) where
+  pub letters-none : lettersFrom t rows 1 0 ≡ []
   unfolding lettersFrom from
   letters-none = refl
 
   pub letters-more : (node : ℕ)
-      → lettersFrom t vertices 1 (node + 1)
-      ≡ lettersFrom t vertices 1 node ++ letterIn t (getD vertices (node + 1) []) ∷ []
+      → lettersFrom t rows 1 (node + 1)
+      ≡ lettersFrom t rows 1 node ++ letterIn t (vertexIn rows (node + 1)) ∷ []
   unfolding lettersFrom from
   letters-more node =
-      let f : ℕ → ℕ = λ k. letterIn t (getD vertices k []) in
+      let f : ℕ → ℕ = λ k. letterIn t (vertexIn rows k) in
       ap (map f) (from-add 1 node 1)
       ∙ map-append f (from 1 node) (from (1 + node) 1)
       ∙ ap (λ k. map f (from 1 node) ++ f k ∷ []) (add-comm 1 node)
 
-  pub letters-length : (count : ℕ) → length (lettersFrom t vertices 1 count) ≡ count
+  pub letters-length : (count : ℕ) → length (lettersFrom t rows 1 count) ≡ count
   unfolding lettersFrom
-  letters-length count = length-map (from 1 count) (λ k. letterIn t (getD vertices k [])) ∙ length-from 1 count
+  letters-length count = length-map (from 1 count) (λ k. letterIn t (vertexIn rows k)) ∙ length-from 1 count
 
-  pub states-none : (v : List ℕ) → sum (map (states v) (lettersFrom t vertices 1 0)) ≡ 0
+  pub states-none : (v : List ℕ) → sum (map (states v) (lettersFrom t rows 1 0)) ≡ 0
   unfolding lettersFrom from sum
   states-none v = refl
 
   pub states-more : (v : List ℕ) (node : ℕ)
-      → sum (map (states v) (lettersFrom t vertices 1 (node + 1)))
-      ≡ sum (map (states v) (lettersFrom t vertices 1 node)) + states v (letterIn t (getD vertices (node + 1) []))
+      → sum (map (states v) (lettersFrom t rows 1 (node + 1)))
+      ≡ sum (map (states v) (lettersFrom t rows 1 node)) + states v (letterIn t (vertexIn rows (node + 1)))
   unfolding sum
   states-more v node =
-      let l = lettersFrom t vertices 1 node in
-      let a = letterIn t (getD vertices (node + 1) []) in
+      let l = lettersFrom t rows 1 node in
+      let a = letterIn t (vertexIn rows (node + 1)) in
       ap (λ m. sum (map (states v) m)) (letters-more node)
       ∙ ap sum (map-append (states v) l (a ∷ []))
       ∙ sum-append (map (states v) l) (states v a ∷ [])
@@ -79,101 +81,99 @@ list-few {shared} {row} s =
       s .some,
     )
 
-module _ (shared links numbers : List ℕ) where
-  list-bytes : (row : List ℕ) → length (listBytes (listOf shared links numbers row)) ≡ 2 + 2 * listLength shared row
-  unfolding listOf listLength
-  list-bytes row =
-      let l = partings shared (depthOf row) (suc (firstOf row)) (manyOf row - 1) in
-      omega (arith, length-list (listOf shared links numbers row), length-map l (linkNumber links numbers))
+list-bytes : (shared links numbers row : List ℕ) (first : ℕ)
+    → length (listBytes (listOf shared links numbers row first)) ≡ 2 + 2 * listLength shared row
+unfolding listOf listLength
+list-bytes shared links numbers row first =
+    let l = partings shared (depthOf row) (suc (firstOf row)) (manyOf row - 1) in
+    omega (arith, length-list (listOf shared links numbers row first), length-map l (linkNumber links numbers))
 
-  module _ (vertices : List (List ℕ)) where
-    abbrev own : ℕ → List ℕ
-    own k = listBytes (listOf shared links numbers (getD vertices k []))
+module _ (t shared links : List ℕ) (rows : List (List ℕ)) (count : ℕ) where
+  abbrev own : ℕ → List ℕ
+  own k = listBytes (vertexList t shared links rows count k)
 
-    pub lists-none : listsFrom shared links numbers vertices 0 0 ≡ []
-    unfolding listsFrom from flatMap
-    lists-none = refl
+  -- of many vertices from u on
+  abbrev listed : ℕ → ℕ → List ℕ
+  listed u many = listsFrom t shared links rows count u many
 
-    lists-both : (m n : ℕ)
-        → listsFrom shared links numbers vertices 0 (m + n)
-        ≡ listsFrom shared links numbers vertices 0 m ++ listsFrom shared links numbers vertices m n
-    unfolding listsFrom
-    lists-both m n =
-        ap (flatMap own) (from-add 0 m n)
-        ∙ flatMap-append own (from 0 m) (from (0 + m) n)
-        ∙ ap (λ k. flatMap own (from 0 m) ++ flatMap own (from k n)) (zero-add m)
+  pub lists-none : listsFrom t shared links rows count 0 0 ≡ []
+  unfolding listsFrom from flatMap
+  lists-none = refl
 
-    pub lists-more : (u : ℕ)
-        → listsFrom shared links numbers vertices 0 (u + 1) ≡ listsFrom shared links numbers vertices 0 u ++ own u
-    unfolding listsFrom from flatMap
-    lists-more u = lists-both u 1 ∙ ap (λ l. flatMap own (from 0 u) ++ l) (append-nil (own u))
+  lists-both : (m n : ℕ) → listed 0 (m + n) ≡ listed 0 m ++ listed m n
+  unfolding listsFrom
+  lists-both m n =
+      ap (flatMap own) (from-add 0 m n)
+      ∙ flatMap-append own (from 0 m) (from (0 + m) n)
+      ∙ ap (λ k. flatMap own (from 0 m) ++ flatMap own (from k n)) (zero-add m)
 
-    -- the next list is one of them
-    pub lists-room : (u count : ℕ) → u ≤ count
-        → length (listsFrom shared links numbers vertices 0 u) + length (own u)
-        ≤ length (listsFrom shared links numbers vertices 0 (suc count))
-    lists-room u count h =
-        let e : u + 1 + (count - u) ≡ suc count = omega arith in
-        let all = listsFrom shared links numbers vertices 0 in
-        omega (
-          arith,
-          ap (λ n. length (all n)) e,
-          ap length (lists-both (u + 1) (count - u)),
-          length-append (all (u + 1)) (listsFrom shared links numbers vertices (u + 1) (count - u)),
-          ap length (lists-more u),
-          length-append (all u) (own u),
-        )
+  pub lists-more : (u : ℕ) → listed 0 (u + 1) ≡ listed 0 u ++ own u
+  unfolding listsFrom from flatMap
+  lists-more u = lists-both u 1 ∙ ap (λ l. flatMap own (from 0 u) ++ l) (append-nil (own u))
 
-    pub lists-length : (u n : ℕ)
-        → length (listsFrom shared links numbers vertices u n) ≡ listsLength shared vertices u n
-    unfolding listsFrom listsLength
-    lists-length u n =
-        length-flatMap own (from u n)
-        ∙ ap sum (map-cong (λ k. length (own k)) (λ k. 2 + 2 * listLength shared (getD vertices k [])) (from u n)
-        (λ k m. list-bytes (getD vertices k [])))
+  -- the next list is one of them
+  pub lists-room : (u : ℕ) → u ≤ count → length (listed 0 u) + length (own u) ≤ length (listed 0 (suc count))
+  lists-room u h =
+      let e : u + 1 + (count - u) ≡ suc count = omega arith in
+      omega (
+        arith,
+        ap (λ n. length (listed 0 n)) e,
+        ap length (lists-both (u + 1) (count - u)),
+        length-append (listed 0 (u + 1)) (listed (u + 1) (count - u)),
+        ap length (lists-more u),
+        length-append (listed 0 u) (own u),
+      )
 
-module _ (shared : List ℕ) (vertices : List (List ℕ)) where
-  pub size-none : listsLength shared vertices 0 0 ≡ 0
+  pub lists-length : (u n : ℕ) → length (listed u n) ≡ listsLength shared rows u n
+  unfolding listsFrom listsLength
+  lists-length u n =
+      length-flatMap own (from u n)
+      ∙ ap sum (map-cong (λ k. length (own k)) (λ k. 2 + 2 * listLength shared (vertexIn rows k)) (from u n)
+      (λ k m. list-bytes shared links (numbersIn rows) (vertexIn rows k)
+      (firstArc t (numbersIn rows) count (vertexIn rows k) (getD links (placeIn rows k) 0))))
+
+module _ (shared : List ℕ) (rows : List (List ℕ)) where
+  pub size-none : listsLength shared rows 0 0 ≡ 0
   unfolding listsLength from sum
   size-none = refl
 
   pub size-more : (u : ℕ)
-      → listsLength shared vertices 0 (u + 1)
-      ≡ listsLength shared vertices 0 u + (2 + 2 * listLength shared (getD vertices u []))
+      → listsLength shared rows 0 (u + 1)
+      ≡ listsLength shared rows 0 u + (2 + 2 * listLength shared (vertexIn rows u))
   unfolding listsLength from sum
   size-more u =
-      let f : ℕ → ℕ = λ k. 2 + 2 * listLength shared (getD vertices k []) in
+      let f : ℕ → ℕ = λ k. 2 + 2 * listLength shared (vertexIn rows k) in
       ap (λ l. sum (map f l)) (from-add 0 u 1)
       ∙ ap sum (map-append f (from 0 u) (from (0 + u) 1))
       ∙ sum-append (map f (from 0 u)) (map f (from (0 + u) 1))
       ∙ ap (λ k. sum (map f (from 0 u)) + (f k + 0)) (zero-add u)
       ∙ ap (λ k. sum (map f (from 0 u)) + k) (add-zero (f u))
 
-  pub size-few : {count : ℕ} → Measured shared vertices count → (u : ℕ) → u ≤ suc count
-      → listsLength shared vertices 0 u ≤ 4002 * u
+  pub size-few : {count : ℕ} → Measured shared rows count → (u : ℕ) → u ≤ suc count
+      → listsLength shared rows 0 u ≤ 4002 * u
   size-few m zero h = omega (arith, size-none)
   size-few m (suc u) h =
       omega (
         arith,
         size-few m u (omega arith),
-        ap (listsLength shared vertices 0) (add-one u),
+        ap (listsLength shared rows 0) (add-one u),
         size-more u,
         list-few (m .row u (omega arith)),
       )
 
 -- ---- all of it
 
-module _ (t shared links numbers : List ℕ) (vertices : List (List ℕ)) (count : ℕ) where
+module _ (t shared links : List ℕ) (rows : List (List ℕ)) (count : ℕ) where
   abbrev letters : List ℕ
-  letters = lettersFrom t vertices 1 count
+  letters = lettersFrom t rows 1 count
 
   abbrev lists : List ℕ
-  lists = listsFrom shared links numbers vertices 0 (suc count)
+  lists = listsFrom t shared links rows count 0 (suc count)
 
   abbrev image : List ℕ
-  image = tableImage t shared links numbers vertices count
+  image = tableImage t shared links rows count
 
-  pub image-length : length image ≡ 4 + count + listsLength shared vertices 0 (suc count)
+  pub image-length : length image ≡ 4 + count + listsLength shared rows 0 (suc count)
   unfolding tableImage
   image-length =
       omega (
@@ -183,13 +183,13 @@ module _ (t shared links numbers : List ℕ) (vertices : List (List ℕ)) (count
         length-append (u16Bytes count) letters,
         length-u16 count,
         length-u16 0,
-        letters-length t vertices count,
-        lists-length shared links numbers vertices 0 (suc count),
+        letters-length t rows count,
+        lists-length t shared links rows count 0 (suc count),
       )
 
   -- its parts have room where it has
   pub image-parts : length image ≡ 2 + count + length lists + 2
-  image-parts = omega (arith, image-length, lists-length shared links numbers vertices 0 (suc count))
+  image-parts = omega (arith, image-length, lists-length t shared links rows count 0 (suc count))
 
   -- and put one after the other they are the image
   pub image-put : {out out₁ out₂ out₃ out₄ : List ℕ} {end : ℕ} → Put (u16Bytes count) 0 out out₁ 2

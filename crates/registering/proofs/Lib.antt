@@ -18,7 +18,7 @@ pub mod Arcs
 pub mod Behind
 pub mod Putting
 pub mod Partings
-pub mod Rows
+pub mod Placing
 pub mod Images
 pub mod Vertex
 pub mod Limits

@@ -39,36 +39,36 @@ weaken : {A : Type 0} {R S : A → A → Type 0} {l : List A} → ((a b : A) →
 weaken f none = none
 weaken f (next {a} r p) = next (λ b m. f a b (r b m)) (weaken f p)
 
-module _ (rows : List (List ℕ)) (count : ℕ) where
-  of-out : (h : ℕ) {p : ℕ} → In p (placesOf rows h 0 count) → (p < count) × (longestOf (getD rows p []) ≡ h)
+module _ (heights : List ℕ) (count : ℕ) where
+  of-out : (h : ℕ) {p : ℕ} → In p (placesOf heights h 0 count) → (p < count) × (getD heights p 0 ≡ h)
   unfolding placesOf
   of-out h {p} m =
-      let u = select-out (λ p. eqb (longestOf (getD rows p [])) h) (from 0 count) m in
+      let u = select-out (λ p. eqb (getD heights p 0) h) (from 0 count) m in
       let r = from-out 0 count (u .0) in
-      (omega (arith, r .1), eqb-true (longestOf (getD rows p [])) h (u .1))
+      (omega (arith, r .1), eqb-true (getD heights p 0) h (u .1))
 
-  below-out : (h : ℕ) {p : ℕ} → In p (placesBelow rows count h) → p < count
+  below-out : (h : ℕ) {p : ℕ} → In p (placesBelow heights count h) → p < count
   unfolding placesBelow
-  below-out h m = let u = of-flatMap (λ k. placesOf rows k 0 count) (downFrom h) m in of-out (u .0) (u .2) .0
+  below-out h m = let u = of-flatMap (λ k. placesOf heights k 0 count) (downFrom h) m in of-out (u .0) (u .2) .0
 
-  below-in : (h p : ℕ) → p < count → longestOf (getD rows p []) < h → In p (placesBelow rows count h)
+  below-in : (h p : ℕ) → p < count → getD heights p 0 < h → In p (placesBelow heights count h)
   unfolding placesBelow placesOf
   below-in h p a b =
-      mem-flatMap (λ k. placesOf rows k 0 count) (down-in h (longestOf (getD rows p [])) b)
-      (select-in (λ q. eqb (longestOf (getD rows q [])) (longestOf (getD rows p [])))
+      mem-flatMap (λ k. placesOf heights k 0 count) (down-in h (getD heights p 0) b)
+      (select-in (λ q. eqb (getD heights q 0) (getD heights p 0))
       (from-in 0 count p (omega arith) (omega arith))
-      (eq-eqb (longestOf (getD rows p [])) (longestOf (getD rows p [])) refl))
+      (eq-eqb (getD heights p 0) (getD heights p 0) refl))
 
-  below-differ : (h : ℕ) → Pairs Differ (placesBelow rows count h)
+  below-differ : (h : ℕ) → Pairs Differ (placesBelow heights count h)
   unfolding placesBelow placesOf
   below-differ h =
-      pairs-flat Differ (λ k. placesOf rows k 0 count)
+      pairs-flat Differ (λ k. placesOf heights k 0 count)
       (λ k. weaken (λ a b r. omega arith) (pairs-select _ (from-rises 0 count)))
-      (λ a b x y r i j e. omega (arith, of-out a i .1, of-out b j .1, ap (λ p. longestOf (getD rows p [])) e))
+      (λ a b x y r i j e. omega (arith, of-out a i .1, of-out b j .1, ap (λ p. getD heights p 0) e))
       (down-falls h)
 
   -- all of them are count
-  below-few : (h : ℕ) → length (placesBelow rows count h) ≤ count
+  below-few : (h : ℕ) → length (placesBelow heights count h) ≤ count
   below-few h =
       omega (
         arith,
@@ -77,42 +77,42 @@ module _ (rows : List (List ℕ)) (count : ℕ) where
             (λ b m. (b, from-in 0 count b (omega arith) (omega (arith, below-out h m)), refl)),
       )
 
-  below-all : (top : ℕ) → Low rows count top → length (placesBelow rows count top) ≡ count
+  below-all : (top : ℕ) → Low heights count top → length (placesBelow heights count top) ≡ count
   below-all top low =
       omega (
         arith,
         below-few top,
         length-from 0 count,
-        pigeonhole (λ (a b : ℕ). a ≡ b) (λ a b c p q. sym p ∙ q) (placesBelow rows count top)
+        pigeonhole (λ (a b : ℕ). a ≡ b) (λ a b c p q. sym p ∙ q) (placesBelow heights count top)
             (weaken (λ a b r. omega arith) (from-rises 0 count))
             (λ b m. let h = from-out 0 count m .1 in (b, below-in top b (omega arith) (low b (omega arith)), refl)),
       )
 
 -- ---- a place more
 
-module _ {rows : List (List ℕ)} {count : ℕ} where
-  pub placed-start : {order numbers : List ℕ} (top : ℕ) → Low rows count top → length order ≡ 400 → length numbers ≡ 400
-      → Placed rows count (placesBelow rows count top) order numbers 0
+module _ {heights : List ℕ} {count : ℕ} where
+  pub placed-start : {order numbers : List ℕ} (top : ℕ) → Low heights count top → length order ≡ 401 → length numbers ≡ 401
+      → Placed heights count (placesBelow heights count top) order numbers 0
   placed-start top low a b = record {
     top = top;
     low = low;
     places = refl;
-    size = zero-add (length (placesBelow rows count top));
+    size = zero-add (length (placesBelow heights count top));
     back = λ j h. absurd (omega arith);
     order-long = a;
     numbers-long = b;
   }
 
   -- where none is left, all have their numbers
-  pub placed-all : {order numbers : List ℕ} {k : ℕ} → Placed rows count [] order numbers k → k ≡ count
-  placed-all {k = k} p = omega (arith, p .size, below-all rows count (p .top) (p .low))
+  pub placed-all : {order numbers : List ℕ} {k : ℕ} → Placed heights count [] order numbers k → k ≡ count
+  placed-all {k = k} p = omega (arith, p .size, below-all heights count (p .top) (p .low))
 
-  module _ {left order numbers : List ℕ} {k r : ℕ} (p : Placed rows count (r ∷ left) order numbers k) where
+  module _ {left order numbers : List ℕ} {k r : ℕ} (p : Placed heights count (r ∷ left) order numbers k) where
     abbrev all : List ℕ
-    all = placesBelow rows count (p .top)
+    all = placesBelow heights count (p .top)
 
     number-below : k < count
-    number-below = omega (arith, p .size, below-few rows count (p .top))
+    number-below = omega (arith, p .size, below-few heights count (p .top))
 
     put-here : count ≤ 400 → getD all k 0 ≡ r
     put-here few =
@@ -129,9 +129,9 @@ module _ {rows : List (List ℕ)} {count : ℕ} where
     -- the next place and the next number have room
     pub placed-room : count ≤ 400 → (r < count) × (k < count)
     placed-room few =
-        (below-out rows count (p .top) (rw (put-here few) at (mem-getD all k 0 (omega (arith, p .size)))), number-below)
+        (below-out heights count (p .top) (rw (put-here few) at (mem-getD all k 0 (omega (arith, p .size)))), number-below)
 
-    pub placed-put : count ≤ 400 → Placed rows count left (set order k r) (set numbers r (k + 1)) (k + 1)
+    pub placed-put : count ≤ 400 → Placed heights count left (set order k r) (set numbers r (k + 1)) (k + 1)
     placed-put few = record {
       top = p .top;
       low = p .low;
@@ -152,39 +152,39 @@ module _ {rows : List (List ℕ)} {count : ℕ} where
               ∙ omega arith
           | no e ↦ ap (λ i. getD (set numbers r (k + 1)) i 0) (getD-set-other order k j r 0 e)
               ∙ getD-set-other numbers r (getD order j 0) (k + 1) 0
-              (λ q. pairs-at Differ (below-differ rows count (p .top)) 0 j k (omega arith) (omega (arith, p .size))
+              (λ q. pairs-at Differ (below-differ heights count (p .top)) 0 j k (omega arith) (omega (arith, p .size))
               (put-before few j (omega arith) ∙ q ∙ sym (put-here few)))
               ∙ p .back j (omega arith)
         ]
 
 -- ---- the places of a height, row by row
 
-module _ (rows : List (List ℕ)) (h count r : ℕ) where
+module _ (heights : List ℕ) (h count r : ℕ) where
   abbrev high : ℕ → Bool
-  high p = eqb (longestOf (getD rows p [])) h
+  high p = eqb (getD heights p 0) h
 
-  pub places-here : r < count → longestOf (getD rows r []) ≡ h
-      → placesOf rows h r (count - r) ≡ r ∷ placesOf rows h (r + 1) (count - (r + 1))
+  pub places-here : r < count → getD heights r 0 ≡ h
+      → placesOf heights h r (count - r) ≡ r ∷ placesOf heights h (r + 1) (count - (r + 1))
   unfolding placesOf
-  places-here i e = select-here high r count i (eq-eqb (longestOf (getD rows r [])) h e)
+  places-here i e = select-here high r count i (eq-eqb (getD heights r 0) h e)
 
-  pub places-past : r < count → ¬ (longestOf (getD rows r []) ≡ h)
-      → placesOf rows h r (count - r) ≡ placesOf rows h (r + 1) (count - (r + 1))
+  pub places-past : r < count → ¬ (getD heights r 0 ≡ h)
+      → placesOf heights h r (count - r) ≡ placesOf heights h (r + 1) (count - (r + 1))
   unfolding placesOf
-  places-past i e = select-past high r count i (ne-eqb (longestOf (getD rows r [])) h e)
+  places-past i e = select-past high r count i (ne-eqb (getD heights r 0) h e)
 
-  pub places-none : count ≤ r → placesOf rows h r (count - r) ≡ []
+  pub places-none : count ≤ r → placesOf heights h r (count - r) ≡ []
   unfolding placesOf
   places-none i = select-end high r count i
 
-pub places-next : (rows : List (List ℕ)) (count h : ℕ)
-    → placesBelow rows count (suc h) ≡ placesOf rows h 0 count ++ placesBelow rows count h
+pub places-next : (heights : List ℕ) (count h : ℕ)
+    → placesBelow heights count (suc h) ≡ placesOf heights h 0 count ++ placesBelow heights count h
 unfolding placesBelow downFrom flatMap
-places-next rows count h = refl
+places-next heights count h = refl
 
-pub places-end : (rows : List (List ℕ)) (count : ℕ) → placesBelow rows count 0 ≡ []
+pub places-end : (heights : List ℕ) (count : ℕ) → placesBelow heights count 0 ≡ []
 unfolding placesBelow downFrom flatMap
-places-end rows count = refl
+places-end heights count = refl
 
 -- ---- the nodes at these places
 
@@ -236,32 +236,33 @@ module _ (ws : List (List ℕ)) (top : ℕ) (low : (n : Node) → In n (reached 
       ∙ ap (λ n. flatMap (level ws) (downFrom n)) (add-comm (longest ws) top)
       ∙ nodes-from ws top
 
-module _ {t : List ℕ} {n : ℕ} {rows : List (List ℕ)} {count : ℕ} (g : Register t n rows count)
-    (is : registered t rows 0 count ≡ reached (wordsFrom t 0 n)) where
+module _ {t : List ℕ} {n : ℕ} {rows : List (List ℕ)} (heights : List ℕ) {count : ℕ} (g : Register t n rows count)
+    (is : registered t rows 0 count ≡ reached (wordsFrom t 0 n))
+    (high : (r : ℕ) → r < count → getD heights r 0 ≡ longestOf (getD rows r [])) where
   abbrev ws : List (List ℕ)
   ws = wordsFrom t 0 n
 
   -- a row's height is its node's
-  height : (r : ℕ) → r < count → longestOf (getD rows r []) ≡ longest (nodeIn t rows r .rest)
+  height : (r : ℕ) → r < count → getD heights r 0 ≡ longest (nodeIn t rows r .rest)
   unfolding rowNode nodeAt
-  height r h = g .groups r h .high
+  height r h = high r h ∙ g .groups r h .high
 
   all-nodes : map (nodeIn t rows) (from 0 count) ≡ reached ws
   all-nodes = sym (registered-map t rows 0 count) ∙ is
 
-  level-places : (h : ℕ) → map (nodeIn t rows) (placesOf rows h 0 count) ≡ level ws h
+  level-places : (h : ℕ) → map (nodeIn t rows) (placesOf heights h 0 count) ≡ level ws h
   unfolding placesOf level
   level-places h =
-      map-select (nodeIn t rows) (λ p. eqb (longestOf (getD rows p [])) h) (λ n. eqb (longest (n .rest)) h)
+      map-select (nodeIn t rows) (λ p. eqb (getD heights p 0) h) (λ n. eqb (longest (n .rest)) h)
       (from 0 count)
       (λ r m. ap (λ k. eqb k h) (height r (omega (arith, from-out 0 count m .1))))
       ∙ ap (select (λ n. eqb (longest (n .rest)) h)) all-nodes
 
-  pub places-nodes : (top : ℕ) → Low rows count top → map (nodeIn t rows) (placesBelow rows count top) ≡ nodes ws
+  pub places-nodes : (top : ℕ) → Low heights count top → map (nodeIn t rows) (placesBelow heights count top) ≡ nodes ws
   unfolding placesBelow
   places-nodes top low =
-      map-flatMap (nodeIn t rows) (λ k. placesOf rows k 0 count) (downFrom top)
-      ∙ flatMap-cong (λ k. map (nodeIn t rows) (placesOf rows k 0 count)) (level ws) (downFrom top)
+      map-flatMap (nodeIn t rows) (λ k. placesOf heights k 0 count) (downFrom top)
+      ∙ flatMap-cong (λ k. map (nodeIn t rows) (placesOf heights k 0 count)) (level ws) (downFrom top)
       (λ h m. level-places h)
       ∙ levels-from ws top lower
     where
@@ -271,12 +272,12 @@ module _ {t : List ℕ} {n : ℕ} {rows : List (List ℕ)} {count : ℕ} (g : Re
           let r = from-out 0 count (u .1) .1 in
           rw (sym (u .2)) (omega (arith, height (u .0) (omega arith), low (u .0) (omega arith)))
 
-  module _ {order numbers : List ℕ} (p : Placed rows count [] order numbers count) where
+  module _ {order numbers : List ℕ} (p : Placed heights count [] order numbers count) where
     abbrev ordered : List ℕ
-    ordered = placesBelow rows count (p .top)
+    ordered = placesBelow heights count (p .top)
 
     size : length ordered ≡ count
-    size = below-all rows count (p .top) (p .low)
+    size = below-all heights count (p .top) (p .low)
 
     in-order : (k : ℕ) → k < count → getD order k 0 ≡ getD ordered k 0
     in-order k h =
@@ -294,19 +295,17 @@ module _ {t : List ℕ} {n : ℕ} {rows : List (List ℕ)} {count : ℕ} (g : Re
         ∙ length-map ordered (nodeIn t rows)
         ∙ size
 
-    pub numbered : Numbered t n rows order numbers count
-    numbered = record {
+    pub numbers-are : Numbered t n rows order numbers count
+    numbers-are = record {
       many = many;
-      inside = λ k h. rw (in-order k h) (below-out rows count (p .top) (mem-getD ordered k 0 (omega (arith, size))));
+      inside = λ k h. rw (in-order k h) (below-out heights count (p .top) (mem-getD ordered k 0 (omega (arith, size))));
       node = λ k h. rw (in-order k h) (node-at k h);
       number = number;
-      order-long = p .order-long;
-      numbers-long = p .numbers-long;
     }
       where
         number : (r : ℕ) → r < count → getD numbers r 0 ≡ suc (placeOf (nodeIn t rows r) (nodes ws))
         number r h =
-            let u = index-of 0 (below-in rows count (p .top) r h (p .low r h)) in
+            let u = index-of 0 (below-in heights count (p .top) r h (p .low r h)) in
             let j = u .index in
             let below : j < count = omega (arith, size, u .inside) in
             ap (λ i. getD numbers i 0) (sym (in-order j below ∙ u .holds))

@@ -13,7 +13,7 @@ use Rattle.endian.proofs.Lists.{flatMap-append}
 use Rattle.image.specs.Image.{listBytes}
 use Rattle.image.proofs.Reading.{length-list}
 use Rattle.registering.specs.Register.{firstOf, manyOf, depthOf}
-use Rattle.registering.specs.Arcs.{headOf, partings, partingsOf, linkNumber, listOf, listLength, Spanned}
+use Rattle.registering.specs.Arcs.{partings, partingsOf, linkNumber, listOf, listLength, Spanned}
 use Rattle.registering.specs.Image.{Put}
 use Rattle.registering.proofs.Selected.{select-here, select-past, select-end}
 use Rattle.registering.proofs.Putting.{put-none, put-both, put-front}
@@ -85,19 +85,19 @@ module _ {shared row : List ℕ} where
 -- ---- their list in the output
 
 -- behind the places of the count and the first arc
-pub record Putting (shared links numbers row : List ℕ) (at : ℕ) (out₀ out : List ℕ) (arcs i : ℕ) : Type 0 where
+pub record Putting (shared links numbers row : List ℕ) (head at : ℕ) (out₀ out : List ℕ) (arcs i : ℕ) : Type 0 where
   pub inside : i ≤ firstOf row + manyOf row
   pub beyond : firstOf row < i
   pub few : arcs ≤ i
   pub done : List ℕ
   pub count : suc (length done) ≡ arcs
-  pub whole : headOf row ∷ done ++ map (linkNumber links numbers) (partingsFrom shared row i)
-      ≡ listOf shared links numbers row
+  pub whole : head ∷ done ++ map (linkNumber links numbers) (partingsFrom shared row i)
+      ≡ listOf shared links numbers row head
   pub put : Put (flatMap u16Bytes done) (at + 4) out₀ out (at + 2 + 2 * arcs)
   pub size : length out ≡ length out₀
 
-module _ {shared links numbers row : List ℕ} {at : ℕ} {out₀ : List ℕ} where
-  pub put-start : Spanned shared row → Putting shared links numbers row at out₀ out₀ 1 (firstOf row + 1)
+module _ {shared links numbers row : List ℕ} {head at : ℕ} {out₀ : List ℕ} where
+  pub put-start : Spanned shared row → Putting shared links numbers row head at out₀ out₀ 1 (firstOf row + 1)
   unfolding listOf flatMap
   put-start s =
       let e : at + 4 ≡ at + 2 + 2 * 1 = omega arith in
@@ -107,19 +107,19 @@ module _ {shared links numbers row : List ℕ} {at : ℕ} {out₀ : List ℕ} wh
         few = omega arith;
         done = [];
         count = refl;
-        whole = ap (λ l. headOf row ∷ map (linkNumber links numbers) l) (sym (part-start shared row));
+        whole = ap (λ l. head ∷ map (linkNumber links numbers) l) (sym (part-start shared row));
         put = rw e (put-none (at + 2 + 2 * 1) out₀);
         size = refl;
       }
 
-  module _ {out : List ℕ} {arcs i : ℕ} (p : Putting shared links numbers row at out₀ out arcs i)
-      (room : at + length (listBytes (listOf shared links numbers row)) ≤ length out₀) where
-    long : 2 + 2 * (arcs + length (partingsFrom shared row i)) ≡ length (listBytes (listOf shared links numbers row))
+  module _ {out : List ℕ} {arcs i : ℕ} (p : Putting shared links numbers row head at out₀ out arcs i)
+      (room : at + length (listBytes (listOf shared links numbers row head)) ≤ length out₀) where
+    long : 2 + 2 * (arcs + length (partingsFrom shared row i)) ≡ length (listBytes (listOf shared links numbers row head))
     long =
         omega (
           arith,
           p .count,
-          length-list (listOf shared links numbers row),
+          length-list (listOf shared links numbers row head),
           ap length (p .whole),
           length-append (p .done) (map (linkNumber links numbers) (partingsFrom shared row i)),
           length-map (partingsFrom shared row i) (linkNumber links numbers),
@@ -132,7 +132,7 @@ module _ {shared links numbers row : List ℕ} {at : ℕ} {out₀ : List ℕ} wh
     part-room h e = omega (arith, long, p .size, ap length (part-here shared row i h e))
 
     pub put-past : i < firstOf row + manyOf row → ¬ (getD shared i 0 ≡ depthOf row)
-        → Putting shared links numbers row at out₀ out arcs (i + 1)
+        → Putting shared links numbers row head at out₀ out arcs (i + 1)
     put-past h e = record {
       inside = omega arith;
       beyond = omega (arith, p .beyond);
@@ -140,7 +140,7 @@ module _ {shared links numbers row : List ℕ} {at : ℕ} {out₀ : List ℕ} wh
       done = p .done;
       count = p .count;
       whole =
-          ap (λ l. headOf row ∷ p .done ++ map (linkNumber links numbers) l) (sym (part-past shared row i h e))
+          ap (λ l. head ∷ p .done ++ map (linkNumber links numbers) l) (sym (part-past shared row i h e))
           ∙ p .whole;
       put = p .put;
       size = p .size;
@@ -149,7 +149,7 @@ module _ {shared links numbers row : List ℕ} {at : ℕ} {out₀ : List ℕ} wh
     pub put-here : {out′ : List ℕ} → length out′ ≡ length out
         → i < firstOf row + manyOf row → getD shared i 0 ≡ depthOf row
         → Put (u16Bytes (linkNumber links numbers i)) (at + 2 + 2 * arcs) out out′ (at + 2 + 2 * arcs + 2)
-        → Putting shared links numbers row at out₀ out′ (arcs + 1) (i + 1)
+        → Putting shared links numbers row head at out₀ out′ (arcs + 1) (i + 1)
     unfolding flatMap
     put-here {out′} l h e q =
         let n = linkNumber links numbers i in
@@ -162,7 +162,7 @@ module _ {shared links numbers row : List ℕ} {at : ℕ} {out₀ : List ℕ} wh
           done = p .done ++ n ∷ [];
           count = omega (arith, length-append (p .done) (n ∷ []), p .count);
           whole =
-              ap (λ m. headOf row ∷ m)
+              ap (λ m. head ∷ m)
               (append-assoc (p .done) (n ∷ []) later
               ∙ ap (λ m. p .done ++ map (linkNumber links numbers) m) (sym (part-here shared row i h e)))
               ∙ p .whole;
@@ -172,20 +172,20 @@ module _ {shared links numbers row : List ℕ} {at : ℕ} {out₀ : List ℕ} wh
 
     -- then the first arc, and the count
     pub put-done : {out₁ out₂ : List ℕ} → length out₁ ≡ length out → firstOf row + manyOf row ≤ i
-        → Put (u16Bytes (headOf row)) (at + 2) out out₁ (at + 2 + 2) → Put (u16Bytes arcs) at out₁ out₂ (at + 2)
-        → Put (listBytes (listOf shared links numbers row)) at out₀ out₂ (at + 2 + 2 * arcs)
+        → Put (u16Bytes (head)) (at + 2) out out₁ (at + 2 + 2) → Put (u16Bytes arcs) at out₁ out₂ (at + 2)
+        → Put (listBytes (listOf shared links numbers row head)) at out₀ out₂ (at + 2 + 2 * arcs)
     unfolding listBytes flatMap
     put-done {out₁} {out₂} e h q r =
-        let l = listOf shared links numbers row in
+        let l = listOf shared links numbers row head in
         let four : at + 2 + 2 ≡ at + 4 = omega arith in
-        let all : headOf row ∷ p .done ≡ l =
-        ap (λ m. headOf row ∷ m)
+        let all : head ∷ p .done ≡ l =
+        ap (λ m. head ∷ m)
         (sym (append-nil (p .done))
         ∙ ap (λ m. p .done ++ map (linkNumber links numbers) m) (sym (part-end shared row i h)))
         ∙ p .whole in
         let n : arcs ≡ length l = sym (p .count) ∙ ap length all in
         let low : at + 4 ≤ length out = omega (arith, put-room) in
-        let tail : Put (flatMap u16Bytes (headOf row ∷ p .done)) (at + 2) out₀ out₁ (at + 2 + 2 * arcs) =
+        let tail : Put (flatMap u16Bytes (head ∷ p .done)) (at + 2) out₀ out₁ (at + 2 + 2 * arcs) =
         put-front (omega (arith, p .size)) low (p .put) (rw four at q) in
         put-front (omega (arith, p .size)) (omega arith)
         (subst (λ m. Put (flatMap u16Bytes m) (at + 2) out₀ out₁ (at + 2 + 2 * arcs)) all tail) (rw n at r)

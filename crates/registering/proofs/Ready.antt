@@ -39,11 +39,11 @@ module _ {t u : List ℕ} {n : ℕ} (m : WordsMarked t n u) where
 abbrev emptyRow : List ℕ
 emptyRow = replicate 6 0
 
-pub no-register : (t : List ℕ) (n : ℕ) → Register t n (replicate 400 emptyRow) 0
+pub no-register : (t : List ℕ) (n : ℕ) → Register t n (replicate 401 emptyRow) 0
 no-register t n = record {
   few = omega arith;
-  long = length-replicate 400 emptyRow;
-  wide = λ r h. ap length (getD-replicate 400 r emptyRow [] h);
+  long = length-replicate 401 emptyRow;
+  wide = λ r h. ap length (getD-replicate 401 r emptyRow [] h);
   groups = λ r h. absurd (omega arith);
 }
 

@@ -1,4 +1,4 @@
--- The vertices of the canonical graph, as the tables have them: the words behind each, and where its arcs lead. No
+-- The vertices of the canonical graph, as the register has them: the words behind each, and where its arcs lead. No
 -- public contract cites them. Assumes nothing.
 use Prim.Native.Nat.{ℕ, zero, suc, _+_, _*_, _-_, _≤_, _<_}
 use mathlib.Core.Path.{_≡_}
@@ -8,53 +8,39 @@ use lib.ListN.{length, getD}
 use lib.Dec.{eqb}
 use Rattle.endian.specs.Lists.{from, select}
 use Rattle.registering.specs.Register.{firstOf, manyOf, depthOf}
+use Rattle.registering.specs.Numbering.{numbersIn, orderIn}
 
 -- ---- the row of a vertex
 
--- The first word behind a vertex, how many there are, how many of their letters stand before it, and where its first
--- arc leads: to the sink where the first word ends, else along that word.
-abbrev pub headOf : List ℕ → ℕ
-headOf row = getD row 3 0
+-- the place of a vertex: that of the root is behind those of the nodes
+unfoldable pub placeIn : List (List ℕ) → ℕ → ℕ
+placeIn rows zero = 400
+placeIn rows (suc k) = getD (orderIn rows) k 0
 
--- made from the row of a node in the register, and the place to which its first word leads
-unfoldable pub vertexRow : List ℕ → List ℕ → ℕ → List ℕ → ℕ → List ℕ
-vertexRow t numbers count row place =
-    firstOf row
-    ∷ manyOf row
-    ∷ depthOf row
-    ∷ cond (eqb (getD t (33 * firstOf row) 0) (depthOf row)) (suc count) (getD numbers place 0)
-    ∷ []
+abbrev pub vertexIn : List (List ℕ) → ℕ → List ℕ
+vertexIn rows u = getD rows (placeIn rows u) []
 
--- the root has all n words behind it, and is linked as the first of them is
-unfoldable pub registerRow : ℕ → List (List ℕ) → List ℕ → ℕ → List ℕ
-registerRow n rows order zero = 0 ∷ n ∷ 0 ∷ 0 ∷ 0 ∷ 0 ∷ []
-registerRow n rows order (suc k) = getD rows (getD order k 0) []
+-- the root has all n words behind it and none of their letters before it, and is linked as the first of them is
+abbrev pub rootRow : ℕ → List ℕ
+rootRow n = 0 ∷ n ∷ 0 ∷ 0 ∷ 0 ∷ 0 ∷ []
 
-unfoldable pub linkOf : List ℕ → ℕ → ℕ
-linkOf order zero = 400
-linkOf order (suc k) = getD order k 0
-
--- a node can be read: its first word, and where that leads if it goes on
+-- a vertex's first word can be read, and where that leads if it goes on
 pub record NodeRow (t row : List ℕ) (place : ℕ) : Type 0 where
   pub few : firstOf row < 2000
   pub there : 33 * firstOf row < length t
   pub linked : ¬ (getD t (33 * firstOf row) 0 ≡ depthOf row) → place < 400
 
--- the root and count nodes can be read
-pub record NodeRows (t : List ℕ) (n : ℕ) (rows : List (List ℕ)) (links order : List ℕ) (count : ℕ) : Type 0 where
+-- the place of each vertex is in the register
+pub record Places (rows : List (List ℕ)) (count : ℕ) : Type 0 where
   pub few : count ≤ 400
-  pub words : n ≤ 2000
-  pub places : (k : ℕ) → k < count → getD order k 0 < 400
-  pub row : (u : ℕ) → u ≤ count → NodeRow t (registerRow n rows order u) (getD links (linkOf order u) 0)
-
--- the rows of the first vertices, which are so many
-pub record Vertices (t : List ℕ) (n : ℕ) (rows : List (List ℕ)) (links order numbers : List ℕ) (count : ℕ)
-    (vertices : List (List ℕ)) (many : ℕ) : Type 0 where
-  pub long : length vertices ≡ 401
-  pub row : (u : ℕ) → u < many
-      → getD vertices u [] ≡ vertexRow t numbers count (registerRow n rows order u) (getD links (linkOf order u) 0)
+  pub inside : (u : ℕ) → u ≤ count → placeIn rows u ≤ 400
 
 -- ---- its arcs
+
+-- where its first arc leads: to the sink where the first word ends, else along that word to the node at a place
+unfoldable pub firstArc : List ℕ → List ℕ → ℕ → List ℕ → ℕ → ℕ
+firstArc t numbers count row place =
+    cond (eqb (getD t (33 * firstOf row) 0) (depthOf row)) (suc count) (getD numbers place 0)
 
 -- of many words from i on, those that part from the word before them behind e letters
 unfoldable pub partings : List ℕ → ℕ → ℕ → ℕ → List ℕ
@@ -68,13 +54,19 @@ partingsOf shared row = partings shared (depthOf row) (suc (firstOf row)) (manyO
 abbrev pub linkNumber : List ℕ → List ℕ → ℕ → ℕ
 linkNumber links numbers i = getD numbers (getD links (400 + i) 0) 0
 
--- the numbers that the arcs of a row lead to
-unfoldable pub listOf : List ℕ → List ℕ → List ℕ → List ℕ → List ℕ
-listOf shared links numbers row = headOf row ∷ map (linkNumber links numbers) (partingsOf shared row)
+-- the numbers that the arcs of a row lead to, the first of them given
+unfoldable pub listOf : List ℕ → List ℕ → List ℕ → List ℕ → ℕ → List ℕ
+listOf shared links numbers row first = first ∷ map (linkNumber links numbers) (partingsOf shared row)
 
 -- how many they are
 unfoldable pub listLength : List ℕ → List ℕ → ℕ
 listLength shared row = suc (length (partingsOf shared row))
+
+-- the numbers that the arcs of a vertex lead to
+abbrev pub vertexList : List ℕ → List ℕ → List ℕ → List (List ℕ) → ℕ → ℕ → List ℕ
+vertexList t shared links rows count u =
+    listOf shared links (numbersIn rows) (vertexIn rows u)
+    (firstArc t (numbersIn rows) count (vertexIn rows u) (getD links (placeIn rows u) 0))
 
 -- its words are in the table
 pub record Spanned (shared row : List ℕ) : Type 0 where

@@ -10,7 +10,7 @@ use Rattle.voice.specs.Voice.{letterCount, voiceVerdict}
 use Rattle.image.specs.Image.{listBytes}
 use Rattle.registering.specs.Register.{firstOf, depthOf, Shared, Built}
 use Rattle.registering.specs.Building.{Buildable}
-use Rattle.registering.specs.Arcs.{listOf, listLength, Spanned, Readable}
+use Rattle.registering.specs.Arcs.{placeIn, vertexIn, vertexList, listLength, NodeRow, Places, Spanned, Readable}
 
 -- ---- bytes in the output
 
@@ -28,23 +28,23 @@ letterIn t row = getD t (33 * firstOf row + depthOf row) 0
 
 -- of the nodes from vertex u on
 unfoldable pub lettersFrom : List ℕ → List (List ℕ) → ℕ → ℕ → List ℕ
-lettersFrom t vertices u many = map (λ k. letterIn t (getD vertices k [])) (from u many)
+lettersFrom t rows u many = map (λ k. letterIn t (vertexIn rows k)) (from u many)
 
 -- the bytes of the lists of the vertices from u on
-unfoldable pub listsFrom : List ℕ → List ℕ → List ℕ → List (List ℕ) → ℕ → ℕ → List ℕ
-listsFrom shared links numbers vertices u many =
-    flatMap (λ k. listBytes (listOf shared links numbers (getD vertices k []))) (from u many)
+unfoldable pub listsFrom : List ℕ → List ℕ → List ℕ → List (List ℕ) → ℕ → ℕ → ℕ → List ℕ
+listsFrom t shared links rows count u many =
+    flatMap (λ k. listBytes (vertexList t shared links rows count k)) (from u many)
 
 -- how many these are
 unfoldable pub listsLength : List ℕ → List (List ℕ) → ℕ → ℕ → ℕ
-listsLength shared vertices u many = sum (map (λ k. 2 + 2 * listLength shared (getD vertices k [])) (from u many))
+listsLength shared rows u many = sum (map (λ k. 2 + 2 * listLength shared (vertexIn rows k)) (from u many))
 
 -- the image of the root and count nodes
-unfoldable pub tableImage : List ℕ → List ℕ → List ℕ → List ℕ → List (List ℕ) → ℕ → List ℕ
-tableImage t shared links numbers vertices count =
+unfoldable pub tableImage : List ℕ → List ℕ → List ℕ → List (List ℕ) → ℕ → List ℕ
+tableImage t shared links rows count =
     u16Bytes count
-    ++ lettersFrom t vertices 1 count
-    ++ listsFrom shared links numbers vertices 0 (suc count)
+    ++ lettersFrom t rows 1 count
+    ++ listsFrom t shared links rows count 0 (suc count)
     ++ u16Bytes 0
 
 -- ---- what is read for it
@@ -56,24 +56,25 @@ pub record LetterRow (t row : List ℕ) : Type 0 where
   pub there : 33 * firstOf row + depthOf row < length t
 
 -- those of all nodes
-pub record Lettered (t : List ℕ) (vertices : List (List ℕ)) (count : ℕ) : Type 0 where
-  pub few : count ≤ 400
-  pub row : (k : ℕ) → k < count → LetterRow t (getD vertices (k + 1) [])
+pub record Lettered (t : List ℕ) (rows : List (List ℕ)) (count : ℕ) : Type 0 where
+  pub places : Places rows count
+  pub row : (k : ℕ) → k < count → LetterRow t (vertexIn rows (k + 1))
 
 -- the words of all vertices
-pub record Measured (shared : List ℕ) (vertices : List (List ℕ)) (count : ℕ) : Type 0 where
-  pub few : count ≤ 400
-  pub row : (u : ℕ) → u ≤ count → Spanned shared (getD vertices u [])
+pub record Measured (shared : List ℕ) (rows : List (List ℕ)) (count : ℕ) : Type 0 where
+  pub places : Places rows count
+  pub row : (u : ℕ) → u ≤ count → Spanned shared (vertexIn rows u)
 
 -- and their links
-pub record Listed (shared links : List ℕ) (vertices : List (List ℕ)) (count : ℕ) : Type 0 where
-  pub few : count ≤ 400
-  pub row : (u : ℕ) → u ≤ count → Readable shared links (getD vertices u [])
+pub record Listed (t shared links : List ℕ) (rows : List (List ℕ)) (count : ℕ) : Type 0 where
+  pub places : Places rows count
+  pub row : (u : ℕ) → u ≤ count → Readable shared links (vertexIn rows u)
+  pub first : (u : ℕ) → u ≤ count → NodeRow t (vertexIn rows u) (getD links (placeIn rows u) 0)
 
 -- the letters of all nodes are in a voice model
-pub record Voiced (v t : List ℕ) (vertices : List (List ℕ)) (count : ℕ) : Type 0 where
+pub record Voiced (v t : List ℕ) (rows : List (List ℕ)) (count : ℕ) : Type 0 where
   pub voice : voiceVerdict v ≡ wellFormed
-  pub known : (k : ℕ) → k < count → letterIn t (getD vertices (k + 1) []) < letterCount v
+  pub known : (k : ℕ) → k < count → letterIn t (vertexIn rows (k + 1)) < letterCount v
 
 -- ---- the call
 

@@ -115,11 +115,11 @@ pub record Group (t : List ℕ) (N i n d most mark : ℕ) : Type 0 where
 abbrev pub GroupRow : List ℕ → ℕ → List ℕ → Type 0
 GroupRow t n row = Group t n (firstOf row) (manyOf row) (depthOf row) (longestOf row) (markOf row)
 
--- count rows are filled
+-- count rows are filled; behind the 400 rows of nodes there is one for the root
 pub record Register (t : List ℕ) (n : ℕ) (rows : List (List ℕ)) (count : ℕ) : Type 0 where
   pub few : count ≤ 400
-  pub long : length rows ≡ 400
-  pub wide : (r : ℕ) → r < 400 → length (getD rows r []) ≡ 6
+  pub long : length rows ≡ 401
+  pub wide : (r : ℕ) → r < 401 → length (getD rows r []) ≡ 6
   pub groups : (r : ℕ) → r < count → GroupRow t n (getD rows r [])
 
 -- ---- chains

@@ -7,13 +7,14 @@ use native.Mathlib.Decide.{ℕ-discrete}
 use native.Mathlib.Omega.{arith}
 use borrow.Author.Needs.{needs}
 use lib.ListN.{getD}
+use Rattle.checking.proofs.Columns.{column-at}
 use Rattle.registering.specs.Register.{longestOf}
-use Rattle.registering.specs.Numbering.{Low}
+use Rattle.registering.specs.Numbering.{heightsIn, Low}
 use Rattle.building.proofs.numbering.top_of.Statement.{statement}
 use Rattle.building.proofs.numbering.top_of.Tie as tie
 
 abbrev Inv-loop : tie.InvT-loop
-Inv-loop rows count top₀ r₀ top r = Low rows r top × (r ≤ count) × (top ≤ 33)
+Inv-loop rows count top₀ r₀ top r = Low (heightsIn rows) r top × (r ≤ count) × (top ≤ 33)
 
 abbrev μ-loop : tie.MeasureT-loop
 μ-loop rows count top₀ r₀ top r = count - r
@@ -24,13 +25,16 @@ loop-holds c = (λ r h. absurd (omega arith), omega arith, omega arith)
 -- the row whose turn it is
 low : (c : tie.In-loop Inv-loop μ-loop)
     → longestOf (getD (c .before .before .args .rows .now) (c .before .loop .r) []) < 33
-low c = c .before .before .pre .low (c .before .loop .r) (c .loop-test .taken)
+low c =
+    let rows = c .before .before .args .rows .now in
+    rw (column-at 3 (c .before .loop .r) rows) at (c .before .before .pre .low (c .before .loop .r) (c .loop-test .taken))
 
 loop-again : tie.Need-loop-again Inv-loop μ-loop
 loop-again c =
     let l = c .before .before in (
       λ r h. elim (ℕ-discrete r (l .before .loop .r)) [
-        | yes e ↦ rw e (⊎-elim (λ w. omega arith) (λ w. omega arith) (c .if1 .came))
+        | yes e ↦ let k = column-at 3 r (l .before .before .args .rows .now) in
+            rw (k, e) (⊎-elim (λ w. omega arith) (λ w. omega arith) (c .if1 .came))
         | no e ↦ let k = l .before .loop .inv .0 r (omega arith) in
             ⊎-elim (λ w. omega arith) (λ w. omega arith) (c .if1 .came)
       ],

@@ -1,43 +1,50 @@
 -- `writing::place_total` meets its contract: before each node the states of the nodes before it are added. The
 -- measure is the nodes left. Assumes nothing.
 use Prim.Native.Nat.{_+_, _*_, _-_, _≤_, _<_}
-use mathlib.Core.Path.{_≡_, ap, sym}
-use mathlib.Core.List.{map}
+use mathlib.Core.Path.{_≡_, ap, sym, _∙_}
+use mathlib.Core.List.{[], map}
 use native.Mathlib.Omega.{arith}
 use borrow.Author.Needs.{needs}
 use lib.ListN.{length, getD}
 use Rattle.endian.specs.Lists.{sum}
 use Rattle.voice.specs.Voice.{letterCount, states}
 use Rattle.voice.proofs.Letters.{states-range, states-there}
-use Rattle.registering.specs.Image.{lettersFrom}
+use Rattle.registering.specs.Arcs.{placeIn}
+use Rattle.registering.specs.Image.{letterIn, lettersFrom}
 use Rattle.registering.proofs.Images.{states-none, states-more}
 use Rattle.building.proofs.writing.place_total.Statement.{statement}
 use Rattle.building.proofs.writing.place_total.Tie as tie
 
 abbrev Inv-loop : tie.InvT-loop
-Inv-loop voice words vertices count places₀ node₀ places node =
-    (node ≤ count) × (places ≡ sum (map (states voice) (lettersFrom words vertices 1 node))) × (places ≤ 4 * node)
+Inv-loop voice words rows count places₀ node₀ places node =
+    (node ≤ count) × (places ≡ sum (map (states voice) (lettersFrom words rows 1 node))) × (places ≤ 4 * node)
 
 abbrev μ-loop : tie.MeasureT-loop
-μ-loop voice words vertices count places₀ node₀ places node = count - node
+μ-loop voice words rows count places₀ node₀ places node = count - node
 
 abbrev start : tie.At-loop Inv-loop μ-loop → tie.Start Inv-loop μ-loop
 start c = c .before .before .before
 
 abbrev turn : tie.After-letter-of Inv-loop μ-loop → tie.At-loop Inv-loop μ-loop
-turn c = c .before .before .before
+turn c = c .before .before .before .before
 
 loop-holds : tie.Need-loop-holds Inv-loop μ-loop
 loop-holds c =
     let a = c .before .before .args in
-    (omega arith, sym (states-none (a .words .now) (a .vertices .now) (a .voice .now)), omega arith)
+    (omega arith, sym (states-none (a .words .now) (a .rows .now) (a .voice .now)), omega arith)
 
 -- the letter is one of the voice model's
 known : (c : tie.After-letter-of Inv-loop μ-loop)
     → c .letter-of .result < letterCount (start (turn c) .args .voice .now)
 known c =
     let l = turn c in
-    omega (arith, c .letter-of .ensures, start l .pre .1 .known (l .loop .node) (c .before .before .loop-test .taken))
+    let p = c .before .before in
+    let rows = start l .args .rows .now in
+    omega (
+      arith,
+      c .letter-of .ensures ∙ ap (λ k. letterIn (start l .args .words .now) (getD rows k [])) (p .place-of .ensures),
+      start l .pre .1 .known (l .loop .node) (p .before .loop-test .taken),
+    )
 
 there : (c : tie.After-letter-of Inv-loop μ-loop)
     → 2 + 2 * c .letter-of .result < length (start (turn c) .args .voice .now)
@@ -55,12 +62,14 @@ loop-again c =
     let l = turn k in
     let a = start l .args in
     let v = a .voice .now in (
-      omega (arith, k .before .before .loop-test .taken),
+      omega (arith, k .before .before .before .loop-test .taken),
       omega (
         arith,
         l .loop .inv .1,
-        states-more (a .words .now) (a .vertices .now) v (l .loop .node),
-        ap (λ b. getD v (2 + 2 * b) 0) (k .letter-of .ensures),
+        states-more (a .words .now) (a .rows .now) v (l .loop .node),
+        ap (λ b. getD v (2 + 2 * b) 0)
+            (k .letter-of .ensures
+            ∙ ap (λ i. letterIn (a .words .now) (getD (a .rows .now) i [])) (k .before .before .place-of .ensures)),
       ),
       omega (arith, l .loop .inv .2, few k),
     )
@@ -71,6 +80,22 @@ returns c =
     let e : i .node ≡ start (c .before) .args .count = omega (arith, i .inv .0, c .loop-test .left) in
     rw e at (i .inv .1)
 
+-- a node and its place
+node : (c : tie.In-loop Inv-loop μ-loop) →
+    let l = c .before in
+    (l .loop .node + 1 ≤ 400) × (placeIn (start l .args .rows .now) (l .loop .node + 1) ≤ 400)
+node c =
+    let l = c .before in
+    let p = start l .pre .0 .places in
+    let h = c .loop-test .taken in
+    (omega (arith, p .few), p .inside (l .loop .node + 1) (omega arith))
+
+letter-of-requires : tie.Need-letter-of-requires Inv-loop μ-loop
+letter-of-requires c κs =
+    let p = c .before in
+    let l = p .before .before in
+    rw (p .place-of .ensures) (start l .pre .0 .row (l .loop .node) (p .before .loop-test .taken))
+
 pub place-total-spec : {M : Type 1} → statement M
 place-total-spec =
     tie.close
@@ -78,10 +103,11 @@ place-total-spec =
     Inv-loop
     μ-loop
     loop-holds
-    (λ c. search needs)
-    (λ c. search needs)
-    (λ c. search needs)
-    (λ c κs. start (c .before .before) .pre .0 .row (c .before .before .loop .node) (c .before .loop-test .taken))
+    (λ c. let h = node c in search needs)
+    (λ c κs. node c)
+    (λ c. let h = node (c .before) .1 in let e = c .place-of .ensures in search needs)
+    (λ c. let h = node (c .before) .1 in let e = c .place-of .ensures in omega arith)
+    letter-of-requires
     (λ c. search needs)
     (λ c. let h = c .letter-of .ok in search needs)
     (λ c. let h = c .letter-of .ok in search needs)
@@ -89,6 +115,6 @@ place-total-spec =
     (λ c. let h = few (c .before) in search needs)
     (λ c. let h = few (c .before) in search needs)
     (λ c. search needs)
-    (λ c. let h = c .before .before .before .loop-test .taken in omega arith)
+    (λ c. let h = c .before .before .before .before .loop-test .taken in omega arith)
     loop-again
     returns)

@@ -26,14 +26,14 @@ lists c = c .before .before .before
 -- the parts have room
 room : (s : tie.Start) →
     let a = s .args in
-    let lists = listsFrom (a .shared .now) (a .links .now) (a .numbers .now) (a .vertices .now) 0 (suc (a .count)) in
+    let lists = listsFrom (a .words .now) (a .shared .now) (a .links .now) (a .rows .now) (a .count) 0 (suc (a .count)) in
     2 + a .count + length lists + 2 ≤ length (a .out .now)
 room s =
     let a = s .args in
     omega (
       arith,
       s .pre .1 .1,
-      image-parts (a .words .now) (a .shared .now) (a .links .now) (a .numbers .now) (a .vertices .now) (a .count),
+      image-parts (a .words .now) (a .shared .now) (a .links .now) (a .rows .now) (a .count),
     )
 
 -- the output keeps its length
@@ -74,14 +74,14 @@ returns c =
     let j = letters (k .before) in
     let i = number (j .before) in
     let a = start (i .before) .args in
-    image-put (a .words .now) (a .shared .now) (a .links .now) (a .numbers .now) (a .vertices .now) (a .count)
+    image-put (a .words .now) (a .shared .now) (a .links .now) (a .rows .now) (a .count)
     (i .put-number .ensures) (j .put-letters .ensures) (k .put-lists .ensures) (d .put-number2 .ensures)
 
 pub put-image-spec : {M : Type 1} → statement M
 put-image-spec =
     tie.close
     (tie.spec
-    (λ c. let h = start c .pre .0 .few in search needs)
+    (λ c. let h = start c .pre .0 .places .few in search needs)
     (λ c κs. omega (arith, room (start c)))
     put-letters-requires
     put-lists-requires

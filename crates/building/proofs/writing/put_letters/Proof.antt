@@ -1,22 +1,24 @@
 -- `writing::put_letters` meets its contract: before each node the letters of the nodes before it are put. The measure
 -- is the nodes left. Assumes nothing.
 use Prim.Native.Nat.{_+_, _-_, _≤_, _<_}
-use mathlib.Core.Path.{_≡_, refl, sym, _∙_}
+use mathlib.Core.Path.{_≡_, refl, sym, ap, _∙_}
+use mathlib.Core.List.{[]}
 use native.Mathlib.Omega.{arith}
 use borrow.Author.Needs.{needs}
-use lib.ListN.{length, length-set}
-use Rattle.registering.specs.Image.{Put, lettersFrom}
+use lib.ListN.{length, getD, length-set}
+use Rattle.registering.specs.Arcs.{placeIn, vertexIn}
+use Rattle.registering.specs.Image.{Put, letterIn, lettersFrom}
 use Rattle.registering.proofs.Putting.{put-none, put-both, put-byte}
 use Rattle.registering.proofs.Images.{letters-none, letters-more}
 use Rattle.building.proofs.writing.put_letters.Statement.{statement}
 use Rattle.building.proofs.writing.put_letters.Tie as tie
 
 abbrev Inv-loop : tie.InvT-loop
-Inv-loop words vertices count out₀ node₀ out node =
-    (node ≤ count) × Put (lettersFrom words vertices 1 node) 2 out₀ out (2 + node) × (length out ≡ length out₀)
+Inv-loop words rows count out₀ node₀ out node =
+    (node ≤ count) × Put (lettersFrom words rows 1 node) 2 out₀ out (2 + node) × (length out ≡ length out₀)
 
 abbrev μ-loop : tie.MeasureT-loop
-μ-loop words vertices count out₀ node₀ out node = count - node
+μ-loop words rows count out₀ node₀ out node = count - node
 
 abbrev start : tie.At-loop Inv-loop μ-loop → tie.Start Inv-loop μ-loop
 start c = c .before .before .before
@@ -24,7 +26,7 @@ start c = c .before .before .before
 loop-holds : tie.Need-loop-holds Inv-loop μ-loop
 loop-holds c =
     let a = c .before .before .args in
-    (omega arith, rw (letters-none (a .words .now) (a .vertices .now)) (put-none 2 (a .out .now)), refl)
+    (omega arith, rw (letters-none (a .words .now) (a .rows .now)) (put-none 2 (a .out .now)), refl)
 
 -- the output has room for a letter more
 room : (c : tie.In-loop Inv-loop μ-loop) → 2 + c .before .loop .node < length (c .before .loop .out)
@@ -32,14 +34,17 @@ room c = omega (arith, start (c .before) .pre .1, c .before .loop .inv .2, c .lo
 
 loop-again : tie.Need-loop-again Inv-loop μ-loop
 loop-again c =
-    let k = c .before .before in
+    let p = c .before .before in
+    let k = p .before in
     let l = k .before in
     let i = l .loop in
     let a = start l .args in
     let b = c .letter-of .result in
-    let e : 2 + i .node + 1 ≡ 2 + (i .node + 1) = omega arith in (
+    let e : 2 + i .node + 1 ≡ 2 + (i .node + 1) = omega arith in
+    let letter : b ≡ letterIn (a .words .now) (vertexIn (a .rows .now) (i .node + 1)) =
+    c .letter-of .ensures ∙ ap (λ j. letterIn (a .words .now) (getD (a .rows .now) j [])) (p .place-of .ensures) in (
       omega (arith, k .loop-test .taken),
-      rw (letters-more (a .words .now) (a .vertices .now) (i .node), sym (c .letter-of .ensures), sym e)
+      rw (letters-more (a .words .now) (a .rows .now) (i .node), sym letter, sym e)
           (put-both (i .inv .1) (put-byte b (2 + i .node) (i .out) (room k))),
       length-set (i .out) (2 + i .node) b ∙ i .inv .2,
     )
@@ -50,6 +55,22 @@ returns c =
     let e : i .node ≡ start (c .before) .args .count = omega (arith, i .inv .0, c .loop-test .left) in
     rw e at (i .inv .1)
 
+-- a node and its place
+node : (c : tie.In-loop Inv-loop μ-loop) →
+    let l = c .before in
+    (l .loop .node + 1 ≤ 400) × (placeIn (start l .args .rows .now) (l .loop .node + 1) ≤ 400)
+node c =
+    let l = c .before in
+    let p = start l .pre .0 .places in
+    let h = c .loop-test .taken in
+    (omega (arith, p .few), p .inside (l .loop .node + 1) (omega arith))
+
+letter-of-requires : tie.Need-letter-of-requires Inv-loop μ-loop
+letter-of-requires c κs =
+    let p = c .before in
+    let l = p .before .before in
+    rw (p .place-of .ensures) (start l .pre .0 .row (l .loop .node) (p .before .loop-test .taken))
+
 pub put-letters-spec : {M : Type 1} → statement M
 put-letters-spec =
     tie.close
@@ -57,14 +78,15 @@ put-letters-spec =
     Inv-loop
     μ-loop
     loop-holds
+    (λ c. let h = node c in search needs)
+    (λ c κs. node c)
+    (λ c. let h = node (c .before) .1 in let e = c .place-of .ensures in search needs)
+    (λ c. let h = node (c .before) .1 in let e = c .place-of .ensures in omega arith)
+    letter-of-requires
     (λ c. search needs)
+    (λ c. room (c .before .before .before))
     (λ c. search needs)
-    (λ c. search needs)
-    (λ c κs. start (c .before .before) .pre .0 .row (c .before .before .loop .node) (c .before .loop-test .taken))
-    (λ c. search needs)
-    (λ c. room (c .before .before))
-    (λ c. search needs)
-    (λ c. let h = c .before .before .loop-test .taken in omega arith)
+    (λ c. let h = c .before .before .before .loop-test .taken in omega arith)
     loop-again
     (λ c. c .before .loop .inv .2)
     returns)
