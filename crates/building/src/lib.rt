@@ -2,8 +2,9 @@
 // canonical image that they make: definitions in canonical/specs.
 ghost use mathlib.Core.Path.{_≡_};
 ghost use Prim.Native.Nat.{_≤_};
-ghost use lib.ListN.{length};
+ghost use lib.ListN.{length, take};
 ghost use Rattle.call.specs.Table.{answerOf};
+ghost use Rattle.call.specs.Buffers.{zeroed};
 ghost use Rattle.canonical.specs.Canonical.{canonicalAnswer, canonicalOut, canonicalWork, canonicalFurther};
 ghost use Rattle.sorting.specs.Slots.{wordsFrom};
 ghost use Rattle.registering.specs.Building.{Given, ImageAnswered};
@@ -53,6 +54,38 @@ fn build(voice: &[u8], words: &mut [u8], n: usize, shared: &mut [u8], out: &mut 
     build_image(voice, words, n, shared, &mut rows, &links, count, out)
 }
 
+// Makes the bytes before an end zero. The end is no constant here: a part with an end as large as TABLE is slow to
+// check.
+fn zero_first(part: &mut [u8], end: usize)
+    requires { ⌜ end ≤ length (now part) ⌝ }
+    ensures { λ _. ⌜ now (part .exit) ≡ zeroed end (now (part .entry)) ⌝ }
+{
+    zero(&mut part[..end]);
+}
+
+// Builds from the words in the bytes before one end, with those before the other to work in, and makes both zero again.
+fn build_in(
+    voice: &[u8],
+    further: &mut [u8],
+    table: usize,
+    n: usize,
+    work: &mut [u8],
+    row: usize,
+    out: &mut [u8],
+) -> Answer
+    requires { ⌜ Given (now voice) (take table (now further)) n ⌝ }
+    requires { ⌜ (132033 ≤ table) × (table ≤ length (now further)) × (2000 ≤ row) × (row ≤ length (now work)) ⌝ }
+    ensures { λ r. ⌜ ImageAnswered (now (voice .entry)) (wordsFrom (take table (now (further .entry))) 0 n) (answerOf r)
+        (now (out .entry)) (now (out .exit)) ⌝ }
+    ensures { λ _. ⌜ now (further .exit) ≡ zeroed table (now (further .entry)) ⌝ }
+    ensures { λ _. ⌜ now (work .exit) ≡ zeroed row (now (work .entry)) ⌝ }
+{
+    let answer = build(voice, &mut further[..table], n, &mut work[..row], out);
+    zero_first(further, table);
+    zero_first(work, row);
+    answer
+}
+
 // Writes the canonical image of a lexicon, and answers the bytes written.
 pub fn canonical(
     voice: &[u8],
@@ -72,15 +105,5 @@ pub fn canonical(
     let Answer::Value(n) = listed else {
         return listed;
     };
-    let answer = build(
-        voice,
-        &mut further[0..TABLE],
-        n as usize,
-        &mut work[0..SHARED],
-        out,
-    );
-    // all that was written there since the spaces were cleared
-    zero(&mut further[0..TABLE]);
-    zero(&mut work[0..SHARED]);
-    answer
+    build_in(voice, further, TABLE, n as usize, work, SHARED, out)
 }

@@ -1,5 +1,6 @@
--- The call that writes a canonical image: where the word table is refused the call is refused likewise; else its words, which stand in slots
--- from the start of the further work space, decide. What is cleared then is what was written since. Assumes nothing.
+-- The call that writes a canonical image: where the word table is refused the call is refused likewise; else its words,
+-- which stand in slots from the start of the further work space, decide. What is cleared then is what was written
+-- since. Assumes nothing.
 use Prim.Native.Nat.{ℕ, zero, suc, _+_, _*_, _-_, _≤_, _<_}
 use mathlib.Core.Path.{_≡_, refl, sym, ap, subst, _∙_}
 use mathlib.Core.Bool.{Bool, true, false, _||_}
@@ -7,7 +8,7 @@ use mathlib.Core.List.{List, [], _∷_, _++_, append-assoc, List·Memᴰ as In}
 use native.Mathlib.Nat.{suc-add}
 use native.Mathlib.Omega.{arith}
 use lib.ListN.{length, getD, take, drop, replicate}
-use lib.Seq.{drop-append-add, drop-drop, drop-at, take-append-add}
+use lib.Seq.{take-append-add}
 use lib.Dec.{ltb}
 use borrow.Author.Tests.{ltb-false}
 use Rattle.endian.proofs.Booleans.{or-none}
@@ -17,7 +18,7 @@ use Rattle.call.specs.Table.{Answer, value, refused, noneApplies, unless}
 use Rattle.call.specs.Limits.{workSpace, furtherSpace}
 use Rattle.call.specs.Buffers.{shortSpaces, spacesRows, zeroed, workCleared, furtherCleared, written}
 use Rattle.call.proofs.Table.{none-says, none-parts, value-passed, unless-past, refused-before}
-use Rattle.call.proofs.Buffers.{written-refused, zeroed-same, zeroed-length}
+use Rattle.call.proofs.Buffers.{written-refused, part-zeroed}
 use Rattle.voice.specs.Voice.{letterCount}
 use Rattle.graph.specs.Graph.{graphOf}
 use Rattle.graph.specs.Words.{letterWords}
@@ -25,7 +26,7 @@ use Rattle.graph.specs.Checking.{Accepted, imageRows}
 use Rattle.graph.proofs.Accepted.{AcceptedImages, accepted}
 use Rattle.codes.specs.Gathering.{slotBytes}
 use Rattle.canonical.specs.Dictionary.{inOrder}
-use Rattle.canonical.specs.Canonical.{sortedWords, wordsImage, canonicalImage, longList, longRows, outsideRows, wordListRows}
+use Rattle.canonical.specs.Canonical.{sortedWords, wordsImage, canonicalImage, longList, longRows, wordListRows}
 use Rattle.canonical.specs.Canonical.{canonicalRows, canonicalAnswer, canonicalOut}
 use Rattle.canonical.proofs.Sorting.{order-again}
 use Rattle.canonical.proofs.Continuations.{mem-some}
@@ -43,25 +44,9 @@ zeros-part zero k r = refl
 zeros-part (suc n) k r = rw (suc-add n k) (ap (λ l. 0 ∷ l) (zeros-part n k r))
 
 -- the first n of m bytes that are zero
-pub zeroed-part-again : (n k : ℕ) (w : List ℕ) → zeroed n (zeroed (n + k) w) ≡ zeroed (n + k) w
+zeroed-part-again : (n k : ℕ) (w : List ℕ) → zeroed n (zeroed (n + k) w) ≡ zeroed (n + k) w
 unfolding zeroed
 zeroed-part-again n k w = zeros-part n k (drop (n + k) w)
-
--- bytes put in the place of the first ones, and more made zero than were put
-pub put-and-zeroed : (n k : ℕ) (put w : List ℕ) → length put ≤ n
-    → zeroed n (put ++ drop (length put) (zeroed (n + k) w)) ≡ zeroed (n + k) w
-put-and-zeroed n k put w h = zeroed-same n (put ++ drop (length put) z) z dropped ∙ zeroed-part-again n k w
-  where
-    z : List ℕ
-    z = zeroed (n + k) w
-
-    dropped : drop n (put ++ drop (length put) z) ≡ drop n z
-    dropped =
-        let e : length put + (n - length put) ≡ n = omega arith in
-        ap (λ (j : ℕ). drop j (put ++ drop (length put) z)) (sym e)
-        ∙ drop-append-add put (drop (length put) z) (n - length put)
-        ∙ drop-drop (n - length put) (length put) z
-        ∙ ap (λ (j : ℕ). drop j z) e
 
 -- a word that is not empty has a letter
 some-letter : (w : List ℕ) → (w ≡ [] → ⊥) → {k : ℕ} → k ≡ length w → 1 ≤ k
@@ -122,15 +107,15 @@ module _ (v x work further out : List ℕ) where
     pub further-room : 262144 ≤ length further
     further-room = ltb-false (length further) 262144 (short .1)
 
-    pub work-zeroed : workCleared work further ≡ zeroed 64000 work
+    work-zeroed : workCleared work further ≡ zeroed 64000 work
     unfolding workCleared shortSpaces
     work-zeroed = rw (short .0, short .1)
 
-    pub further-zeroed : furtherCleared work further ≡ zeroed 262144 further
+    further-zeroed : furtherCleared work further ≡ zeroed 262144 further
     unfolding furtherCleared shortSpaces
     further-zeroed = rw (short .0, short .1)
 
-    pub few : length ws ≤ 2000
+    few : length ws ≤ 2000
     unfolding longRows longList
     few =
         let r = none-says (longRows ws) (parts .2) in
@@ -143,13 +128,13 @@ module _ (v x work further out : List ℕ) where
     unfolding sortedWords
     words = word-list (letterWords (graphOf x)) (λ w m. (x, images, m)) (mem-some (a-word images .1))
 
-    pub answer-past : canonicalAnswer v x work further out ≡ unless (buildRows v ws out) (length (wordsImage v ws))
+    answer-past : canonicalAnswer v x work further out ≡ unless (buildRows v ws out) (length (wordsImage v ws))
     unfolding canonicalAnswer canonicalImage
     answer-past =
         ap (λ rows. unless rows (length (wordsImage v ws))) rows-split
         ∙ unless-past (wordTableRows v x work further) (buildRows v ws out) (length (wordsImage v ws)) (passed .0)
 
-    pub table-bytes : wordTableFurther v x work further
+    table-bytes : wordTableFurther v x work further
         ≡ slotBytes ws ++ drop (length (slotBytes ws)) (zeroed 262144 further)
     unfolding wordTableFurther written
     table-bytes = rw e (ap (λ z. slotBytes ws ++ drop (length (slotBytes ws)) z) further-zeroed)
@@ -174,7 +159,7 @@ module _ (v x work further out : List ℕ) where
           some-letter (getD ws i []) (λ e. words .lettered (subst (λ w. In w ws) e (mem-getD ws i [] k)))
           (table-size ws later (words .short) bytes i k)
 
-      pub given : Given v t n × (wordsFrom t 0 n ≡ ws)
+      given : Given v t n × (wordsFrom t 0 n ≡ ws)
       given = (
         record {
           words = record {
@@ -191,38 +176,29 @@ module _ (v x work further out : List ℕ) where
       )
 
     -- the part of the table that is lent for building
-    pub part-bytes : take 132033 whole ≡ slotBytes ws ++ take (132033 - length (slotBytes ws)) rest
+    part-bytes : take 132033 whole ≡ slotBytes ws ++ take (132033 - length (slotBytes ws)) rest
     part-bytes =
         let e : length (slotBytes ws) + (132033 - length (slotBytes ws)) ≡ 132033 = (let h = size in omega arith) in
         ap (take 132033) table-bytes
         ∙ ap (λ (k : ℕ). take k (slotBytes ws ++ rest)) (sym e)
         ∙ take-append-add (slotBytes ws) rest (132033 - length (slotBytes ws))
 
+    -- its words
+    pub part-given : (t : List ℕ) → t ≡ whole
+        → Given v (take 132033 t) n × (wordsFrom (take 132033 t) 0 n ≡ ws)
+    part-given t same =
+        given (take 132033 t) (take (132033 - length (slotBytes ws)) rest) (ap (take 132033) same ∙ part-bytes)
+
     -- both spaces are as they were left by it, once the parts written since are zero again
-    whole-zeroed : zeroed 132033 whole ≡ furtherCleared work further
-    whole-zeroed =
+    pub further-again : zeroed 132033 whole ≡ furtherCleared work further
+    further-again =
         ap (zeroed 132033) table-bytes
-        ∙ put-and-zeroed 132033 130111 (slotBytes ws) further (let h = size in omega arith)
+        ∙ part-zeroed 132033 (slotBytes ws) (zeroed 262144 further) refl (let h = size in omega arith)
+        ∙ zeroed-part-again 132033 130111 further
         ∙ sym further-zeroed
 
-    pub further-again : (part : List ℕ) → length part ≡ 132033
-        → zeroed 132033 (part ++ drop 132033 whole) ≡ furtherCleared work further
-    further-again part h =
-        zeroed-same 132033 (part ++ drop 132033 whole) whole (drop-at part (drop 132033 whole) 132033 h) ∙ whole-zeroed
-
-    pub further-length : length (furtherCleared work further) ≡ length further
-    further-length = ap length further-zeroed ∙ zeroed-length 262144 further further-room
-
-    pub work-length : length (workCleared work further) ≡ length work
-    work-length = ap length work-zeroed ∙ zeroed-length 64000 work work-room
-
-    pub work-again : (part : List ℕ) → length part ≡ 2000
-        → zeroed 2000 (part ++ drop 2000 (workCleared work further)) ≡ workCleared work further
-    work-again part h =
-        ap (λ z. zeroed 2000 (part ++ drop 2000 z)) work-zeroed
-        ∙ ap (λ (k : ℕ). zeroed 2000 (part ++ drop k (zeroed 64000 work))) (sym h)
-        ∙ put-and-zeroed 2000 62000 part work (omega arith)
-        ∙ sym work-zeroed
+    pub work-again : zeroed 2000 (workCleared work further) ≡ workCleared work further
+    work-again = ap (zeroed 2000) work-zeroed ∙ zeroed-part-again 2000 62000 work ∙ sym work-zeroed
 
     pub out-past : {list : List (List ℕ)} {answer : Answer ℕ} {after : List ℕ} → list ≡ ws
         → ImageAnswered v list answer out after

@@ -2,25 +2,25 @@
 -- written since is made zero again. Assumes nothing.
 use Prim.Native.Nat.{ℕ, _≤_}
 use mathlib.Core.Path.{_≡_, sym, ap, subst, _∙_}
-use mathlib.Core.List.{List, _++_}
+use mathlib.Core.List.{List}
 use native.Mathlib.Omega.{arith}
-use lib.ListN.{length, take, drop, length-append, length-drop}
-use lib.Seq.{length-take-le}
+use lib.ListN.{length, take}
 use borrow.Author.Needs.{needs}
 use Rattle.call.specs.Table.{value, answerOf}
-use Rattle.call.specs.Buffers.{zeroed, workCleared, furtherCleared}
-use Rattle.call.proofs.Buffers.{zeroed-part, zeroed-length}
+use Rattle.call.specs.Buffers.{zeroed}
 use Rattle.graph.specs.Graph.{graphOf}
 use Rattle.canonical.specs.Canonical.{sortedWords}
 use Rattle.sorting.specs.Slots.{wordsFrom}
-use Rattle.sorting.specs.Listing.{wordTableAnswer, wordTableFurther}
+use Rattle.sorting.specs.Listing.{wordTableAnswer}
 use Rattle.registering.specs.Building.{Given}
 use Rattle.registering.proofs.Calls.{table-refused, table-refused-out, table-refused-further}
-use Rattle.registering.proofs.Calls.{work-room, further-room}
-use Rattle.registering.proofs.Calls.{work-zeroed, given, part-bytes, further-again, work-again}
-use Rattle.registering.proofs.Calls.{work-length, further-length, out-past}
+use Rattle.registering.proofs.Calls.{work-room, further-room, part-given, further-again, work-again, out-past}
 use Rattle.building.proofs.canonical.Statement.{statement}
 use Rattle.building.proofs.canonical.Tie as tie
+
+-- the parts lent for building are long enough, and no longer than the spaces
+parts-fit : {f w : ℕ} → 262144 ≤ f → 64000 ≤ w → (132033 ≤ 132033) × (132033 ≤ f) × (2000 ≤ 2000) × (2000 ≤ w)
+parts-fit h k = (omega arith, omega arith, omega arith, omega arith)
 
 returns : tie.Need-returns
 returns c =
@@ -74,134 +74,63 @@ module _ (c : tie.After-known-told) where
   further-now = table .word-table .last .1 .1 .1 .0
 
   work-long : 64000 ≤ length work-now
-  work-long =
-      let e = table .word-table .ensures .1 .0 ∙ work-zeroed v x w f o answered in
-      omega (arith, ap length e, zeroed-length 64000 w (work-room v x w f o answered), work-room v x w f o answered)
+  work-long = subst (λ k. 64000 ≤ k) (sym (table .word-table .kept .1 .1 .0)) (work-room v x w f o answered)
 
   further-long : 262144 ≤ length further-now
-  further-long = omega (arith, table .word-table .kept .1 .1 .1 .0, further-room v x w f o answered)
+  further-long = subst (λ k. 262144 ≤ k) (sym (table .word-table .kept .1 .1 .1 .0)) (further-room v x w f o answered)
 
-  work-part : length (take 2000 work-now) ≡ 2000
-  work-part = length-take-le 2000 work-now (let h = work-long in omega arith)
-
-  further-part : length (take 132033 further-now) ≡ 132033
-  further-part = length-take-le 132033 further-now (let h = further-long in omega arith)
-
-  -- the words of the part that is lent for building
   words-given : Given v (take 132033 further-now) count
       × (wordsFrom (take 132033 further-now) 0 count ≡ sortedWords (graphOf x))
-  words-given =
-      given v x w f o answered (take 132033 further-now) _
-      (ap (take 132033) (table .word-table .ensures .1 .1) ∙ part-bytes v x w f o answered)
+  words-given = part-given v x w f o answered further-now (table .word-table .ensures .1 .1)
 
-build-requires : tie.Need-build-requires
-build-requires c κs =
-    let k = c .before .before .before in
-    (words-given k .0, (subst (λ m. 132033 ≤ m) (sym (further-part k)) (omega arith), omega (arith, work-part k)))
-
--- what was built, and what stands in the parts that were lent for it
-module _ (b : tie.After-build) where
-  abbrev made : tie.After-known-told
-  made = b .before .before .before .before
-
-  abbrev words : List ℕ
-  words = b .build .last .1 .0
-
-  abbrev shared : List ℕ
-  shared = b .build .last .1 .1 .1 .0
-
-  words-kept : length words ≡ 132033
-  words-kept = b .build .kept .1 .0 ∙ further-part made
-
-  shared-kept : length shared ≡ 2000
-  shared-kept = b .build .kept .1 .1 .1 .0 ∙ work-part made
-
-  abbrev further-lent : List ℕ
-  further-lent = words ++ drop 132033 (further-now made)
-
-  abbrev work-lent : List ℕ
-  work-lent = shared ++ drop 2000 (work-now made)
-
-  further-lent-long : 132033 ≤ length further-lent
-  further-lent-long = omega (arith, length-append words (drop 132033 (further-now made)), words-kept)
-
-  work-lent-long : 2000 ≤ length work-lent
-  work-lent-long = omega (arith, length-append shared (drop 2000 (work-now made)), shared-kept)
+build-in-requires : tie.Need-build-in-requires
+build-in-requires c κs =
+    let k = c .before .before .before in (words-given k .0, parts-fit (further-long k) (work-long k))
 
 -- the place of building, from the end
-abbrev cleared : tie.After-slice-known10 → tie.After-zero
-cleared c = c .before .before .before .before .before .before
+abbrev built : tie.After-slice-known8 → tie.After-build-in
+built c = c .before .before .before .before .before .before
 
-abbrev built : tie.After-slice-known10 → tie.After-build
-built c = cleared c .before .before .before .before .before .before .before .before
-
-work-left : (c : tie.After-slice-known10) →
-    c .before .before .zero2 .last .0 ++ drop 2000 (work-lent (built c))
-    ≡ workCleared (w (made (built c))) (f (made (built c)))
-work-left c =
-    let b = built c in
-    let k = made b in
-    ap (λ z. z ++ drop 2000 (work-lent b)) (c .before .before .zero2 .ensures)
-    ∙ zeroed-part 2000 (work-lent b) (work-lent-long b)
-    ∙ ap (λ z. zeroed 2000 (shared b ++ drop 2000 z)) (table k .word-table .ensures .1 .0)
-    ∙ work-again (v k) (x k) (w k) (f k) (o k) (answered k) (shared b) (shared-kept b)
-
-further-left : (c : tie.After-slice-known10) →
-    cleared c .zero .last .0 ++ drop 132033 (further-lent (built c))
-    ≡ furtherCleared (w (made (built c))) (f (made (built c)))
-further-left c =
-    let b = built c in
-    let k = made b in
-    ap (λ z. z ++ drop 132033 (further-lent b)) (cleared c .zero .ensures)
-    ∙ zeroed-part 132033 (further-lent b) (further-lent-long b)
-    ∙ ap (λ z. zeroed 132033 (words b ++ drop 132033 z)) (table k .word-table .ensures .1 .1)
-    ∙ further-again (v k) (x k) (w k) (f k) (o k) (answered k) (words b) (words-kept b)
+abbrev made : tie.After-build-in → tie.After-known-told
+made b = b .before .before .before .before
 
 same-length-3 : tie.Need-same-length-3
 same-length-3 c =
-    let k = made (built c) in
-    ap length (work-left c) ∙ work-length (v k) (x k) (w k) (f k) (o k) (answered k)
+    let b = built c in b .build-in .kept .1 .1 .1 .1 .0 ∙ table (made b) .word-table .kept .1 .1 .0
 
 same-length-4 : tie.Need-same-length-4
-same-length-4 c =
-    let k = made (built c) in
-    ap length (further-left c) ∙ further-length (v k) (x k) (w k) (f k) (o k) (answered k)
+same-length-4 c = let b = built c in b .build-in .kept .1 .0 ∙ table (made b) .word-table .kept .1 .1 .1 .0
 
 returns-2 : tie.Need-returns-2
 returns-2 c =
     let b = built c in
     let k = made b in
-    let a = out-past (v k) (x k) (w k) (f k) (o k) (answered k) (words-given k .1) (b .build .ensures) in
-    (a .0, (work-left c, (further-left c, a .1)))
+    let t = table k .word-table .ensures .1 in
+    let e = b .build-in .ensures in
+    let a = out-past (v k) (x k) (w k) (f k) (o k) (answered k) (words-given k .1) (e .0) in (
+      a .0,
+      (
+        e .1 .1 ∙ ap (zeroed 2000) (t .0) ∙ work-again (v k) (x k) (w k) (f k) (o k) (answered k),
+        (
+          e .1 .0 ∙ ap (zeroed 132033) (t .1) ∙ further-again (v k) (x k) (w k) (f k) (o k) (answered k),
+          a .1,
+        ),
+      ),
+    )
 
 pub canonical-spec : {M : Type 1} → statement M
 canonical-spec =
     tie.close
     (tie.spec
-    (λ c κs. search needs)
-    (λ c. search needs)
-    (λ c. search needs)
-    (λ c. search needs)
-    (λ c. search needs)
+    (λ c κs. tt)
+    (λ c. c .match .keys1)
+    (λ c. c .match .keys2)
+    (λ c. c .before .before .before .before .before .before .word-table .kept .1 .1 .0)
+    (λ c. c .before .before .before .before .before .before .word-table .kept .1 .1 .1 .0)
     returns
     (λ c. search needs)
-    (λ c. search needs)
-    (λ c. let h = further-long c in search needs)
-    (λ c. search needs)
-    (λ c. search needs)
-    (λ c. search needs)
-    (λ c. let h = work-long (c .before) in search needs)
-    build-requires
-    (λ c. search needs)
-    (λ c. search needs)
-    (λ c. let h = further-lent-long (c .before .before .before .before .before .before) in search needs)
-    (λ c κs. search needs)
-    (λ c. search needs)
-    (λ c. search needs)
-    (λ c. let h = work-lent-long (c .before .before .before .before .before .before .before .before .before .before) in
-    search needs)
-    (λ c κs. search needs)
+    build-in-requires
     same-length-3
     same-length-4
-    (λ c. built c .build .kept .1 .1 .1 .1 .0)
+    (λ c. built c .build-in .kept .1 .1 .1 .1 .1 .1 .0)
     returns-2)
