@@ -16,6 +16,7 @@ pub(crate) struct Group {
     pub mark: usize,
 }
 
+// The lesser of two numbers.
 fn lesser(a: u8, b: u8) -> u8
     ensures { λ r. ⌜ r ≡ min a b ⌝ }
 {
@@ -25,6 +26,7 @@ fn lesser(a: u8, b: u8) -> u8
     b
 }
 
+// The greater of two numbers.
 fn greater(a: u8, b: u8) -> u8
     ensures { λ r. ⌜ r ≡ max a b ⌝ }
 {

@@ -36,7 +36,8 @@ pub(crate) fn first_arc(
     place: u16,
 ) -> u16
     requires { ⌜ (count ≤ 400) × NodeRow (now words) (now row) place ⌝ }
-    ensures { λ r. ⌜ r ≡ firstArc (now (words .entry)) (numbersIn (now (rows .entry))) count (now (row .entry)) place ⌝ }
+    ensures { λ r. ⌜ r ≡ firstArc (now (words .entry)) (numbersIn (now (rows .entry))) count (now (row .entry))
+        place ⌝ }
 {
     if words[SLOT * (row[FIRST] as usize)] as u16 == row[DEPTH] {
         return count as u16 + 1;

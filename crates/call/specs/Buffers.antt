@@ -1,4 +1,5 @@
--- What a call leaves in the buffers that it is lent (document 01, under the refusal table). The work space is the call's scratch memory.
+-- What a call leaves in the buffers that it is lent (document 01, under the refusal table). The work space is the call's
+-- scratch memory.
 -- Assumes nothing.
 use Prim.Native.Nat.{ℕ, _≤_, _<_}
 use mathlib.Core.Path.{_≡_}
@@ -20,7 +21,8 @@ spaceRows work = on WorkSpace (ltb (length work) workSpace) ∷ []
 unfoldable pub zeroed : ℕ → List ℕ → List ℕ
 zeroed n b = replicate n 0 ++ drop n b
 
--- After a call that refusal 1 does not end, the first 64,000 work bytes are zero and later ones unchanged; refusal 1 leaves all as it was.
+-- After a call that refusal 1 does not end, the first 64,000 work bytes are zero and later ones unchanged; refusal 1
+-- leaves all as it was.
 unfoldable pub cleared : List ℕ → List ℕ
 cleared work = cond (ltb (length work) workSpace) work (zeroed workSpace work)
 
@@ -43,7 +45,8 @@ furtherCleared work further = cond (shortSpaces work further) further (zeroed fu
 -- ---- the output
 
 module _ {A : Type 0} where
-  -- a value comes with its bytes at the output's start, and the bytes after them keep their values; a refusal leaves the output unchanged
+  -- a value comes with its bytes at the output's start, and the bytes after them keep their values; a refusal leaves the
+  -- output unchanged
   unfoldable pub written : Answer A → List ℕ → List ℕ → List ℕ
   written (value a) bytes out = bytes ++ drop (length bytes) out
   written (refused r) bytes out = out
@@ -59,7 +62,8 @@ pub record Clears (work left : List ℕ) : Type 0 where
 pub record ClearsBoth (work further left left′ : List ℕ) : Type 0 where
   pub short : (length work < workSpace) ⊎ (length further < furtherSpace) → (left ≡ work) × (left′ ≡ further)
   pub long : workSpace ≤ length work → furtherSpace ≤ length further
-      → (left ≡ replicate workSpace 0 ++ drop workSpace work) × (left′ ≡ replicate furtherSpace 0 ++ drop furtherSpace further)
+      → (left ≡ replicate workSpace 0 ++ drop workSpace work)
+      × (left′ ≡ replicate furtherSpace 0 ++ drop furtherSpace further)
 
 -- a value comes with its bytes at the output's start and later ones unchanged; a refusal leaves the output unchanged
 pub record Writes {A : Type 0} (answer : Answer A) (bytes out left : List ℕ) : Type 0 where

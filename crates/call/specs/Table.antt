@@ -1,4 +1,5 @@
--- The refusal tables of documents 01 and 02: each refusal's number, and how a call goes through its rows. Assumes nothing.
+-- The refusal tables of documents 01 and 02: each refusal's number, and how a call goes through its rows. Assumes
+-- nothing.
 use Prim.Native.Nat.{ℕ}
 use mathlib.Core.Path.{_≡_}
 use mathlib.Core.Bool.{Bool, true, false, cond, not}
@@ -8,8 +9,10 @@ use lib.IntN.{ℤ, pos, negℤ}
 use lib.Dec.{eqb}
 use Rattle.endian.specs.Lists.{all}
 use Rattle.call.specs.declared.Refusal.{Refusal}
-use Rattle.call.specs.declared.Refusal.the-variants.{WorkSpace, VoiceLength, VoiceRange, LexiconLength, LexiconRange}
-use Rattle.call.specs.declared.Refusal.the-variants.{Orphan, Places, LongWord, WordCount, SameLetters, Frames, Count}
+use Rattle.call.specs.declared.Refusal.the-variants.{WorkSpace, VoiceLength, VoiceRange, LexiconLength}
+use Rattle.call.specs.declared.Refusal.the-variants.{LexiconRange}
+use Rattle.call.specs.declared.Refusal.the-variants.{Orphan, Places, LongWord, WordCount, SameLetters}
+use Rattle.call.specs.declared.Refusal.the-variants.{Frames, Count}
 use Rattle.call.specs.declared.Refusal.the-variants.{NoWord, Packed, Code, Output, WordList, CanonicalImage}
 use Rattle.call.specs.declared.Answer as declared
 use Rattle.call.specs.declared.Answer.the-variants.{Value, Refused}
@@ -76,7 +79,8 @@ unfoldable pub noneApplies : List Row → Bool
 noneApplies rows = all (λ r. not (r .applies)) rows
 
 module _ {A : Type 0} where
-  -- the first row that applies decides, in the order in which a call's rows are written; where none does, the answer is the value
+  -- the first row that applies decides, in the order in which a call's rows are written; where none does, the answer is
+  -- the value
   unfoldable pub unless : List Row → A → Answer A
   unless [] a = value a
   unless (r ∷ rows) a = let rest = unless rows a in cond (r .applies) (refused (r .refusal)) rest

@@ -125,7 +125,8 @@ last-next [] a = refl
 last-next (b ∷ []) a = refl
 last-next (b ∷ c ∷ q) a = last-next (c ∷ q) a
 
-pub node-next : (ws : List (List ℕ)) (q : List ℕ) (a : ℕ) → nodeOf ws (q ++ a ∷ []) ≡ node a (after a (continuations q ws))
+pub node-next : (ws : List (List ℕ)) (q : List ℕ) (a : ℕ)
+    → nodeOf ws (q ++ a ∷ []) ≡ node a (after a (continuations q ws))
 unfolding nodeOf
 node-next ws q a = let l = last-next q a in let r = rest-next q a ws in λ i. record { letter = l i; rest = r i }
 

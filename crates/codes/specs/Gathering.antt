@@ -18,8 +18,8 @@ slotOf w = length w ∷ w ++ replicate (32 - length w) 0
 unfoldable pub slotBytes : List (List ℕ) → List ℕ
 slotBytes ws = flatMap slotOf ws
 
--- 1 to 10; then 17 by the words alone, over 2,000 (letters are counted once the words are in order); then 16, no room for
--- a slot a word
+-- 1 to 10; then 17 by the words alone, over 2,000 (letters are counted once the words are in order); then 16, no room
+-- for a slot a word
 unfoldable pub gatherRows : List ℕ → List ℕ → List ℕ → List ℕ → List Row
 gatherRows v x work out =
     firstRows v x work

@@ -14,13 +14,15 @@ use call::Refusal;
 use checking::ARCS_AT;
 use checking::PATHS;
 
-// The vertex that an arc leads to, and a code that goes with it: what is left of one behind the arc, or the arc's increment.
+// The vertex that an arc leads to, and a code that goes with it: what is left of one behind the arc, or the arc's
+// increment.
 pub(crate) struct Step {
     pub vertex: usize,
     pub code: u32,
 }
 
-// The arc along which the code leads, and what of the code is left behind it: the path counts of the successors before it are taken off.
+// The arc along which the code leads, and what of the code is left behind it: the path counts of the successors before
+// it are taken off.
 fn descend(lexicon: &[u8], vertices: &[[u32; 4]; 402], vertex: usize, code: u32) -> Step
     requires { ⌜ Tabled (now lexicon) (now vertices) ⌝ }
     requires { ⌜ (vertex ≤ nodeCount (now lexicon)) × (code < pathCount (graphOf (now lexicon)) vertex) ⌝ }

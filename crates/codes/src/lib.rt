@@ -1,7 +1,8 @@
 // Word to code, code to word, listing, and gathering: definitions in specs/.
 ghost use mathlib.Core.Path.{_≡_};
 ghost use Rattle.call.specs.Table.{answerOf};
-ghost use Rattle.codes.specs.Lookup.{wordToCodeAnswer, wordToCodeWork, codeToWordAnswer, codeToWordWork, codeToWordOut, listAnswer, listOut, listWork};
+ghost use Rattle.codes.specs.Lookup.{wordToCodeAnswer, wordToCodeWork, listAnswer, listOut, listWork};
+ghost use Rattle.codes.specs.Lookup.{codeToWordAnswer, codeToWordWork, codeToWordOut};
 ghost use Rattle.codes.specs.Gathering.{gatherAnswer, gatherWork, gatherOut};
 use crate::descent::put_word;
 use crate::descent::spell;
@@ -22,8 +23,10 @@ mod suffixes;
 
 // The code of a word, given as print bytes.
 pub fn word_to_code(voice: &[u8], lexicon: &[u8], word: &[u8], work: &mut [u8]) -> Answer
-    ensures { λ r. ⌜ answerOf r ≡ wordToCodeAnswer (now (voice .entry)) (now (lexicon .entry)) (now (word .entry)) (now (work .entry)) ⌝ }
-    ensures { λ _. ⌜ now (work .exit) ≡ wordToCodeWork (now (voice .entry)) (now (lexicon .entry)) (now (word .entry)) (now (work .entry)) ⌝ }
+    ensures { λ r. ⌜ answerOf r ≡ wordToCodeAnswer (now (voice .entry)) (now (lexicon .entry)) (now (word .entry))
+        (now (work .entry)) ⌝ }
+    ensures { λ _. ⌜ now (work .exit) ≡ wordToCodeWork (now (voice .entry)) (now (lexicon .entry)) (now (word .entry))
+        (now (work .entry)) ⌝ }
 {
     let mut vertices = [[0u32; 4]; 402];
     let opened = open(voice, lexicon, work, &mut vertices);
@@ -43,9 +46,12 @@ pub fn code_to_word(
     work: &mut [u8],
     out: &mut [u8],
 ) -> Answer
-    ensures { λ r. ⌜ answerOf r ≡ codeToWordAnswer (now (voice .entry)) (now (lexicon .entry)) code (now (work .entry)) (now (out .entry)) ⌝ }
-    ensures { λ _. ⌜ now (work .exit) ≡ codeToWordWork (now (voice .entry)) (now (lexicon .entry)) code (now (work .entry)) ⌝ }
-    ensures { λ _. ⌜ now (out .exit) ≡ codeToWordOut (now (voice .entry)) (now (lexicon .entry)) code (now (work .entry)) (now (out .entry)) ⌝ }
+    ensures { λ r. ⌜ answerOf r ≡ codeToWordAnswer (now (voice .entry)) (now (lexicon .entry)) code (now (work .entry))
+        (now (out .entry)) ⌝ }
+    ensures { λ _. ⌜ now (work .exit) ≡ codeToWordWork (now (voice .entry)) (now (lexicon .entry)) code
+        (now (work .entry)) ⌝ }
+    ensures { λ _. ⌜ now (out .exit) ≡ codeToWordOut (now (voice .entry)) (now (lexicon .entry)) code (now (work .entry))
+        (now (out .entry)) ⌝ }
 {
     let mut vertices = [[0u32; 4]; 402];
     let opened = open(voice, lexicon, work, &mut vertices);
@@ -62,9 +68,11 @@ pub fn code_to_word(
 
 // Writes the words in code order, each followed by byte 10, and answers the bytes written.
 pub fn list(voice: &[u8], lexicon: &[u8], work: &mut [u8], out: &mut [u8]) -> Answer
-    ensures { λ r. ⌜ answerOf r ≡ listAnswer (now (voice .entry)) (now (lexicon .entry)) (now (work .entry)) (now (out .entry)) ⌝ }
+    ensures { λ r. ⌜ answerOf r ≡ listAnswer (now (voice .entry)) (now (lexicon .entry)) (now (work .entry))
+        (now (out .entry)) ⌝ }
     ensures { λ _. ⌜ now (work .exit) ≡ listWork (now (voice .entry)) (now (lexicon .entry)) (now (work .entry)) ⌝ }
-    ensures { λ _. ⌜ now (out .exit) ≡ listOut (now (voice .entry)) (now (lexicon .entry)) (now (work .entry)) (now (out .entry)) ⌝ }
+    ensures { λ _. ⌜ now (out .exit) ≡ listOut (now (voice .entry)) (now (lexicon .entry)) (now (work .entry))
+        (now (out .entry)) ⌝ }
 {
     let mut vertices = [[0u32; 4]; 402];
     let answer = open(voice, lexicon, work, &mut vertices);

@@ -91,7 +91,8 @@ module _ (heights : List ℕ) (count : ℕ) where
 -- ---- a place more
 
 module _ {heights : List ℕ} {count : ℕ} where
-  pub placed-start : {order numbers : List ℕ} (top : ℕ) → Low heights count top → length order ≡ 401 → length numbers ≡ 401
+  pub placed-start : {order numbers : List ℕ} (top : ℕ) → Low heights count top → length order ≡ 401
+      → length numbers ≡ 401
       → Placed heights count (placesBelow heights count top) order numbers 0
   placed-start top low a b = record {
     top = top;
@@ -129,7 +130,8 @@ module _ {heights : List ℕ} {count : ℕ} where
     -- the next place and the next number have room
     pub placed-room : count ≤ 400 → (r < count) × (k < count)
     placed-room few =
-        (below-out heights count (p .top) (rw (put-here few) at (mem-getD all k 0 (omega (arith, p .size)))), number-below)
+        let m = rw (put-here few) at (mem-getD all k 0 (omega (arith, p .size))) in
+        (below-out heights count (p .top) m, number-below)
 
     pub placed-put : count ≤ 400 → Placed heights count left (set order k r) (set numbers r (k + 1)) (k + 1)
     placed-put few = record {

@@ -114,7 +114,8 @@ module _ {shared links numbers row : List ℕ} {head at : ℕ} {out₀ : List �
 
   module _ {out : List ℕ} {arcs i : ℕ} (p : Putting shared links numbers row head at out₀ out arcs i)
       (room : at + length (listBytes (listOf shared links numbers row head)) ≤ length out₀) where
-    long : 2 + 2 * (arcs + length (partingsFrom shared row i)) ≡ length (listBytes (listOf shared links numbers row head))
+    long : 2 + 2 * (arcs + length (partingsFrom shared row i))
+        ≡ length (listBytes (listOf shared links numbers row head))
     long =
         omega (
           arith,

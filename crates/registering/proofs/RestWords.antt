@@ -1,5 +1,5 @@
--- What follows a prefix in words that stand in slots, by the bytes of the table: its length, its letters, and the longest
--- of a run of words. Assumes nothing.
+-- What follows a prefix in words that stand in slots, by the bytes of the table: its length, its letters, and the
+-- longest of a run of words. Assumes nothing.
 use Prim.Native.Nat.{ℕ, zero, suc, _+_, _*_, _-_, _≤_, _<_, max}
 use mathlib.Core.Path.{_≡_, refl, ap, _∙_}
 use mathlib.Core.List.{List}

@@ -17,8 +17,8 @@ use Rattle.canonical.proofs.Continuations.{Below}
 use Rattle.canonical.proofs.Vertices.{vertex-letter}
 use Rattle.sorting.specs.Slots.{wordAt, wordsFrom}
 use Rattle.sorting.proofs.SlotWords.{word-length}
-use Rattle.registering.specs.Register.{Words, previous, Shared, firstOf, manyOf, depthOf, restsFrom, nodeAt, rowNode}
-use Rattle.registering.specs.Register.{Register, Linked, Links}
+use Rattle.registering.specs.Register.{Words, previous, Shared, firstOf, manyOf, depthOf, restsFrom, nodeAt}
+use Rattle.registering.specs.Register.{rowNode, Register, Linked, Links}
 use Rattle.registering.specs.Numbering.{numbersIn, orderIn, Numbered}
 use Rattle.registering.specs.Arcs.{placeIn, vertexIn, firstArc, listOf, vertexList, NodeRow, Places, Spanned}
 use Rattle.registering.specs.Image.{letterIn, Lettered, Measured, Listed}

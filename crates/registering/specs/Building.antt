@@ -14,7 +14,8 @@ use Rattle.canonical.specs.Canonical.{wordsImage, outsideRows}
 use Rattle.sorting.specs.Slots.{wordsFrom}
 use Rattle.registering.specs.Register.{Listed, Words}
 
--- a table of words, of which there is one, whose letters are below L: what can be made into an image under the voice model
+-- a table of words, of which there is one, whose letters are below L: what can be made into an image under the voice
+-- model
 pub record Given (v t : List ℕ) (n : ℕ) : Type 0 where
   pub words : Listed t n
   pub some : 1 ≤ n

@@ -18,7 +18,8 @@ use Rattle.building.proofs.numbering.number_level.Tie as tie
 abbrev Inv-loop : tie.InvT-loop
 Inv-loop rows₀ count h k next₀ r₀ rows next r =
     (r ≤ count)
-    × PlacedIn rows₀ rows count (placesOf (heightsIn rows₀) h r (count - r) ++ placesBelow (heightsIn rows₀) count h) next
+    × PlacedIn rows₀ rows count
+    (placesOf (heightsIn rows₀) h r (count - r) ++ placesBelow (heightsIn rows₀) count h) next
 
 abbrev μ-loop : tie.MeasureT-loop
 μ-loop rows₀ count h k next₀ r₀ rows next r = count - r

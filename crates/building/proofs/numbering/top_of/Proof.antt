@@ -26,8 +26,9 @@ loop-holds c = (λ r h. absurd (omega arith), omega arith, omega arith)
 low : (c : tie.In-loop Inv-loop μ-loop)
     → longestOf (getD (c .before .before .args .rows .now) (c .before .loop .r) []) < 33
 low c =
-    let rows = c .before .before .args .rows .now in
-    rw (column-at 3 (c .before .loop .r) rows) at (c .before .before .pre .low (c .before .loop .r) (c .loop-test .taken))
+    let s = c .before .before in
+    let r = c .before .loop .r in
+    rw (column-at 3 r (s .args .rows .now)) at (s .pre .low r (c .loop-test .taken))
 
 loop-again : tie.Need-loop-again Inv-loop μ-loop
 loop-again c =

@@ -47,7 +47,8 @@ loop-again c =
       omega (
         arith,
         i .inv .1,
-        c .list-length .ensures ∙ ap (λ k. listLength (a .shared .now) (getD (a .rows .now) k [])) (p .place-of .ensures),
+        c .list-length .ensures
+            ∙ ap (λ k. listLength (a .shared .now) (getD (a .rows .now) k [])) (p .place-of .ensures),
         size-more (a .shared .now) (a .rows .now) (i .vertex),
       ),
       omega (arith, i .inv .2, few c),

@@ -26,8 +26,9 @@ lists c = c .before .before .before
 -- the parts have room
 room : (s : tie.Start) →
     let a = s .args in
-    let lists = listsFrom (a .words .now) (a .shared .now) (a .links .now) (a .rows .now) (a .count) 0 (suc (a .count)) in
-    2 + a .count + length lists + 2 ≤ length (a .out .now)
+    let k = a .count in
+    let lists = listsFrom (a .words .now) (a .shared .now) (a .links .now) (a .rows .now) k 0 (suc k) in
+    2 + k + length lists + 2 ≤ length (a .out .now)
 room s =
     let a = s .args in
     omega (
