@@ -115,14 +115,14 @@ fn append(rows: &mut [[u16; 6]; 401], chains: &mut [u16; 256], count: usize, let
     ensures { λ _. ⌜ now (chains .exit) ≡ set (now (chains .entry)) letter (count + 1) ⌝ }
 {
     let chain = letter as usize;
-    let mut row = [0; 6];
-    row[0] = a.first as u16;
-    row[1] = a.many as u16;
-    row[2] = a.depth as u16;
-    row[3] = a.longest as u16;
-    row[4] = chains[chain];
-    row[5] = a.mark as u16;
-    rows[count] = row;
+    rows[count] = [
+        a.first as u16,
+        a.many as u16,
+        a.depth as u16,
+        a.longest as u16,
+        chains[chain],
+        a.mark as u16,
+    ];
     chains[chain] = (count + 1) as u16;
 }
 

@@ -1,6 +1,6 @@
 -- The parts of the image, vertex by vertex: a vertex more adds its letter, its states, its list and the bytes of that.
 -- Assumes nothing.
-use Prim.Native.Nat.{ℕ, zero, suc, _+_, _*_, _-_, _≤_}
+use Prim.Native.Nat.{ℕ, zero, suc, _+_, _*_, _-_, _≤_, _<_}
 use mathlib.Core.Path.{_≡_, refl, ap, _∙_}
 use mathlib.Core.Bool.{Bool}
 use mathlib.Core.List.{List, [], _∷_, _++_, map, flatMap, append-nil, map-append}
@@ -15,13 +15,14 @@ use Rattle.endian.proofs.Booleans.{cond-cases}
 use Rattle.endian.proofs.Lists.{flatMap-append, from-add, sum-append, map-cong, length-flatMap}
 use Rattle.voice.specs.Voice.{states}
 use Rattle.image.specs.Image.{listBytes}
-use Rattle.image.proofs.Reading.{length-from, length-u16, length-list}
+use Rattle.image.proofs.Reading.{length-from, length-u16}
 use Rattle.registering.specs.Register.{firstOf, manyOf, depthOf}
 use Rattle.registering.specs.Numbering.{numbersIn}
-use Rattle.registering.specs.Arcs.{placeIn, vertexIn, firstArc, vertexList, partings, linkNumber, listOf}
+use Rattle.registering.specs.Arcs.{placeIn, vertexIn, firstArc, vertexList, partings, partingsOf, listOf}
 use Rattle.registering.specs.Arcs.{listLength, Spanned}
 use Rattle.registering.specs.Image.{Put, letterIn, lettersFrom, listsFrom, listsLength, tableImage, Measured}
 use Rattle.registering.proofs.Putting.{put-both}
+use Rattle.registering.proofs.Partings.{list-long}
 
 -- ---- letters, and their states
 
@@ -70,9 +71,9 @@ select-few p (a ∷ l) =
     cond-cases (λ m. length m ≤ suc (length l)) (p a) (a ∷ select p l) (select p l)
     (λ e. omega arith) (λ e. omega arith)
 
-pub list-few : {shared row : List ℕ} → Spanned shared row → listLength shared row ≤ 2000
-unfolding listLength partings
-list-few {shared} {row} s =
+pub parts-few : {shared row : List ℕ} → Spanned shared row → length (partingsOf shared row) < 2000
+unfolding partings
+parts-few {shared} {row} s =
     omega (
       arith,
       select-few (λ k. eqb (getD shared k 0) (depthOf row)) (from (suc (firstOf row)) (manyOf row - 1)),
@@ -81,12 +82,14 @@ list-few {shared} {row} s =
       s .some,
     )
 
+pub list-few : {shared row : List ℕ} → Spanned shared row → listLength shared row ≤ 2000
+unfolding listLength
+list-few s = parts-few s
+
 list-bytes : (shared links numbers row : List ℕ) (first : ℕ)
     → length (listBytes (listOf shared links numbers row first)) ≡ 2 + 2 * listLength shared row
-unfolding listOf listLength
-list-bytes shared links numbers row first =
-    let l = partings shared (depthOf row) (suc (firstOf row)) (manyOf row - 1) in
-    omega (arith, length-list (listOf shared links numbers row first), length-map l (linkNumber links numbers))
+unfolding listLength
+list-bytes shared links numbers row first = omega (arith, list-long shared links numbers row first)
 
 module _ (t shared links : List ℕ) (rows : List (List ℕ)) (count : ℕ) where
   abbrev own : ℕ → List ℕ

@@ -13,7 +13,8 @@ use Rattle.endian.proofs.Lists.{flatMap-append}
 use Rattle.image.specs.Image.{listBytes}
 use Rattle.image.proofs.Reading.{length-list}
 use Rattle.registering.specs.Register.{firstOf, manyOf, depthOf}
-use Rattle.registering.specs.Arcs.{partings, partingsOf, linkNumber, listOf, listLength, Spanned}
+use Rattle.registering.specs.Arcs.{partings, partingsOf, linkNumber, laterArcs, listOf, listLength, Spanned}
+use Rattle.registering.specs.Image.{ArcsPut}
 use Rattle.registering.specs.Image.{Put}
 use Rattle.registering.proofs.Selected.{select-here, select-past, select-end}
 use Rattle.registering.proofs.Putting.{put-none, put-both, put-front}
@@ -82,58 +83,53 @@ module _ {shared row : List ℕ} where
     pub count-done : firstOf row + manyOf row ≤ i → arcs ≡ listLength shared row
     count-done h = omega (arith, c .total, ap length (part-end shared row i h))
 
--- ---- their list in the output
+-- ---- their numbers in the output
 
--- behind the places of the count and the first arc
-pub record Putting (shared links numbers row : List ℕ) (head at : ℕ) (out₀ out : List ℕ) (arcs i : ℕ) : Type 0 where
+-- those of the words passed are put
+pub record Putting (shared links numbers row : List ℕ) (at : ℕ) (out₀ out : List ℕ) (arcs i : ℕ) : Type 0 where
   pub inside : i ≤ firstOf row + manyOf row
   pub beyond : firstOf row < i
   pub few : arcs ≤ i
   pub done : List ℕ
-  pub count : suc (length done) ≡ arcs
-  pub whole : head ∷ done ++ map (linkNumber links numbers) (partingsFrom shared row i)
-      ≡ listOf shared links numbers row head
-  pub put : Put (flatMap u16Bytes done) (at + 4) out₀ out (at + 2 + 2 * arcs)
+  pub count : length done ≡ arcs
+  pub whole : done ++ map (linkNumber links numbers) (partingsFrom shared row i) ≡ laterArcs shared links numbers row
+  pub put : Put (flatMap u16Bytes done) at out₀ out (at + 2 * arcs)
   pub size : length out ≡ length out₀
 
-module _ {shared links numbers row : List ℕ} {head at : ℕ} {out₀ : List ℕ} where
-  pub put-start : Spanned shared row → Putting shared links numbers row head at out₀ out₀ 1 (firstOf row + 1)
-  unfolding listOf flatMap
+module _ {shared links numbers row : List ℕ} {at : ℕ} {out₀ : List ℕ} where
+  pub put-start : Spanned shared row → Putting shared links numbers row at out₀ out₀ 0 (firstOf row + 1)
+  unfolding flatMap
   put-start s =
-      let e : at + 4 ≡ at + 2 + 2 * 1 = omega arith in
+      let e : at + 2 * 0 ≡ at = omega arith in
       record {
         inside = omega (arith, s .some);
         beyond = omega arith;
         few = omega arith;
         done = [];
         count = refl;
-        whole = ap (λ l. head ∷ map (linkNumber links numbers) l) (sym (part-start shared row));
-        put = rw e (put-none (at + 2 + 2 * 1) out₀);
+        whole = ap (map (linkNumber links numbers)) (sym (part-start shared row));
+        put = rw e (put-none at out₀);
         size = refl;
       }
 
-  module _ {out : List ℕ} {arcs i : ℕ} (p : Putting shared links numbers row head at out₀ out arcs i)
-      (room : at + length (listBytes (listOf shared links numbers row head)) ≤ length out₀) where
-    long : 2 + 2 * (arcs + length (partingsFrom shared row i))
-        ≡ length (listBytes (listOf shared links numbers row head))
+  module _ {out : List ℕ} {arcs i : ℕ} (p : Putting shared links numbers row at out₀ out arcs i)
+      (room : at + 2 * length (partingsOf shared row) ≤ length out₀) where
+    long : arcs + length (partingsFrom shared row i) ≡ length (partingsOf shared row)
     long =
         omega (
           arith,
           p .count,
-          length-list (listOf shared links numbers row head),
           ap length (p .whole),
           length-append (p .done) (map (linkNumber links numbers) (partingsFrom shared row i)),
           length-map (partingsFrom shared row i) (linkNumber links numbers),
+          length-map (partingsOf shared row) (linkNumber links numbers),
         )
 
-    pub put-room : (at + 4 ≤ at + 2 + 2 * arcs) × (at + 2 + 2 * arcs ≤ length out)
-    put-room = omega (arith, long, p .size, p .count)
-
-    pub part-room : i < firstOf row + manyOf row → getD shared i 0 ≡ depthOf row → at + 2 + 2 * arcs + 2 ≤ length out
+    pub part-room : i < firstOf row + manyOf row → getD shared i 0 ≡ depthOf row → at + 2 * arcs + 2 ≤ length out
     part-room h e = omega (arith, long, p .size, ap length (part-here shared row i h e))
 
     pub put-past : i < firstOf row + manyOf row → ¬ (getD shared i 0 ≡ depthOf row)
-        → Putting shared links numbers row head at out₀ out arcs (i + 1)
+        → Putting shared links numbers row at out₀ out arcs (i + 1)
     put-past h e = record {
       inside = omega arith;
       beyond = omega (arith, p .beyond);
@@ -141,21 +137,20 @@ module _ {shared links numbers row : List ℕ} {head at : ℕ} {out₀ : List �
       done = p .done;
       count = p .count;
       whole =
-          ap (λ l. head ∷ p .done ++ map (linkNumber links numbers) l) (sym (part-past shared row i h e))
-          ∙ p .whole;
+          ap (λ l. p .done ++ map (linkNumber links numbers) l) (sym (part-past shared row i h e)) ∙ p .whole;
       put = p .put;
       size = p .size;
     }
 
     pub put-here : {out′ : List ℕ} → length out′ ≡ length out
         → i < firstOf row + manyOf row → getD shared i 0 ≡ depthOf row
-        → Put (u16Bytes (linkNumber links numbers i)) (at + 2 + 2 * arcs) out out′ (at + 2 + 2 * arcs + 2)
-        → Putting shared links numbers row head at out₀ out′ (arcs + 1) (i + 1)
+        → Put (u16Bytes (linkNumber links numbers i)) (at + 2 * arcs) out out′ (at + 2 * arcs + 2)
+        → Putting shared links numbers row at out₀ out′ (arcs + 1) (i + 1)
     unfolding flatMap
     put-here {out′} l h e q =
         let n = linkNumber links numbers i in
         let later = map (linkNumber links numbers) (partingsFrom shared row (i + 1)) in
-        let end : at + 2 + 2 * arcs + 2 ≡ at + 2 + 2 * (arcs + 1) = omega arith in
+        let end : at + 2 * arcs + 2 ≡ at + 2 * (arcs + 1) = omega arith in
         record {
           inside = omega arith;
           beyond = omega (arith, p .beyond);
@@ -163,30 +158,48 @@ module _ {shared links numbers row : List ℕ} {head at : ℕ} {out₀ : List �
           done = p .done ++ n ∷ [];
           count = omega (arith, length-append (p .done) (n ∷ []), p .count);
           whole =
-              ap (λ m. head ∷ m)
-              (append-assoc (p .done) (n ∷ []) later
-              ∙ ap (λ m. p .done ++ map (linkNumber links numbers) m) (sym (part-here shared row i h e)))
+              append-assoc (p .done) (n ∷ []) later
+              ∙ ap (λ m. p .done ++ map (linkNumber links numbers) m) (sym (part-here shared row i h e))
               ∙ p .whole;
           put = rw (sym end, flatMap-append u16Bytes (p .done) (n ∷ []), append-nil (u16Bytes n)) (put-both (p .put) q);
           size = l ∙ p .size;
         }
 
-    -- then the first arc, and the count
-    pub put-done : {out₁ out₂ : List ℕ} → length out₁ ≡ length out → firstOf row + manyOf row ≤ i
-        → Put (u16Bytes (head)) (at + 2) out out₁ (at + 2 + 2) → Put (u16Bytes arcs) at out₁ out₂ (at + 2)
-        → Put (listBytes (listOf shared links numbers row head)) at out₀ out₂ (at + 2 + 2 * arcs)
-    unfolding listBytes flatMap
-    put-done {out₁} {out₂} e h q r =
-        let l = listOf shared links numbers row head in
-        let four : at + 2 + 2 ≡ at + 4 = omega arith in
-        let all : head ∷ p .done ≡ l =
-        ap (λ m. head ∷ m)
-        (sym (append-nil (p .done))
-        ∙ ap (λ m. p .done ++ map (linkNumber links numbers) m) (sym (part-end shared row i h)))
-        ∙ p .whole in
-        let n : arcs ≡ length l = sym (p .count) ∙ ap length all in
-        let low : at + 4 ≤ length out = omega (arith, put-room) in
-        let tail : Put (flatMap u16Bytes (head ∷ p .done)) (at + 2) out₀ out₁ (at + 2 + 2 * arcs) =
-        put-front (omega (arith, p .size)) low (p .put) (rw four at q) in
-        put-front (omega (arith, p .size)) (omega arith)
-        (subst (λ m. Put (flatMap u16Bytes m) (at + 2) out₀ out₁ (at + 2 + 2 * arcs)) all tail) (rw n at r)
+    pub put-done : firstOf row + manyOf row ≤ i → ArcsPut shared links numbers row at out₀ out arcs
+    put-done h = record {
+      count = omega (arith, long, ap length (part-end shared row i h));
+      put = subst (λ m. Put (flatMap u16Bytes m) at out₀ out (at + 2 * arcs)) all (p .put);
+    }
+      where
+        all : p .done ≡ laterArcs shared links numbers row
+        all =
+            sym (append-nil (p .done))
+            ∙ ap (λ m. p .done ++ map (linkNumber links numbers) m) (sym (part-end shared row i h))
+            ∙ p .whole
+
+-- ---- the list: the first arc before them, and the count before that
+
+pub list-long : (shared links numbers row : List ℕ) (first : ℕ)
+    → length (listBytes (listOf shared links numbers row first)) ≡ 4 + 2 * length (partingsOf shared row)
+unfolding listOf
+list-long shared links numbers row first =
+    omega (
+      arith,
+      length-list (listOf shared links numbers row first),
+      length-map (partingsOf shared row) (linkNumber links numbers),
+    )
+
+module _ {shared links numbers row : List ℕ} (first : ℕ) {at arcs : ℕ} {out out₁ out₂ out₃ : List ℕ} where
+  pub list-put : at + 4 ≤ length out → length out₁ ≡ length out → length out₂ ≡ length out
+      → ArcsPut shared links numbers row (at + 4) out out₁ arcs
+      → Put (u16Bytes first) (at + 2) out₁ out₂ (at + 2 + 2) → Put (u16Bytes (arcs + 1)) at out₂ out₃ (at + 2)
+      → Put (listBytes (listOf shared links numbers row first)) at out out₃ (at + 4 + 2 * arcs)
+  unfolding listBytes listOf flatMap
+  list-put room l₁ l₂ a q r =
+      let l = listOf shared links numbers row first in
+      let four : at + 2 + 2 ≡ at + 4 = omega arith in
+      let n : arcs + 1 ≡ length l =
+      omega (arith, a .count, length-map (partingsOf shared row) (linkNumber links numbers)) in
+      put-front (omega arith) (omega arith)
+      (put-front {l = flatMap u16Bytes (laterArcs shared links numbers row)} room (omega arith) (a .put) (rw four at q))
+      (rw n at r)

@@ -54,9 +54,13 @@ partingsOf shared row = partings shared (depthOf row) (suc (firstOf row)) (manyO
 abbrev pub linkNumber : List ℕ → List ℕ → ℕ → ℕ
 linkNumber links numbers i = getD numbers (getD links (400 + i) 0) 0
 
--- the numbers that the arcs of a row lead to, the first of them given
+-- the numbers that the arcs of a row lead to behind the first
+abbrev pub laterArcs : List ℕ → List ℕ → List ℕ → List ℕ → List ℕ
+laterArcs shared links numbers row = map (linkNumber links numbers) (partingsOf shared row)
+
+-- with the first, which is given
 unfoldable pub listOf : List ℕ → List ℕ → List ℕ → List ℕ → ℕ → List ℕ
-listOf shared links numbers row first = first ∷ map (linkNumber links numbers) (partingsOf shared row)
+listOf shared links numbers row first = first ∷ laterArcs shared links numbers row
 
 -- how many they are
 unfoldable pub listLength : List ℕ → List ℕ → ℕ

@@ -10,7 +10,8 @@ use Rattle.voice.specs.Voice.{letterCount, voiceVerdict}
 use Rattle.image.specs.Image.{listBytes}
 use Rattle.registering.specs.Register.{firstOf, depthOf, Shared, Built}
 use Rattle.registering.specs.Building.{Buildable}
-use Rattle.registering.specs.Arcs.{placeIn, vertexIn, vertexList, listLength, NodeRow, Places, Spanned, Readable}
+use Rattle.registering.specs.Arcs.{placeIn, vertexIn, partingsOf, laterArcs, vertexList, listLength}
+use Rattle.registering.specs.Arcs.{NodeRow, Places, Spanned, Readable}
 
 -- ---- bytes in the output
 
@@ -19,6 +20,11 @@ pub record Put (bytes : List ℕ) (at : ℕ) (out out′ : List ℕ) (end : ℕ)
   pub ends : end ≡ at + length bytes
   pub before : take end out′ ≡ take at out ++ bytes
   pub after : drop end out′ ≡ drop end out
+
+-- so many numbers that the arcs of a row lead to behind the first
+pub record ArcsPut (shared links numbers row : List ℕ) (at : ℕ) (out out′ : List ℕ) (arcs : ℕ) : Type 0 where
+  pub count : arcs ≡ length (partingsOf shared row)
+  pub put : Put (flatMap u16Bytes (laterArcs shared links numbers row)) at out out′ (at + 2 * arcs)
 
 -- ---- the image
 

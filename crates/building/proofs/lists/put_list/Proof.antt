@@ -1,121 +1,91 @@
--- `lists::put_list` meets its contract: before each word the arcs by the words passed are put behind the places of
--- the count and the first arc, and those by the words to come are left. The measure is the words left. Assumes
+-- `lists::put_list` meets its contract: the first arc stands before the others, and the count before that. Assumes
 -- nothing.
-use Prim.Native.Nat.{_+_, _*_, _-_, _≤_, _<_}
-use mathlib.Core.Path.{_≡_, sym, _∙_}
-use mathlib.Core.Logic.{⊎-elim}
+use Prim.Native.Nat.{_+_, _*_, _≤_, _<_}
+use mathlib.Core.Path.{_≡_, _∙_}
 use native.Mathlib.Omega.{arith}
 use borrow.Author.Needs.{needs}
-use lib.ListN.{length, getD}
-use Rattle.checking.proofs.Columns.{column-at}
+use lib.ListN.{length}
 use Rattle.registering.specs.Numbering.{numbersIn}
-use Rattle.registering.proofs.Partings.{Putting, put-start, put-room, part-room, put-here, put-past, put-done}
+use Rattle.registering.specs.Arcs.{partingsOf}
+use Rattle.registering.proofs.Partings.{list-long, list-put}
+use Rattle.registering.proofs.Images.{parts-few}
 use Rattle.building.proofs.lists.put_list.Statement.{statement}
 use Rattle.building.proofs.lists.put_list.Tie as tie
 
-abbrev Inv-loop : tie.InvT-loop
-Inv-loop shared links rows row first out₀ at stop depth arcs₀ i₀ out arcs i =
-    Putting shared links (numbersIn rows) row first at out₀ out arcs i
+-- the list has room
+room : (s : tie.Start) →
+    let a = s .args in
+    a .at + 4 + 2 * length (partingsOf (a .shared .now) (a .row .now)) ≤ length (a .out .now)
+room s =
+    let a = s .args in
+    omega (
+      arith,
+      s .pre .1,
+      list-long (a .shared .now) (a .links .now) (numbersIn (a .rows .now)) (a .row .now) (a .first),
+    )
 
-abbrev μ-loop : tie.MeasureT-loop
-μ-loop shared links rows row first out₀ at stop depth arcs₀ i₀ out arcs i = stop - i
+-- where the arcs behind the first are put, and the first arc
+abbrev start : tie.After-put-arcs → tie.Start
+start c = c .before .before .before .before
 
-abbrev start : tie.At-loop Inv-loop μ-loop → tie.Start Inv-loop μ-loop
-start c = c .before .before .before .before .before .before .before
+abbrev arcs : tie.After-put-number → tie.After-put-arcs
+arcs c = c .before .before .before .before
 
--- the turn of a word, and where the rest is put
-abbrev turn : tie.Then1 Inv-loop μ-loop → tie.At-loop Inv-loop μ-loop
-turn c = c .before .before .before
+abbrev first : tie.After-put-number-arg2 → tie.After-put-number
+first c = c .before .before .before
 
-abbrev after : tie.After-put-number-arg5 Inv-loop μ-loop → tie.At-loop Inv-loop μ-loop
-after c = c .before .before .before .before .before .before
-
--- what is put has room
-within : (c : tie.At-loop Inv-loop μ-loop)
-    → (start c .args .at + 4 ≤ start c .args .at + 2 + 2 * c .loop .arcs)
-    × (start c .args .at + 2 + 2 * c .loop .arcs ≤ length (start c .args .out .now))
-within c = let r = put-room (c .loop .inv) (start c .pre .1) in (r .0, omega (arith, r .1, c .loop .inv .size))
-
-few : (c : tie.At-loop Inv-loop μ-loop) → c .loop .arcs ≤ 2000
-few c = omega (arith, c .loop .inv .few, c .loop .inv .inside, start c .pre .0 .spanned .few)
-
--- an arc more has room
-arc-room : (c : tie.Then1 Inv-loop μ-loop)
-    → start (turn c) .args .at + 2 + 2 * turn c .loop .arcs + 2 ≤ length (turn c .loop .out)
-arc-room c =
-    part-room (turn c .loop .inv) (start (turn c) .pre .1) (c .before .before .loop-test .taken) (c .if1 .taken)
-
-linked : (c : tie.Then1 Inv-loop μ-loop) → getD (start (turn c) .args .links .now) (400 + turn c .loop .i) 0 < 400
-linked c =
-    let l = turn c .loop in
-    start (turn c) .pre .0 .linked (l .i) (l .inv .beyond) (c .before .before .loop-test .taken) (c .if1 .taken)
-
-loop-again : tie.Need-loop-again Inv-loop μ-loop
-loop-again c =
-    let l = c .before .before .before in
-    let h = c .before .before .loop-test .taken in
-    let r = start l .pre .1 in
-    let a = start l .args in
-    let number = column-at 4 (getD (a .links .now) (400 + l .loop .i) 0) (a .rows .now) in
-    ⊎-elim
-    (λ w. rw (w .7, w .8)
-    (put-here (l .loop .inv) r (w .4 .kept .0) h (w .0 .taken) (rw (sym number) at (w .4 .ensures))))
-    (λ w. rw (w .1, w .2) (put-past (l .loop .inv) r h (w .0 .left)))
-    (c .if1 .came)
+few : (c : tie.After-put-arcs) → c .put-arcs .result < 2000
+few c = omega (arith, c .put-arcs .ensures .count, parts-few (start c .pre .0 .spanned))
 
 -- the output keeps its length
-kept : (c : tie.After-put-number2 Inv-loop μ-loop)
-    → length (c .put-number2 .last .0) ≡ length (c .before .before .before .loop .out)
-kept c = c .put-number2 .kept .0
+long-1 : (c : tie.After-put-arcs)
+    → length (c .put-arcs .last .1 .1 .1 .1 .0) ≡ length (start c .args .out .now)
+long-1 c = c .put-arcs .kept .1 .1 .1 .1 .0
 
-returns : tie.Need-returns Inv-loop μ-loop
+long-2 : (c : tie.After-put-number) → length (c .put-number .last .0) ≡ length (start (arcs c) .args .out .now)
+long-2 c = c .put-number .kept .0 ∙ long-1 (arcs c)
+
+put-number-requires : tie.Need-put-number-requires
+put-number-requires c κs =
+    let k = c .before .before .before in
+    omega (arith, room (start k), long-1 k)
+
+put-number-requires-2 : tie.Need-put-number-requires-2
+put-number-requires-2 c κs =
+    let k = first c in
+    omega (arith, room (start (arcs k)), long-2 k)
+
+end : (c : tie.After-put-number2) →
+    let k = arcs (first (c .before)) in
+    let a = start k .args in
+    a .at + 4 + 2 * k .put-arcs .result ≤ length (a .out .now)
+end c =
+    let k = arcs (first (c .before)) in
+    omega (arith, room (start k), k .put-arcs .ensures .count)
+
+returns : tie.Need-returns
 returns c =
-    let p = c .before .before in
-    let q = p .before .before .before .before in
-    let l = after (p .before) in
-    put-done (l .loop .inv) (start l .pre .1) (kept q) (q .before .before .loop-test .left)
-    (q .put-number2 .ensures) (p .put-number3 .ensures)
+    let d = c .before .before in
+    let f = first (d .before) in
+    let k = arcs f in
+    let s = start k in
+    let r = room s in
+    list-put (s .args .first) (omega arith) (long-1 k) (long-2 f) (k .put-arcs .ensures) (f .put-number .ensures)
+    (d .put-number2 .ensures)
 
 pub put-list-spec : {M : Type 1} → statement M
 put-list-spec =
     tie.close
     (tie.spec
-    Inv-loop
-    μ-loop
-    (λ c. search needs)
-    (λ c. search needs)
-    (λ c. search needs)
-    (λ c. search needs)
-    (λ c. search needs)
-    (λ c. search needs)
-    (λ c. search needs)
-    (λ c. search needs)
-    (λ c. search needs)
-    (λ c. put-start (c .before .before .before .before .before .before .pre .0 .spanned))
-    (λ c. search needs)
-    (λ c. let h = c .shared-slice-known2 .given (c .before .before .loop .i) in search needs)
-    (λ c. let h = within (turn (c .before)) in search needs)
-    (λ c. let h = few (turn (c .before)) in search needs)
-    (λ c. let h = within (turn (c .before)) in search needs)
-    (λ c. search needs)
-    (λ c. search needs)
-    (λ c. search needs)
-    (λ c. let h = linked (c .before .before) in search needs)
-    (λ c. let h = linked (c .before .before) in search needs)
-    (λ c. let h = linked (c .before .before) in omega arith)
-    (λ c. search needs)
-    (λ c κs. arc-room (c .before .before .before))
-    (λ c. let h = few (turn (c .before .before .before .before .before .before)) in search needs)
-    (λ c. search needs)
-    (λ c. let h = c .before .before .loop-test .taken in omega arith)
-    loop-again
-    (λ c. let h = within (c .before .before) in search needs)
-    (λ c κs. let l = c .before .before in let h = within l in omega (arith, l .loop .inv .size))
-    (λ c. let h = few (after c) in search needs)
-    (λ c κs. let h = within (after c) in omega (arith, after c .loop .inv .size, kept (c .before .before .before)))
-    (λ c. let h = within (after (c .before .before .before)) in search needs)
-    (λ c. let h = few (after (c .before .before .before)) in search needs)
-    (λ c. let h = within (after (c .before .before .before)) in search needs)
-    (λ c. let p = c .before .before in
-    p .put-number3 .kept .0 ∙ kept (p .before .before .before .before) ∙ after (p .before) .loop .inv .size)
+    (λ c. let h = room (c .before .before .before) in search needs)
+    (λ c κs. let s = c .before .before .before in (s .pre .0, room s))
+    (λ c. let h = room (start (c .before .before .before)) in search needs)
+    put-number-requires
+    (λ c. let h = few (arcs (first c)) in search needs)
+    (λ c. let h = few (arcs (first c)) in search needs)
+    put-number-requires-2
+    (λ c. let h = end (c .before .before) in search needs)
+    (λ c. let h = end (c .before .before) in search needs)
+    (λ c. let h = end (c .before .before) in search needs)
+    (λ c. let d = c .before .before in d .put-number2 .kept .0 ∙ long-2 (first (d .before)))
     returns)
