@@ -23,8 +23,8 @@
  * be shared.
  *
  * What it needs. The library is compiled for x86-64 Linux. Of the C library it needs memcpy and memset, and nothing
- * else: no heap, no files, no locale. A call takes less than 16 KiB of stack, some 15.7 KB at most (decoding and
- * listing), and wundaleth_canonical, which is no call of a terminal's, less than 20 KiB, as bench/stack measures it.
+ * else: no heap, no files, no locale. A call takes less than 16 KiB of stack, some 15.7 KB at most (decoding, listing
+ * and wundaleth_canonical), as bench/stack measures it.
  *
  * Codes belong to one lexicon image: two builds of one list may give a word two codes. Send a code only with the
  * image that it was made from. Canonical images (wundaleth_canonical) are equal byte by byte exactly if they hold the

@@ -2,10 +2,10 @@
 //! the example of the program hits and to the library.
 
 use crate::buffers::{whole, Buffer, Numbers};
-use crate::image::{small_lexicon, small_voice};
+use crate::image::{small_lexicon, small_voice, Lexicon};
 use crate::library;
 use crate::random::Random;
-use crate::reference::WORK_SPACE;
+use crate::reference::{FURTHER_SPACE, WORK_SPACE};
 
 const PAGE: &str = include_str!("../../docs/FORMAT.md");
 /// The file of the page's last example.
@@ -42,6 +42,7 @@ pub fn run(seed: u64) -> usize {
     page.images();
     page.changes();
     page.codes();
+    page.canonical();
     page.hits();
     page.packed();
     println!(
@@ -169,6 +170,48 @@ impl Page {
                 .sum();
             self.compare(row[0], code == sum && row[3].parse() == Ok(code));
         }
+    }
+
+    /// What the library writes for a lexicon.
+    fn canonical_image(&mut self, lexicon: &[u8]) -> Vec<u8> {
+        let [mut v, _, mut work] = self.lent_images();
+        let (mut l, mut further) = (self.lent(lexicon), self.lent(&vec![0; FURTHER_SPACE]));
+        let mut out = self.lent(&[0; 100]);
+        let answer = library::canonical(&mut v, &mut l, &mut work, &mut further, &mut out);
+        out.contents()[..answer.max(0) as usize].to_vec()
+    }
+
+    /// The small lexicon is canonical and is written for its other order too; the page's table is the graph that is
+    /// written for an, at, in and it with a node for each letter of each.
+    fn canonical(&mut self) {
+        let mut reordered = small_lexicon();
+        reordered.successors[0].reverse();
+        for lexicon in [small_lexicon(), reordered] {
+            let image = self.canonical_image(&lexicon.bytes());
+            self.compare("canonical image, of the small lexicon", image == self.lexicon);
+        }
+        let spread = Lexicon {
+            letters: vec![0, 0, 1, 1, 2, 3, 2, 3],
+            successors: [&[1, 2, 3, 4][..], &[5], &[6], &[7], &[8], &[9], &[9], &[9], &[9]]
+                .map(<[u16]>::to_vec)
+                .to_vec(),
+        };
+        let table = rows("canonical image");
+        let numbers = |cell: &str| cell.split(' ').filter_map(|word| word.parse().ok()).collect();
+        let print = small_voice().letters;
+        let index = |cell: &str| {
+            let letters = print.iter().map(|letter| letter.print_byte);
+            letters.take_while(|byte| cell.as_bytes() != [*byte]).count() as u8
+        };
+        let shown = Lexicon {
+            letters: table.iter().skip(1).map(|row| index(row[1])).collect(),
+            successors: table.iter().map(|row| numbers(row[3])).collect(),
+        };
+        let image = self.canonical_image(&spread.bytes());
+        self.compare("canonical image, the table", shown.bytes() == image);
+        let numbered = |(k, row): (usize, &Vec<&str>)| row[0].starts_with(&k.to_string());
+        let in_order = table.iter().enumerate().all(numbered);
+        self.compare("canonical image, the vertices", in_order && table.len() == 5);
     }
 
     fn hits(&mut self) {

@@ -28,4 +28,5 @@ canonical-examples = record {
   node-limit = refl;
   arc-limit = refl;
   place-limit = refl;
+  long-first = refl;
 }

@@ -7,12 +7,12 @@ use mathlib.Core.List.{List, [], _∷_, _++_, map}
 use lib.ListN.{replicate}
 use lib.Dec.{eqb, ltb}
 use Rattle.endian.specs.Lists.{from}
-use Rattle.call.specs.declared.Refusal.the-variants.{WorkSpace, SameLetters, Output}
-use Rattle.call.specs.Table.{value, refused}
+use Rattle.call.specs.declared.Refusal.the-variants.{WorkSpace, SameLetters, Output, WordList, CanonicalImage}
+use Rattle.call.specs.Table.{value, refused, unless}
 use Rattle.graph.specs.Graph.{Graph, graphOf}
 use Rattle.graph.specs.Words.{letterWords}
 use Rattle.canonical.specs.Dictionary.{inOrder}
-use Rattle.canonical.specs.Canonical.{wordsImage, canonicalImage, longList, outsideLimits}
+use Rattle.canonical.specs.Canonical.{wordsImage, canonicalImage, longList, outsideLimits, wordListRows}
 use Rattle.canonical.specs.Canonical.{canonicalAnswer, canonicalOut, canonicalWork, canonicalFurther}
 use Rattle.examples.specs.SmallLexicon.{voice, P, Q, twoAs}
 
@@ -81,6 +81,10 @@ further = replicate 262144 9
 -- letters of four states and of one
 abbrev pub fourAndOne : List ℕ
 fourAndOne = 2 ∷ 97 ∷ 4 ∷ 98 ∷ 1 ∷ []
+
+-- a letter of 255 states, which no voice model has: four nodes with it have 1,020 places, three 765
+abbrev pub manyStates : List ℕ
+manyStates = 1 ∷ 97 ∷ 255 ∷ []
 
 -- the first k of n nodes have the letter with four states, the others the one with one, and the root has these arcs
 abbrev pub graph : ℕ → ℕ → ℕ → Graph
@@ -183,3 +187,8 @@ pub record CanonicalExamples : Type 0 where
   pub arc-limit : map (λ n. outsideLimits fourAndOne (graph 0 1 n)) (4000 ∷ 4001 ∷ []) ≡ false ∷ true ∷ []
   -- 249 letters of four states with four or five of one
   pub place-limit : map (λ n. outsideLimits fourAndOne (graph 249 n 0)) (253 ∷ 254 ∷ []) ≡ false ∷ true ∷ []
+  -- 17 comes before 18: 2,001 words with an image outside the limits; one such word; one that neither refuses
+  pub long-first :
+      map (λ ws. unless {A = ℕ} (wordListRows manyStates ws) 0)
+      (replicate 2001 (replicate 4 0) ∷ (replicate 4 0 ∷ []) ∷ (replicate 3 0 ∷ []) ∷ [])
+      ≡ refused WordList ∷ refused CanonicalImage ∷ value 0 ∷ []

@@ -32,7 +32,7 @@ imageRows v x = voiceRows v ++ lexiconRows v x
 abbrev pub Accepted : List ℕ → List ℕ → Type 0
 Accepted v x = noneApplies (imageRows v x) ≡ true
 
--- 1 to 10: what every call with a lexicon tests first
+-- 1 to 10: what every call with a lexicon and one work space tests first
 unfoldable pub firstRows : List ℕ → List ℕ → List ℕ → List Row
 firstRows v x work = spaceRows work ++ imageRows v x
 

@@ -1,5 +1,5 @@
--- Words in slots, by place: the words of a table one by one, the part of a table that holds a word's end, slots written
--- byte by byte, and slots with the same bytes, which hold the same word. Assumes nothing.
+-- Words in slots, by place: the words of a table one by one, the part of a table that is a word, slots written byte by
+-- byte, and slots with the same bytes, which hold the same word. Assumes nothing.
 use Prim.Native.Nat.{ℕ, zero, suc, _+_, _*_, _-_, _≤_, _<_}
 use mathlib.Core.Path.{_≡_, refl, sym, ap, ap₂, _∙_}
 use mathlib.Core.Logic.{⊎-elim}
@@ -9,8 +9,8 @@ use native.Mathlib.Nat.{add-zero, add-assoc}
 use native.Mathlib.Numerals.{add-one}
 use native.Mathlib.Decide.{ℕ-discrete}
 use native.Mathlib.Omega.{arith}
-use lib.ListN.{length, getD, take, drop, set, length-set, length-take, length-drop, drop-of-length-le}
-use lib.Seq.{getD-set-same, getD-set-other, getD-take, getD-drop, ext-getD, take-nil, take-take, drop-drop}
+use lib.ListN.{length, getD, take, drop, set, length-set, length-take, length-drop}
+use lib.Seq.{getD-set-same, getD-set-other, getD-take, getD-drop, ext-getD}
 use Rattle.sorting.specs.Slots.{wordAt, Slot, Padded, wordsFrom, Filled, Copied}
 
 -- ---- the words of a table, by place
@@ -82,39 +82,13 @@ letter-at t i d h =
     let e : 33 * i + 1 + d ≡ 33 * i + suc d = omega arith in
     getD-take (getD t (33 * i) 0) (drop (33 * i + 1) t) d 0 h ∙ getD-drop (33 * i + 1) t d 0 ∙ ap (λ k. getD t k 0) e
 
--- ---- the end of a word, and its beginning
-
-drop-take : {A : Type 0} (d n : ℕ) (l : List A) → drop d (take n l) ≡ take (n - d) (drop d l)
-drop-take zero n l = let e : n - 0 ≡ n = omega arith in rw e
-drop-take (suc d) zero [] = sym (take-nil (0 - suc d))
-drop-take (suc d) zero (a ∷ l) = let e : 0 - suc d ≡ 0 = omega arith in rw e
-drop-take (suc d) (suc n) [] = sym (take-nil (suc n - suc d))
-drop-take (suc d) (suc n) (a ∷ l) = let e : suc n - suc d ≡ n - d = omega arith in rw e (drop-take d n l)
-
-module _ (t : List ℕ) (i d : ℕ) where
-  pub tail-none : getD t (33 * i) 0 < d → [] ≡ drop d (wordAt t i)
-  unfolding wordAt
-  tail-none h =
-      let n = getD t (33 * i) 0 in
-      let k : length (take n (drop (33 * i + 1) t)) ≤ d = omega (arith, length-take n (drop (33 * i + 1) t)) in
-      sym (drop-of-length-le (take n (drop (33 * i + 1) t)) k)
-
-  pub tail-part : d ≤ getD t (33 * i) 0
-      → take (33 * i + 1 + getD t (33 * i) 0 - (33 * i + 1 + d)) (drop (33 * i + 1 + d) t) ≡ drop d (wordAt t i)
-  unfolding wordAt
-  tail-part h =
-      let n = getD t (33 * i) 0 in
-      let e : 33 * i + 1 + n - (33 * i + 1 + d) ≡ n - d = omega arith in
-      ap (λ k. take k (drop (33 * i + 1 + d) t)) e
-      ∙ ap (take (n - d)) (sym (drop-drop d (33 * i + 1) t))
-      ∙ sym (drop-take d n (drop (33 * i + 1) t))
-
-  pub head-part : d ≤ getD t (33 * i) 0
-      → take (33 * i + 1 + d - (33 * i + 1)) (drop (33 * i + 1) t) ≡ take d (wordAt t i)
-  unfolding wordAt
-  head-part h =
-      let e : 33 * i + 1 + d - (33 * i + 1) ≡ d = omega arith in
-      ap (λ k. take k (drop (33 * i + 1) t)) e ∙ sym (take-take d (getD t (33 * i) 0) (drop (33 * i + 1) t) h)
+-- the part of the table that it is
+pub word-part : (t : List ℕ) (i : ℕ)
+    → take (33 * i + 1 + getD t (33 * i) 0 - (33 * i + 1)) (drop (33 * i + 1) t) ≡ wordAt t i
+unfolding wordAt
+word-part t i =
+    let e : 33 * i + 1 + getD t (33 * i) 0 - (33 * i + 1) ≡ getD t (33 * i) 0 = omega arith in
+    ap (λ k. take k (drop (33 * i + 1) t)) e
 
 -- ---- a slot, byte by byte
 

@@ -9,7 +9,7 @@ use crate::letters::before;
 use crate::rows::copy_back;
 use crate::rows::copy_number;
 use crate::rows::number;
-use crate::slots::tail;
+use crate::slots::word;
 
 // Whether the word of place j stands before that of place i.
 pub(crate) fn stands_before(words: &[u8], rows: &[u8], j: usize, i: usize) -> bool
@@ -20,7 +20,7 @@ pub(crate) fn stands_before(words: &[u8], rows: &[u8], j: usize, i: usize) -> bo
 {
     let a = number(rows, j);
     let b = number(rows, i);
-    before(tail(words, a, 0), tail(words, b, 0))
+    before(word(words, a), word(words, b))
 }
 
 // Writes the next number of two runs at place k of the spare row, and answers how far the first run is taken. Equal

@@ -1,21 +1,17 @@
 // Words in slots of 33 bytes, each its length and then its letters.
 ghost use mathlib.Core.Path.{_≡_};
 ghost use Prim.Native.Nat.{_+_, _*_, _≤_};
-ghost use lib.ListN.{length, drop};
+ghost use lib.ListN.{length};
 ghost use Rattle.sorting.specs.Slots.{wordAt, Slot, Filled, Copied};
 
-// What follows the first d letters of the word in slot i.
-pub(crate) fn tail<'a>(words: &'a [u8], i: usize, d: usize) -> &'a [u8]
+// The word in slot i.
+pub(crate) fn word<'a>(words: &'a [u8], i: usize) -> &'a [u8]
     requires { ⌜ Slot (now words) i ⌝ }
-    ensures { λ r. ⌜ now r ≡ drop d (wordAt (now (words .entry)) i) ⌝ }
+    ensures { λ r. ⌜ now r ≡ wordAt (now (words .entry)) i ⌝ }
 {
     let at = 33 * i;
-    let n = words[at] as usize;
-    if n < d {
-        return &words[0..0];
-    }
-    let from = at + 1 + d;
-    let to = at + 1 + n;
+    let from = at + 1;
+    let to = from + words[at] as usize;
     &words[from..to]
 }
 

@@ -36,10 +36,10 @@ impl ReadBack {
 }
 
 impl Canonical {
-    /// The image is what the library wrote for a lexicon of these words; it is empty where the library refused, which
-    /// is a difference already.
+    /// The image is what the library wrote for a lexicon of these words, which is one that it has to write.
     pub(super) fn read_back(&mut self, voice: &Voice, image: &[u8], words: &Words) {
         if image.is_empty() {
+            self.difference("no image to read back");
             return;
         }
         let images = Images::new(voice.bytes(), image.to_vec());

@@ -1,4 +1,4 @@
--- `ordering::stands_before` meets its contract: behind no letters stands the whole word. Assumes nothing.
+-- `ordering::stands_before` meets its contract: the words of the two places are compared. Assumes nothing.
 use mathlib.Core.Path.{sym, ap, ap₂, subst, _∙_}
 use Rattle.canonical.specs.Dictionary.{precedes}
 use Rattle.sorting.specs.Slots.{wordAt, Slot}
@@ -6,13 +6,13 @@ use borrow.Author.Needs.{needs}
 use Rattle.sorting.proofs.ordering.stands_before.Statement.{statement}
 use Rattle.sorting.proofs.ordering.stands_before.Tie as tie
 
-tail-requires : tie.Need-tail-requires
-tail-requires c κs =
+word-requires : tie.Need-word-requires
+word-requires c κs =
     let s = c .before .before .before .before in
     subst (Slot (s .args .words .now)) (sym (c .before .number .ensures .0)) (s .pre .1 .0)
 
-tail-requires-2 : tie.Need-tail-requires-2
-tail-requires-2 c κs =
+word-requires-2 : tie.Need-word-requires-2
+word-requires-2 c κs =
     let s = c .before .before .before .before .before in
     subst (Slot (s .args .words .now)) (sym (c .before .number2 .ensures .0)) (s .pre .1 .1)
 
@@ -22,8 +22,8 @@ returns c =
     let s = n .before .before .before .before in
     c .before2 .ensures
     ∙ ap₂ precedes
-    (c .before .before .tail .ensures ∙ ap (wordAt (s .args .words .now)) (n .before .number .ensures .0))
-    (c .before .tail2 .ensures ∙ ap (wordAt (s .args .words .now)) (n .number2 .ensures .0))
+    (c .before .before .word .ensures ∙ ap (wordAt (s .args .words .now)) (n .before .number .ensures .0))
+    (c .before .word2 .ensures ∙ ap (wordAt (s .args .words .now)) (n .number2 .ensures .0))
 
 pub stands-before-spec : {M : Type 1} → statement M
 stands-before-spec =
@@ -31,7 +31,7 @@ stands-before-spec =
     (tie.spec
     (λ c κs. search needs)
     (λ c κs. search needs)
-    tail-requires
-    tail-requires-2
+    word-requires
+    word-requires-2
     (λ c κs. search needs)
     returns)
