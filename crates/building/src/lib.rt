@@ -2,13 +2,15 @@
 // canonical image that they make: definitions in canonical/specs.
 ghost use mathlib.Core.Path.{_≡_};
 ghost use Prim.Native.Nat.{_≤_};
-ghost use lib.ListN.{length, take};
+ghost use lib.ListN.{length, take, replicate};
 ghost use Rattle.call.specs.Table.{answerOf};
 ghost use Rattle.call.specs.Buffers.{zeroed};
 ghost use Rattle.canonical.specs.Canonical.{canonicalAnswer, canonicalOut, canonicalWork, canonicalFurther};
 ghost use Rattle.sorting.specs.Slots.{wordsFrom};
-ghost use Rattle.registering.specs.Building.{Given, ImageAnswered};
+ghost use Rattle.registering.specs.Register.{Shared};
+ghost use Rattle.registering.specs.Building.{Given, Buildable, ImageAnswered};
 use crate::marking::mark_words;
+use crate::register::NODES;
 use crate::sharing::share;
 use crate::walk::walk_all;
 use crate::writing::build_image;
@@ -32,18 +34,12 @@ const TABLE: usize = 132033;
 
 const SHARED: usize = 2000;
 
-// The most nodes of an image.
-const NODES: usize = 400;
-
-// Writes the canonical image of the words in the table, or answers 18 or 16.
-fn build(voice: &[u8], words: &mut [u8], n: usize, shared: &mut [u8], out: &mut [u8]) -> Answer
-    requires { ⌜ Given (now voice) (now words) n ⌝ }
-    requires { ⌜ (132033 ≤ length (now words)) × (2000 ≤ length (now shared)) ⌝ }
+// Writes the canonical image of the words in a table that is marked, or answers 18 or 16.
+fn build(voice: &[u8], words: &[u8], n: usize, shared: &[u8], out: &mut [u8]) -> Answer
+    requires { ⌜ Buildable (now voice) (now words) n × (1 ≤ n) × Shared (now words) n (now shared) ⌝ }
     ensures { λ r. ⌜ ImageAnswered (now (voice .entry)) (wordsFrom (now (words .entry)) 0 n) (answerOf r)
         (now (out .entry)) (now (out .exit)) ⌝ }
 {
-    mark_words(words, n);
-    share(words, n, shared);
     let mut rows = [[0u16; 6]; 401];
     let mut chains = [0u16; 256];
     let mut links = [0u16; 2400];
@@ -54,16 +50,31 @@ fn build(voice: &[u8], words: &mut [u8], n: usize, shared: &mut [u8], out: &mut 
     build_image(voice, words, n, shared, &mut rows, &links, count, out)
 }
 
-// Makes the bytes before an end zero. The end is no constant here: a part with an end as large as TABLE is slow to
-// check.
-fn zero_first(part: &mut [u8], end: usize)
-    requires { ⌜ end ≤ length (now part) ⌝ }
-    ensures { λ _. ⌜ now (part .exit) ≡ zeroed end (now (part .entry)) ⌝ }
+// Marks the words in a table and builds from them, and makes the table and that of shared letters zero.
+fn build_and_zero(
+    voice: &[u8],
+    words: &mut [u8],
+    n: usize,
+    shared: &mut [u8],
+    out: &mut [u8],
+) -> Answer
+    requires { ⌜ Given (now voice) (now words) n ⌝ }
+    requires { ⌜ (132033 ≤ length (now words)) × (2000 ≤ length (now shared)) ⌝ }
+    ensures { λ r. ⌜ ImageAnswered (now (voice .entry)) (wordsFrom (now (words .entry)) 0 n) (answerOf r)
+        (now (out .entry)) (now (out .exit)) ⌝ }
+    ensures { λ _. ⌜ now (words .exit) ≡ replicate (length (now (words .entry))) 0 ⌝ }
+    ensures { λ _. ⌜ now (shared .exit) ≡ replicate (length (now (shared .entry))) 0 ⌝ }
 {
-    zero(&mut part[..end]);
+    mark_words(words, n);
+    share(words, n, shared);
+    let answer = build(voice, words, n, shared, out);
+    zero(words);
+    zero(shared);
+    answer
 }
 
 // Builds from the words in the bytes before one end, with those before the other to work in, and makes both zero again.
+// The ends are no constants here: a part with an end as large as TABLE is slow to check.
 fn build_in(
     voice: &[u8],
     further: &mut [u8],
@@ -80,10 +91,7 @@ fn build_in(
     ensures { λ _. ⌜ now (further .exit) ≡ zeroed table (now (further .entry)) ⌝ }
     ensures { λ _. ⌜ now (work .exit) ≡ zeroed row (now (work .entry)) ⌝ }
 {
-    let answer = build(voice, &mut further[..table], n, &mut work[..row], out);
-    zero_first(further, table);
-    zero_first(work, row);
-    answer
+    build_and_zero(voice, &mut further[..table], n, &mut work[..row], out)
 }
 
 // Writes the canonical image of a lexicon, and answers the bytes written.

@@ -10,16 +10,10 @@ ghost use Rattle.registering.specs.Numbering.{numbersIn};
 ghost use Rattle.registering.specs.Arcs.{partingsOf, linkNumber, listOf, listLength, Spanned, Readable};
 ghost use Rattle.registering.specs.Image.{Put, ArcsPut};
 use crate::numbering::NUMBER;
-
-// The columns of a row that say which words are behind a vertex.
-pub(crate) const FIRST: usize = 0;
-
-const MANY: usize = 1;
-
-pub(crate) const DEPTH: usize = 2;
-
-// Where the links of words begin.
-const WORD_LINKS: usize = 400;
+use crate::register::DEPTH;
+use crate::register::FIRST;
+use crate::register::MANY;
+use crate::walk::WORD_LINKS;
 
 // Writes a number at an offset.
 pub(crate) fn put_number(out: &mut [u8], at: usize, n: u16)
@@ -35,10 +29,11 @@ pub(crate) fn list_length(shared: &[u8], row: &[u16; 6]) -> usize
     requires { ⌜ Spanned (now shared) (now row) ⌝ }
     ensures { λ r. ⌜ r ≡ listLength (now (shared .entry)) (now (row .entry)) ⌝ }
 {
-    let stop = row[FIRST] as usize + row[MANY] as usize;
+    let first = row[FIRST] as usize;
+    let stop = first + row[MANY] as usize;
     let depth = row[DEPTH];
     let mut arcs = 1;
-    let mut i = row[FIRST] as usize + 1;
+    let mut i = first + 1;
     while i < stop {
         if shared[i] as u16 == depth {
             arcs += 1;
@@ -70,10 +65,11 @@ fn put_arcs(
     ensures { λ r. ⌜ ArcsPut (now (shared .entry)) (now (links .entry)) (numbersIn (now (rows .entry)))
         (now (row .entry)) at (now (out .entry)) (now (out .exit)) r ⌝ }
 {
-    let stop = row[FIRST] as usize + row[MANY] as usize;
+    let first = row[FIRST] as usize;
+    let stop = first + row[MANY] as usize;
     let depth = row[DEPTH];
     let mut arcs = 0;
-    let mut i = row[FIRST] as usize + 1;
+    let mut i = first + 1;
     while i < stop {
         if shared[i] as u16 == depth {
             put_number(out, at + 2 * arcs, link_number(links, rows, i));

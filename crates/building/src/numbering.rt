@@ -4,9 +4,7 @@ ghost use mathlib.Core.Path.{_≡_};
 ghost use Prim.Native.Nat.{_≤_};
 ghost use mathlib.Core.List.{[], _++_};
 ghost use Rattle.registering.specs.Numbering.{heightsIn, placesOf, placesBelow, Rows, Low, PlacedIn};
-
-// The column of the register that has the letters of the longest continuation.
-const LONGEST: usize = 3;
+use crate::register::LONGEST;
 
 // The columns that have, once the nodes are numbered, the number of the node at a place, and the places by number.
 pub(crate) const NUMBER: usize = 4;

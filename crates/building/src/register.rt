@@ -11,6 +11,23 @@ ghost use Rattle.registering.specs.Register.{restsFrom, nodeAt, rowNode};
 ghost use Rattle.registering.specs.Finding.{Lettered, Found};
 use crate::sharing::Group;
 
+// The columns of a row: the first word behind its node, how many there are, how many of their letters stand before it,
+// the letters of the longest continuation, the node before it in its chain, and the mark of its continuations.
+pub(crate) const FIRST: usize = 0;
+
+pub(crate) const MANY: usize = 1;
+
+pub(crate) const DEPTH: usize = 2;
+
+pub(crate) const LONGEST: usize = 3;
+
+const CHAIN: usize = 4;
+
+const MARK: usize = 5;
+
+// The most nodes that are registered.
+pub(crate) const NODES: usize = 400;
+
 // Whether the word in slot i has behind its first d letters what the word in slot j has behind its first e.
 fn same_rest(words: &[u8], i: usize, d: usize, j: usize, e: usize) -> bool
     requires { ⌜ Slot (now words) i × Slot (now words) j ⌝ }
@@ -57,21 +74,21 @@ fn is_node(words: &[u8], n: usize, row: &[u16; 6], a: Group) -> bool
     ensures { λ r. ⌜ r ≡ sameNode (rowNode (now (words .entry)) (now (row .entry)))
         (nodeAt (now (words .entry)) (a .first) (a .many) (a .depth)) ⌝ }
 {
-    if row[5] as usize != a.mark {
+    if row[MARK] as usize != a.mark {
         return false;
     }
-    let many = row[1] as usize;
+    let many = row[MANY] as usize;
     if many != a.many {
         return false;
     }
-    let longest = row[3] as usize;
+    let longest = row[LONGEST] as usize;
     if longest != a.longest {
         return false;
     }
     same_rests(
         words,
-        row[0] as usize,
-        row[2] as usize,
+        row[FIRST] as usize,
+        row[DEPTH] as usize,
         a.first,
         a.depth,
         many,
@@ -98,10 +115,11 @@ fn find(
     let mut place = chains[letter as usize] as usize;
     while 0 < place {
         let r = place - 1;
-        if is_node(words, n, &rows[r], a) {
+        let row = &rows[r];
+        if is_node(words, n, row, a) {
             return r;
         }
-        place = rows[r][4] as usize;
+        place = row[CHAIN] as usize;
     }
     count
 }
@@ -145,12 +163,10 @@ pub(crate) fn enter(
     let at = 33 * a.first + a.depth;
     let letter = words[at];
     let r = find(words, n, rows, chains, count, letter, a);
-    if r < count {
-        return r;
+    if count <= r {
+        if r < NODES {
+            append(rows, chains, r, letter, a);
+        }
     }
-    if 400 <= r {
-        return r;
-    }
-    append(rows, chains, r, letter, a);
     r
 }

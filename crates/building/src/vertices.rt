@@ -2,12 +2,12 @@
 ghost use mathlib.Core.Path.{_≡_};
 ghost use Prim.Native.Nat.{_≤_};
 ghost use Rattle.registering.specs.Numbering.{numbersIn};
-ghost use Rattle.registering.specs.Arcs.{placeIn, firstArc, NodeRow};
+ghost use Rattle.registering.specs.Arcs.{placeIn, vertexIn, firstArc, NodeRow};
 ghost use Rattle.registering.specs.Image.{letterIn, LetterRow};
-use crate::lists::DEPTH;
-use crate::lists::FIRST;
 use crate::numbering::NUMBER;
 use crate::numbering::ORDER;
+use crate::register::DEPTH;
+use crate::register::FIRST;
 
 // The bytes of a word's slot: its length, and 32 letters.
 const SLOT: usize = 33;
@@ -45,10 +45,13 @@ pub(crate) fn first_arc(
     rows[place as usize][NUMBER]
 }
 
-// The letter of a node: the last of those before it in its first word.
-pub(crate) fn letter_of(words: &[u8], row: &[u16; 6]) -> u8
-    requires { ⌜ LetterRow (now words) (now row) ⌝ }
-    ensures { λ r. ⌜ r ≡ letterIn (now (words .entry)) (now (row .entry)) ⌝ }
+// The letter of a node, by its vertex: the last of those before it in its first word.
+pub(crate) fn letter_of(words: &[u8], rows: &[[u16; 6]; 401], vertex: usize) -> u8
+    requires { ⌜ (vertex ≤ 400) × (placeIn (now rows) vertex ≤ 400) ⌝ }
+    requires { ⌜ LetterRow (now words) (vertexIn (now rows) vertex) ⌝ }
+    ensures { λ r. ⌜ r ≡ letterIn (now (words .entry)) (vertexIn (now (rows .entry)) vertex) ⌝ }
 {
+    let place = place_of(rows, vertex);
+    let row = &rows[place];
     words[SLOT * (row[FIRST] as usize) + row[DEPTH] as usize]
 }

@@ -4,8 +4,15 @@ ghost use Prim.Native.Nat.{_≤_, _<_};
 ghost use lib.ListN.{length};
 ghost use Rattle.registering.specs.Register.{Words, Shared, Register, Chained, Built};
 ghost use Rattle.registering.specs.Walking.{Walked, Passed};
+use crate::register::NODES;
 use crate::register::enter;
 use crate::sharing::group_of;
+
+// Where the links of words begin, behind those of nodes.
+pub(crate) const WORD_LINKS: usize = 400;
+
+// The answer where there is no room for a node more.
+const FULL: usize = 401;
 
 // How many nodes there are, and the word to go on with.
 struct Progress(usize, usize);
@@ -30,7 +37,7 @@ fn walk_word(
 {
     let letters = words[33 * i] as usize;
     let mut d = shared[i] as usize;
-    let mut link = 400 + i;
+    let mut link = WORD_LINKS + i;
     let mut total = count;
     while d < letters {
         let a = group_of(words, shared, n, i, d + 1);
@@ -39,8 +46,8 @@ fn walk_word(
         if r < total {
             return Progress(total, i + a.many);
         }
-        if r == 400 {
-            return Progress(401, n);
+        if r == NODES {
+            return Progress(FULL, n);
         }
         total += 1;
         link = r;
@@ -69,7 +76,7 @@ pub(crate) fn walk_all(
     while i < n {
         let progress = walk_word(words, n, shared, rows, chains, links, count, i);
         count = progress.0;
-        if 400 < count {
+        if NODES < count {
             return count;
         }
         i = progress.1;

@@ -49,8 +49,7 @@ fn place_total(voice: &[u8], words: &[u8], rows: &[[u16; 6]; 401], count: usize)
     let mut places: usize = 0;
     let mut node = 0;
     while node < count {
-        let place = place_of(rows, node + 1);
-        let letter = letter_of(words, &rows[place]) as usize;
+        let letter = letter_of(words, rows, node + 1) as usize;
         places += voice[2 + 2 * letter] as usize;
         node += 1;
     }
@@ -65,8 +64,7 @@ fn put_letters(words: &[u8], rows: &[[u16; 6]; 401], count: usize, out: &mut [u8
 {
     let mut node = 0;
     while node < count {
-        let place = place_of(rows, node + 1);
-        out[2 + node] = letter_of(words, &rows[place]);
+        out[2 + node] = letter_of(words, rows, node + 1);
         node += 1;
     }
 }
@@ -90,8 +88,9 @@ fn put_lists(
     let mut vertex = 0;
     while vertex <= count {
         let place = place_of(rows, vertex);
-        let first = first_arc(words, rows, count, &rows[place], links[place]);
-        at = put_list(shared, links, rows, &rows[place], first, out, at);
+        let row = &rows[place];
+        let first = first_arc(words, rows, count, row, links[place]);
+        at = put_list(shared, links, rows, row, first, out, at);
         vertex += 1;
     }
     at

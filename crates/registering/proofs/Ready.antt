@@ -1,16 +1,15 @@
 -- What building begins with, and where it ends early: marked words can be built from, empty tables are a register of no
 -- nodes, and over 400 nodes are 18. Assumes nothing.
-use Prim.Native.Nat.{ℕ, _≤_, _<_}
-use mathlib.Core.Path.{_≡_, refl, sym, ap, subst, _∙_}
-use mathlib.Core.Bool.{true}
-use mathlib.Core.List.{List, [], _∷_, _++_, List·Memᴰ as In}
+use Prim.Native.Nat.{ℕ, _<_}
+use mathlib.Core.Path.{refl, ap, subst}
+use mathlib.Core.List.{List, [], List·Memᴰ as In}
 use native.Mathlib.Omega.{arith}
 use lib.ListN.{length, getD, replicate, length-replicate, getD-replicate}
 use Rattle.endian.proofs.Lists.{getD-copies}
 use Rattle.call.specs.declared.Refusal.the-variants.{CanonicalImage}
 use Rattle.call.specs.Table.{Answer, refused, on, unless}
 use Rattle.call.specs.Buffers.{written}
-use Rattle.canonical.specs.Canonical.{wordsGraph, outsideLimits, outsideRows}
+use Rattle.canonical.specs.Canonical.{outsideRows}
 use Rattle.sorting.specs.Slots.{wordsFrom}
 use Rattle.registering.specs.Register.{Register, Chained, lastAlike, Built}
 use Rattle.registering.specs.Marking.{WordsMarked}
@@ -29,11 +28,11 @@ module _ {t u : List ℕ} {n : ℕ} (m : WordsMarked t n u) where
       → ImageAnswered v (wordsFrom t 0 n) answer out out′
   marked-answered {v} {out} {out′} {answer} a = subst (λ ws. ImageAnswered v ws answer out out′) (m .same) a
 
-  pub too-many : (v : List ℕ) {shared links out : List ℕ} {rows : List (List ℕ)} {count : ℕ}
-      → Built u n shared rows links count → 400 < count
-      → ImageAnswered v (wordsFrom t 0 n) (refused CanonicalImage) out out
+module _ {u shared links out : List ℕ} {rows : List (List ℕ)} {n count : ℕ} where
+  pub too-many : (v : List ℕ) → Built u n shared rows links count → 400 < count
+      → ImageAnswered v (wordsFrom u 0 n) (refused CanonicalImage) out out
   unfolding buildRows outsideRows unless written
-  too-many v b h = marked-answered (record { says = rw (nodes-over v (wordsFrom u 0 n) (b .full h)); leaves = refl })
+  too-many v b h = record { says = rw (nodes-over v (wordsFrom u 0 n) (b .full h)); leaves = refl }
 
 -- the row of no node
 abbrev emptyRow : List ℕ

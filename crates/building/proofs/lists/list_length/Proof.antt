@@ -3,19 +3,36 @@
 use Prim.Native.Nat.{_-_}
 use mathlib.Core.Logic.{⊎-elim}
 use native.Mathlib.Omega.{arith}
-use borrow.Author.Needs.{needs}
 use Rattle.registering.proofs.Partings.{Counting, count-start, count-here, count-past, count-done}
 use Rattle.building.proofs.lists.list_length.Statement.{statement}
 use Rattle.building.proofs.lists.list_length.Tie as tie
 
 abbrev Inv-loop : tie.InvT-loop
-Inv-loop shared row stop depth arcs₀ i₀ arcs i = Counting shared row arcs i
+Inv-loop shared row first stop depth arcs₀ i₀ arcs i = Counting shared row arcs i
 
 abbrev μ-loop : tie.MeasureT-loop
-μ-loop shared row stop depth arcs₀ i₀ arcs i = stop - i
+μ-loop shared row first stop depth arcs₀ i₀ arcs i = stop - i
+
+abbrev start : tie.At-loop Inv-loop μ-loop → tie.Start Inv-loop μ-loop
+start l = l .before .before .before .before
 
 loop-holds : tie.Need-loop-holds Inv-loop μ-loop
-loop-holds c = count-start (c .before .before .before .before .pre)
+loop-holds c = count-start (c .before .before .before .pre)
+
+shared-slice-read-if1 : tie.Need-shared-slice-read-if1 Inv-loop μ-loop
+shared-slice-read-if1 c =
+    let t = c .before in
+    omega (arith, start (t .before) .pre .long, t .loop-test .taken)
+
+add-arcs : tie.Need-add-arcs Inv-loop μ-loop
+add-arcs c =
+    let l = c .before .before .before in
+    omega (arith, l .loop .inv .few, l .loop .inv .inside, start l .pre .few)
+
+add-i : tie.Need-add-i-2 Inv-loop μ-loop
+add-i c =
+    let t = c .before .before in
+    omega (arith, t .loop-test .taken, start (t .before) .pre .few)
 
 loop-less : tie.Need-loop-less Inv-loop μ-loop
 loop-less c = let h = c .before .before .loop-test .taken in omega arith
@@ -38,20 +55,18 @@ list-length-spec =
     (tie.spec
     Inv-loop
     μ-loop
-    (λ c. search needs)
-    (λ c. search needs)
-    (λ c. search needs)
-    (λ c. search needs)
-    (λ c. search needs)
-    (λ c. search needs)
-    (λ c. search needs)
-    (λ c. search needs)
-    (λ c. search needs)
+    (λ c. omega arith)
+    (λ c. omega (arith, c .before .pre .few))
+    (λ c. omega arith)
+    (λ c. omega (arith, c .before .before .pre .few))
+    (λ c. omega (arith, c .before .before .pre .few))
+    (λ c. omega arith)
+    (λ c. omega (arith, c .before .before .before .pre .few))
     loop-holds
-    (λ c. search needs)
-    (λ c. let h = c .shared-slice-known .given (c .before .before .loop .i) in search needs)
-    (λ c. search needs)
-    (λ c. search needs)
+    shared-slice-read-if1
+    (λ c. omega (arith, c .shared-slice-known .given (c .before .before .loop .i)))
+    add-arcs
+    add-i
     loop-less
     loop-again
     returns)

@@ -3,7 +3,6 @@
 use Prim.Native.Nat.{_+_, _*_, _≤_, _<_}
 use mathlib.Core.Path.{_≡_, _∙_}
 use native.Mathlib.Omega.{arith}
-use borrow.Author.Needs.{needs}
 use lib.ListN.{length}
 use Rattle.registering.specs.Numbering.{numbersIn}
 use Rattle.registering.specs.Arcs.{partingsOf}
@@ -23,6 +22,10 @@ room s =
       s .pre .1,
       list-long (a .shared .now) (a .links .now) (numbersIn (a .rows .now)) (a .row .now) (a .first),
     )
+
+-- an offset into the output is a number that the code can have
+long : (s : tie.Start) → length (s .args .out .now) < 18446744073709551616
+long s = omega (arith, s .good .1 .1 .1 .1 .1 .0)
 
 -- where the arcs behind the first are put, and the first arc
 abbrev start : tie.After-put-arcs → tie.Start
@@ -63,6 +66,9 @@ end c =
     let k = arcs (first (c .before)) in
     omega (arith, room (start k), k .put-arcs .ensures .count)
 
+abbrev begin : tie.After-slice-known4 → tie.Start
+begin c = start (arcs (first (c .before .before .before)))
+
 returns : tie.Need-returns
 returns c =
     let d = c .before .before in
@@ -77,15 +83,15 @@ pub put-list-spec : {M : Type 1} → statement M
 put-list-spec =
     tie.close
     (tie.spec
-    (λ c. let h = room (c .before .before .before) in search needs)
+    (λ c. let s = c .before .before .before in omega (arith, room s, long s))
     (λ c κs. let s = c .before .before .before in (s .pre .0, room s))
-    (λ c. let h = room (start (c .before .before .before)) in search needs)
+    (λ c. let s = start (c .before .before .before) in omega (arith, room s, long s))
     put-number-requires
-    (λ c. let h = few (arcs (first c)) in search needs)
-    (λ c. let h = few (arcs (first c)) in search needs)
+    (λ c. omega (arith, few (arcs (first c))))
+    (λ c. omega (arith, few (arcs (first c))))
     put-number-requires-2
-    (λ c. let h = end (c .before .before) in search needs)
-    (λ c. let h = end (c .before .before) in search needs)
-    (λ c. let h = end (c .before .before) in search needs)
+    (λ c. let s = begin c in omega (arith, room s, long s))
+    (λ c. omega (arith, few (arcs (first (c .before .before .before)))))
+    (λ c. omega (arith, end (c .before .before), long (begin c)))
     (λ c. let d = c .before .before in d .put-number2 .kept .0 ∙ long-2 (first (d .before)))
     returns)

@@ -5,7 +5,6 @@ use mathlib.Core.Path.{_≡_, sym, _∙_}
 use mathlib.Core.Logic.{⊎-elim}
 use mathlib.Core.List.{[], _∷_, _++_}
 use native.Mathlib.Omega.{arith}
-use borrow.Author.Needs.{needs}
 use lib.ListN.{getD}
 use Rattle.checking.proofs.Columns.{column-at}
 use Rattle.registering.specs.Register.{longestOf}
@@ -91,20 +90,20 @@ number-level-spec =
     Inv-loop
     μ-loop
     loop-holds
-    (λ c. let h = c .before .before .pre .0 .few in search needs)
-    (λ c. let h = c .before .before .pre .0 .few in let k = c .loop-test .taken in omega arith)
-    (λ c. search needs)
-    (λ c. let h = low (c .before) in search needs)
-    (λ c. let h = room c in search needs)
-    (λ c. let h = room c in search needs)
-    (λ c. let h = room c in search needs)
-    (λ c. search needs)
-    (λ c. let h = room c in search needs)
-    (λ c. let h = room c in search needs)
-    (λ c. let h = room c in search needs)
-    (λ c. let h = room c in search needs)
-    (λ c. search needs)
-    (λ c. let h = c .before .before .before .before .pre .0 .few in search needs)
+    (λ c. omega (arith, c .before .before .pre .0 .few, c .loop-test .taken))
+    (λ c. omega (arith, c .before .before .pre .0 .few, c .loop-test .taken))
+    (λ c. omega arith)
+    (λ c. omega (arith, low (c .before)))
+    (λ c. omega (arith, room c .0))
+    (λ c. omega (arith, room c .1))
+    (λ c. omega (arith, room c .1))
+    (λ c. omega arith)
+    (λ c. omega (arith, room c .1))
+    (λ c. omega (arith, room c .1))
+    (λ c. omega (arith, room c .0))
+    (λ c. omega (arith, room c .0))
+    (λ c. omega arith)
+    (λ c. let i = c .before .before in omega (arith, i .before .before .pre .0 .few, i .loop-test .taken))
     (λ c. let h = c .before .before .loop-test .taken in omega arith)
     loop-again
     returns)

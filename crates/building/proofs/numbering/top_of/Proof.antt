@@ -5,7 +5,6 @@ use mathlib.Core.Logic.{⊎-elim}
 use mathlib.Core.List.{[]}
 use native.Mathlib.Decide.{ℕ-discrete}
 use native.Mathlib.Omega.{arith}
-use borrow.Author.Needs.{needs}
 use lib.ListN.{getD}
 use Rattle.checking.proofs.Columns.{column-at}
 use Rattle.registering.specs.Register.{longestOf}
@@ -53,12 +52,12 @@ top-of-spec =
     Inv-loop
     μ-loop
     loop-holds
-    (λ c. search needs)
-    (λ c. search needs)
-    (λ c. search needs)
-    (λ c. let h = low (c .before) in search needs)
-    (λ c. let h = low (c .before .before) in search needs)
-    (λ c. search needs)
+    (λ c. omega (arith, c .before .before .pre .few, c .loop-test .taken))
+    (λ c. omega (arith, c .before .before .pre .few, c .loop-test .taken))
+    (λ c. omega arith)
+    (λ c. omega (arith, low (c .before)))
+    (λ c. omega (arith, low (c .before .before)))
+    (λ c. let i = c .before .before in omega (arith, i .before .before .pre .few, i .loop-test .taken))
     (λ c. let h = c .before .before .loop-test .taken in omega arith)
     loop-again
     returns)

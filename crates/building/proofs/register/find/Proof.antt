@@ -6,7 +6,6 @@ use native.Mathlib.Omega.{arith}
 use Rattle.registering.specs.Register.{nodeAt}
 use Rattle.registering.proofs.Chains.{Passed, node-letter, passed-start, passed-next, passed-less}
 use Rattle.registering.proofs.Chains.{passed-found, passed-none}
-use borrow.Author.Needs.{needs}
 use Rattle.building.proofs.register.find.Statement.{statement}
 use Rattle.building.proofs.register.find.Tie as tie
 
@@ -18,10 +17,10 @@ abbrev μ-loop : tie.MeasureT-loop
 μ-loop words n rows chains count letter a place₀ place = place
 
 mul-place : tie.Need-mul-place Inv-loop μ-loop
-mul-place c = search needs
+mul-place c = omega (arith, c .before .fits .letter)
 
 element-copy-out-place : tie.Need-element-copy-out-place Inv-loop μ-loop
-element-copy-out-place c = search needs
+element-copy-out-place c = omega (arith, c .before .fits .letter)
 
 loop-holds : tie.Need-loop-holds Inv-loop μ-loop
 loop-holds c =
@@ -35,13 +34,15 @@ cast-place : tie.Need-cast-place Inv-loop μ-loop
 cast-place c = omega (arith, loop-holds c .inside, c .before .before .pre .0 .1 .few)
 
 sub-r : tie.Need-sub-r Inv-loop μ-loop
-sub-r c = search needs
+sub-r c = omega (arith, c .loop-test .taken)
 
-mul-is-node : tie.Need-mul-is-node Inv-loop μ-loop
-mul-is-node c = search needs
+mul-row : tie.Need-mul-row Inv-loop μ-loop
+mul-row c =
+    let l = c .before in
+    omega (arith, l .loop .inv .inside, l .before .before .before .pre .0 .1 .few)
 
-index-1-is-node : tie.Need-index-1-is-node Inv-loop μ-loop
-index-1-is-node c =
+index-1-row : tie.Need-index-1-row Inv-loop μ-loop
+index-1-row c =
     let l = c .before in
     omega (arith, l .loop .inv .inside, l .before .before .before .pre .0 .1 .few)
 
@@ -65,19 +66,6 @@ returns c =
     passed-found (s .pre .1 .0) (nodeAt (s .args .words .now) (a .first) (a .many) (a .depth))
     (t .before .loop .inv) (t .loop-test .taken)
     (q .is-node .ensures) (c .if1 .taken)
-
-mul-place-2 : tie.Need-mul-place-2 Inv-loop μ-loop
-mul-place-2 c =
-    let l = c .before .before .before .before in
-    omega (arith, l .loop .inv .inside, l .before .before .before .pre .0 .1 .few)
-
-index-1-place : tie.Need-index-1-place Inv-loop μ-loop
-index-1-place c =
-    let l = c .before .before .before .before in
-    omega (arith, l .loop .inv .inside, l .before .before .before .pre .0 .1 .few)
-
-index-2-place : tie.Need-index-2-place Inv-loop μ-loop
-index-2-place c = search needs
 
 loop-again : tie.Need-loop-again Inv-loop μ-loop
 loop-again c =
@@ -116,13 +104,11 @@ find-spec =
     cast-place
     loop-holds
     sub-r
-    mul-is-node
-    index-1-is-node
+    mul-row
+    index-1-row
     is-node-requires
     returns
-    mul-place-2
-    index-1-place
-    index-2-place
+    (λ c. omega arith)
     cast-place-2
     loop-less
     loop-again

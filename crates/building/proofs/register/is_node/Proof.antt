@@ -5,12 +5,11 @@ use native.Mathlib.Omega.{arith}
 use Rattle.registering.specs.Finding.{Lettered}
 use Rattle.registering.proofs.Rests.{group-lettered, group-small, other-mark, other-many, other-longest}
 use Rattle.registering.proofs.Rests.{same-letters}
-use borrow.Author.Needs.{needs}
 use Rattle.building.proofs.register.is_node.Statement.{statement}
 use Rattle.building.proofs.register.is_node.Tie as tie
 
 element-copy-out-if1 : tie.Need-element-copy-out-if1
-element-copy-out-if1 c = search needs
+element-copy-out-if1 c = omega arith
 
 cast-if1 : tie.Need-cast-if1
 cast-if1 c = let s = c .before .before in omega (arith, group-small (s .pre .0 .0) (s .pre .0 .1) .4)
@@ -25,10 +24,12 @@ abbrev start : tie.Else1 → tie.Start
 start e = e .before .before .before .before
 
 element-copy-out-many : tie.Need-element-copy-out-many
-element-copy-out-many c = search needs
+element-copy-out-many c = omega arith
 
 cast-many : tie.Need-cast-many
-cast-many c = search needs
+cast-many c =
+    let s = start (c .before) in
+    omega (arith, group-small (s .pre .0 .0) (s .pre .0 .1) .1)
 
 returns-2 : tie.Need-returns-2
 returns-2 c =
@@ -36,7 +37,7 @@ returns-2 c =
     other-many (s .args .row .now) (s .pre .0 .1) (s .pre .1 .0) (c .if2 .taken)
 
 element-copy-out-longest : tie.Need-element-copy-out-longest
-element-copy-out-longest c = search needs
+element-copy-out-longest c = omega arith
 
 cast-longest : tie.Need-cast-longest
 cast-longest c =
@@ -49,13 +50,15 @@ returns-3 c =
     other-longest (s .args .row .now) (s .pre .0 .1) (s .pre .1 .0) (c .if3 .taken)
 
 element-copy-out-same-rests : tie.Need-element-copy-out-same-rests
-element-copy-out-same-rests c = search needs
+element-copy-out-same-rests c = omega arith
 
 cast-same-rests : tie.Need-cast-same-rests
-cast-same-rests c = search needs
+cast-same-rests c =
+    let s = start (c .before .before .before .before .before .before .before) in
+    omega (arith, group-small (s .pre .0 .0) (s .pre .0 .1) .0)
 
 element-copy-out-same-rests-2 : tie.Need-element-copy-out-same-rests-2
-element-copy-out-same-rests-2 c = search needs
+element-copy-out-same-rests-2 c = omega arith
 
 cast-same-rests-2 : tie.Need-cast-same-rests-2
 cast-same-rests-2 c =

@@ -1,11 +1,11 @@
 -- `sharing::common_letters` meets its contract: the letters passed are the same, so that the words share these and what
 -- they share behind them. The measure is the letters left. Assumes nothing.
-use Prim.Native.Nat.{_-_}
+use Prim.Native.Nat.{_-_, _<_}
 use mathlib.Core.Path.{_∙_}
 use native.Mathlib.Omega.{arith}
+use lib.ListN.{length}
 use Rattle.registering.proofs.CommonLetters.{Alike, alike-start, alike-next, alike-differs, alike-ends}
 use Rattle.registering.proofs.CommonLetters.{first-shares, shared-words}
-use borrow.Author.Needs.{needs}
 use Rattle.building.proofs.sharing.common_letters.Statement.{statement}
 use Rattle.building.proofs.sharing.common_letters.Tie as tie
 
@@ -21,7 +21,7 @@ returns c =
     first-shares (s .words .now) (s .i) (c .if1 .taken)
 
 sub-before : tie.Need-sub-before Inv-loop μ-loop
-sub-before c = search needs
+sub-before c = omega (arith, c .if1 .left)
 
 mul-before : tie.Need-mul-before Inv-loop μ-loop
 mul-before c =
@@ -44,7 +44,7 @@ shared-slice-read-lesser-2 c =
     omega (arith, s .pre (s .args .i) (omega arith) .room)
 
 lesser-requires : tie.Need-lesser-requires Inv-loop μ-loop
-lesser-requires c κs = search needs
+lesser-requires c κs = tt
 
 loop-holds : tie.Need-loop-holds Inv-loop μ-loop
 loop-holds c =
@@ -52,14 +52,27 @@ loop-holds c =
     let s = e .before .before in
     alike-start (s .pre (s .args .i - 1) (omega arith)) (s .pre (s .args .i) (omega arith))
 
+abbrev start : tie.At-loop Inv-loop μ-loop → tie.Start Inv-loop μ-loop
+start l = l .before .before .before .before .before .before
+
+-- the letters passed are fewer than a slot has
+small : (c : tie.In-loop Inv-loop μ-loop) → c .before .loop .d < 32
+small c =
+    let l = c .before in
+    omega (arith, l .loop .inv .one .short, l .before .lesser .ensures, c .loop-test .taken)
+
+-- an offset into the words is a number that the code can have
+long : (s : tie.Start Inv-loop μ-loop) → length (s .args .words .now) < 18446744073709551616
+long s = omega (arith, s .good .0)
+
 cast-next : tie.Need-cast-next Inv-loop μ-loop
-cast-next c = search needs
+cast-next c = omega (arith, small c)
 
 add-next : tie.Need-add-next Inv-loop μ-loop
-add-next c = search needs
+add-next c = omega (arith, small c)
 
 add-if2 : tie.Need-add-if2 Inv-loop μ-loop
-add-if2 c = search needs
+add-if2 c = omega (arith, small c, c .before .loop .inv .one .room, long (start (c .before)))
 
 shared-slice-read-if2 : tie.Need-shared-slice-read-if2 Inv-loop μ-loop
 shared-slice-read-if2 c =
@@ -68,7 +81,9 @@ shared-slice-read-if2 c =
     omega (arith, p .one .room, p .one .short, l .before .lesser .ensures, c .before .loop-test .taken)
 
 add-if2-2 : tie.Need-add-if2-2 Inv-loop μ-loop
-add-if2-2 c = search needs
+add-if2-2 c =
+    let i = c .before in
+    omega (arith, small i, i .before .loop .inv .other .room, long (start (i .before)))
 
 shared-slice-read-if2-2 : tie.Need-shared-slice-read-if2-2 Inv-loop μ-loop
 shared-slice-read-if2-2 c =
@@ -85,7 +100,7 @@ returns-2 c =
     ∙ shared-words (s .words .now) (s .i) (t .before .before .before .before .before .if1 .left)
 
 add-d : tie.Need-add-d Inv-loop μ-loop
-add-d c = search needs
+add-d c = omega (arith, small (c .before .before .before))
 
 loop-less : tie.Need-loop-less Inv-loop μ-loop
 loop-less c = let h = c .before .before .before .loop-test .taken in omega arith

@@ -6,7 +6,6 @@ use mathlib.Core.Logic.{inl, inr, ⊎-elim}
 use native.Mathlib.Omega.{arith}
 use lib.ListN.{length, getD}
 use Rattle.registering.proofs.CommonLetters.{Grouping, grouping-start, grouping-low, grouping-more, grouped}
-use borrow.Author.Needs.{needs}
 use Rattle.building.proofs.sharing.group_of.Statement.{statement}
 use Rattle.building.proofs.sharing.group_of.Tie as tie
 
@@ -17,7 +16,7 @@ abbrev μ-loop : tie.MeasureT-loop
 μ-loop words shared n i d letters₀ mark₀ k₀ letters mark k = n - k
 
 mul-letters : tie.Need-mul-letters Inv-loop μ-loop
-mul-letters c = search needs
+mul-letters c = let s = c .before .before in omega (arith, s .pre .0 .0 .few, s .pre .1 .0)
 
 shared-slice-read-letters : tie.Need-shared-slice-read-letters Inv-loop μ-loop
 shared-slice-read-letters c =
@@ -53,7 +52,7 @@ cast-mark c =
     omega (arith, c .shared-slice-known4 .given (33 * (2001 + a .i) + a .d))
 
 add-k : tie.Need-add-k Inv-loop μ-loop
-add-k c = search needs
+add-k c = let s = c .before .before .before .before in omega (arith, s .pre .0 .0 .few, s .pre .1 .0)
 
 loop-holds : tie.Need-loop-holds Inv-loop μ-loop
 loop-holds c =
@@ -72,7 +71,9 @@ cast-if1 : tie.Need-cast-if1 Inv-loop μ-loop
 cast-if1 c = omega (arith, c .shared-slice-known5 .given (c .before .before .loop .k))
 
 mul-greater : tie.Need-mul-greater Inv-loop μ-loop
-mul-greater c = search needs
+mul-greater c =
+    let i = c .before .before in
+    omega (arith, start (i .before) .pre .0 .0 .few, i .loop-test .taken)
 
 shared-slice-read-greater : tie.Need-shared-slice-read-greater Inv-loop μ-loop
 shared-slice-read-greater c =
@@ -81,7 +82,7 @@ shared-slice-read-greater c =
     omega (arith, start l .pre .0 .0 .holds (l .loop .k) (i .loop-test .taken) .room)
 
 greater-requires : tie.Need-greater-requires Inv-loop μ-loop
-greater-requires c κs = search needs
+greater-requires c κs = tt
 
 -- so are those of the next word
 next : (i : tie.In-loop Inv-loop μ-loop) →
@@ -125,7 +126,9 @@ add-mark-5 c =
     omega (arith, byte c, grouping-low (l .loop .inv))
 
 add-k-2 : tie.Need-add-k-2 Inv-loop μ-loop
-add-k-2 c = search needs
+add-k-2 c =
+    let i = c .before .before .before .before .before in
+    omega (arith, start (i .before) .pre .0 .0 .few, i .loop-test .taken)
 
 loop-less : tie.Need-loop-less Inv-loop μ-loop
 loop-less c = let h = c .before .before .before .before .before .loop-test .taken in omega arith

@@ -2,7 +2,6 @@
 use Prim.Native.Nat.{_*_}
 use mathlib.Core.Path.{sym, _∙_}
 use native.Mathlib.Omega.{arith}
-use borrow.Author.Needs.{needs}
 use Rattle.checking.proofs.Columns.{column-at}
 use Rattle.registering.specs.Register.{firstOf}
 use Rattle.registering.specs.Numbering.{numbersIn}
@@ -29,17 +28,16 @@ pub first-arc-spec : {M : Type 1} → statement M
 first-arc-spec =
     tie.close
     (tie.spec
-    (λ c. search needs)
-    (λ c. search needs)
-    (λ c. search needs)
-    (λ c. search needs)
-    (λ c. let a = c .before .before .args in
-    let h = c .shared-slice-known .given (33 * firstOf (a .row .now)) in search needs)
-    (λ c. search needs)
-    (λ c. search needs)
-    (λ c. search needs)
+    (λ c. omega arith)
+    (λ c. omega (arith, c .before .pre .1 .few))
+    (λ c. omega (arith, c .before .pre .1 .few))
+    (λ c. c .before .before .pre .1 .there)
+    (λ c. omega (arith, c .shared-slice-known .given (33 * firstOf (c .before .before .args .row .now))))
+    (λ c. omega arith)
+    (λ c. omega (arith, start (c .before) .pre .0))
+    (λ c. omega (arith, start (c .before) .pre .0))
     returns
-    (λ c. search needs)
-    (λ c. let h = start (c .before) .pre .1 .linked (c .if1 .left) in omega arith)
-    (λ c. search needs)
+    (λ c. omega (arith, start (c .before) .pre .1 .linked (c .if1 .left)))
+    (λ c. omega (arith, start (c .before) .pre .1 .linked (c .if1 .left)))
+    (λ c. omega arith)
     returns-2)

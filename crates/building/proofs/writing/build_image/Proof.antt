@@ -4,7 +4,6 @@
 use Prim.Native.Nat.{suc, _≤_}
 use mathlib.Core.Path.{_≡_, sym, ap, _∙_}
 use native.Mathlib.Omega.{arith}
-use borrow.Author.Needs.{needs}
 use lib.ListN.{length}
 use Rattle.graph.specs.Conditions.{placeCount, manyPlaces}
 use Rattle.canonical.specs.Canonical.{wordsGraph, wordsImage, outsideLimits}
@@ -121,8 +120,8 @@ pub build-image-spec : {M : Type 1} → statement M
 build-image-spec =
     tie.close
     (tie.spec
-    (λ c. let h = start c .pre .buildable .words .few in search needs)
-    (λ c. search needs)
+    (λ c. omega (arith, start c .pre .buildable .words .few))
+    (λ c. omega arith)
     (λ c κs. drawn-rows (start (c .before) .pre))
     place-total-requires
     returns
@@ -130,5 +129,5 @@ build-image-spec =
     returns-2
     put-image-requires
     cast-t25
-    (λ c. search needs)
+    (λ c. c .before .before .put-image .kept .1 .1 .1 .1 .1 .0)
     returns-3)

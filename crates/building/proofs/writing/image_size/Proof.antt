@@ -4,7 +4,6 @@ use Prim.Native.Nat.{suc, _+_, _*_, _-_, _≤_}
 use mathlib.Core.Path.{_≡_, ap, _∙_}
 use mathlib.Core.List.{[]}
 use native.Mathlib.Omega.{arith}
-use borrow.Author.Needs.{needs}
 use lib.ListN.{getD}
 use Rattle.registering.specs.Arcs.{placeIn, listLength}
 use Rattle.registering.specs.Image.{listsLength}
@@ -82,17 +81,16 @@ image-size-spec =
     (tie.spec
     Inv-loop
     μ-loop
-    (λ c. let h = c .before .pre .places .few in search needs)
+    (λ c. omega (arith, c .before .pre .places .few))
     loop-holds
     (λ c κs. vertex c)
-    (λ c. let h = vertex (c .before) .1 in let e = c .place-of .ensures in search needs)
-    (λ c. let h = vertex (c .before) .1 in let e = c .place-of .ensures in omega arith)
+    (λ c. omega (arith, vertex (c .before) .1, c .place-of .ensures))
+    (λ c. omega (arith, vertex (c .before) .1, c .place-of .ensures))
     list-length-requires
-    (λ c. let h = few c in search needs)
-    (λ c. let h = few c in search needs)
-    (λ c. let h = few c in let k = vertex (c .before .before .before) .0 in
-    let m = c .before .before .before .before .loop .inv .2 in search needs)
-    (λ c. let h = vertex (c .before .before .before) .0 in search needs)
+    (λ c. omega (arith, few c))
+    (λ c. omega (arith, few c))
+    (λ c. let i = c .before .before .before in omega (arith, few c, vertex i .0, i .before .loop .inv .2))
+    (λ c. omega (arith, vertex (c .before .before .before) .0))
     (λ c. let h = c .before .before .before .loop-test .taken in omega arith)
     loop-again
     returns)

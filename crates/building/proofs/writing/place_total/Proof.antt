@@ -1,16 +1,15 @@
 -- `writing::place_total` meets its contract: before each node the states of the nodes before it are added. The
 -- measure is the nodes left. Assumes nothing.
 use Prim.Native.Nat.{_+_, _*_, _-_, _≤_, _<_}
-use mathlib.Core.Path.{_≡_, ap, sym, _∙_}
-use mathlib.Core.List.{[], map}
+use mathlib.Core.Path.{_≡_, ap, sym}
+use mathlib.Core.List.{map}
 use native.Mathlib.Omega.{arith}
-use borrow.Author.Needs.{needs}
 use lib.ListN.{length, getD}
 use Rattle.endian.specs.Lists.{sum}
 use Rattle.voice.specs.Voice.{letterCount, states}
 use Rattle.voice.proofs.Letters.{states-range, states-there}
 use Rattle.registering.specs.Arcs.{placeIn}
-use Rattle.registering.specs.Image.{letterIn, lettersFrom}
+use Rattle.registering.specs.Image.{lettersFrom}
 use Rattle.registering.proofs.Images.{states-none, states-more}
 use Rattle.building.proofs.writing.place_total.Statement.{statement}
 use Rattle.building.proofs.writing.place_total.Tie as tie
@@ -26,7 +25,7 @@ abbrev start : tie.At-loop Inv-loop μ-loop → tie.Start Inv-loop μ-loop
 start c = c .before .before .before
 
 abbrev turn : tie.After-letter-of Inv-loop μ-loop → tie.At-loop Inv-loop μ-loop
-turn c = c .before .before .before .before
+turn c = c .before .before
 
 loop-holds : tie.Need-loop-holds Inv-loop μ-loop
 loop-holds c =
@@ -38,13 +37,7 @@ known : (c : tie.After-letter-of Inv-loop μ-loop)
     → c .letter-of .result < letterCount (start (turn c) .args .voice .now)
 known c =
     let l = turn c in
-    let p = c .before .before in
-    let rows = start l .args .rows .now in
-    omega (
-      arith,
-      c .letter-of .ensures ∙ ap (λ k. letterIn (start l .args .words .now) (getD rows k [])) (p .place-of .ensures),
-      start l .pre .1 .known (l .loop .node) (p .before .loop-test .taken),
-    )
+    omega (arith, c .letter-of .ensures, start l .pre .1 .known (l .loop .node) (c .before .loop-test .taken))
 
 there : (c : tie.After-letter-of Inv-loop μ-loop)
     → 2 + 2 * c .letter-of .result < length (start (turn c) .args .voice .now)
@@ -62,14 +55,12 @@ loop-again c =
     let l = turn k in
     let a = start l .args in
     let v = a .voice .now in (
-      omega (arith, k .before .before .before .loop-test .taken),
+      omega (arith, k .before .loop-test .taken),
       omega (
         arith,
         l .loop .inv .1,
         states-more (a .words .now) (a .rows .now) v (l .loop .node),
-        ap (λ b. getD v (2 + 2 * b) 0)
-            (k .letter-of .ensures
-            ∙ ap (λ i. letterIn (a .words .now) (getD (a .rows .now) i [])) (k .before .before .place-of .ensures)),
+        ap (λ b. getD v (2 + 2 * b) 0) (k .letter-of .ensures),
       ),
       omega (arith, l .loop .inv .2, few k),
     )
@@ -92,9 +83,13 @@ node c =
 
 letter-of-requires : tie.Need-letter-of-requires Inv-loop μ-loop
 letter-of-requires c κs =
-    let p = c .before in
-    let l = p .before .before in
-    rw (p .place-of .ensures) (start l .pre .0 .row (l .loop .node) (p .before .loop-test .taken))
+    let l = c .before in
+    (node c, start l .pre .0 .row (l .loop .node) (c .loop-test .taken))
+
+add-places : tie.Need-add-places-2 Inv-loop μ-loop
+add-places c =
+    let k = c .before in
+    omega (arith, few k, turn k .loop .inv .2, node (k .before) .0)
 
 pub place-total-spec : {M : Type 1} → statement M
 place-total-spec =
@@ -103,18 +98,15 @@ place-total-spec =
     Inv-loop
     μ-loop
     loop-holds
-    (λ c. let h = node c in search needs)
-    (λ c κs. node c)
-    (λ c. let h = node (c .before) .1 in let e = c .place-of .ensures in search needs)
-    (λ c. let h = node (c .before) .1 in let e = c .place-of .ensures in omega arith)
+    (λ c. omega (arith, node c .0))
     letter-of-requires
-    (λ c. search needs)
-    (λ c. let h = c .letter-of .ok in search needs)
-    (λ c. let h = c .letter-of .ok in search needs)
+    (λ c. omega (arith, c .letter-of .ok))
+    (λ c. omega (arith, c .letter-of .ok))
+    (λ c. omega (arith, c .letter-of .ok))
     (λ c. there (c .before))
-    (λ c. let h = few (c .before) in search needs)
-    (λ c. let h = few (c .before) in search needs)
-    (λ c. search needs)
-    (λ c. let h = c .before .before .before .before .loop-test .taken in omega arith)
+    (λ c. omega (arith, few (c .before)))
+    add-places
+    (λ c. omega (arith, node (c .before .before) .0))
+    (λ c. let h = c .before .before .loop-test .taken in omega arith)
     loop-again
     returns)

@@ -3,7 +3,6 @@
 use Prim.Native.Nat.{suc, _+_, _≤_}
 use mathlib.Core.Path.{_≡_, _∙_}
 use native.Mathlib.Omega.{arith}
-use borrow.Author.Needs.{needs}
 use lib.ListN.{length}
 use Rattle.registering.specs.Image.{listsFrom}
 use Rattle.registering.proofs.Images.{image-parts, image-put}
@@ -82,10 +81,10 @@ pub put-image-spec : {M : Type 1} → statement M
 put-image-spec =
     tie.close
     (tie.spec
-    (λ c. let h = start c .pre .0 .places .few in search needs)
+    (λ c. omega (arith, start c .pre .0 .places .few))
     (λ c κs. omega (arith, room (start c)))
     put-letters-requires
     put-lists-requires
     put-number-requires-2
-    (λ c. search needs)
+    (λ c. let d = c .before .before in d .put-number2 .kept .0 ∙ long-3 (lists (d .before)))
     returns)

@@ -1,13 +1,11 @@
 -- `writing::put_letters` meets its contract: before each node the letters of the nodes before it are put. The measure
 -- is the nodes left. Assumes nothing.
 use Prim.Native.Nat.{_+_, _-_, _≤_, _<_}
-use mathlib.Core.Path.{_≡_, refl, sym, ap, _∙_}
-use mathlib.Core.List.{[]}
+use mathlib.Core.Path.{_≡_, refl, sym, _∙_}
 use native.Mathlib.Omega.{arith}
-use borrow.Author.Needs.{needs}
-use lib.ListN.{length, getD, length-set}
-use Rattle.registering.specs.Arcs.{placeIn, vertexIn}
-use Rattle.registering.specs.Image.{Put, letterIn, lettersFrom}
+use lib.ListN.{length, length-set}
+use Rattle.registering.specs.Arcs.{placeIn}
+use Rattle.registering.specs.Image.{Put, lettersFrom}
 use Rattle.registering.proofs.Putting.{put-none, put-both, put-byte}
 use Rattle.registering.proofs.Images.{letters-none, letters-more}
 use Rattle.building.proofs.writing.put_letters.Statement.{statement}
@@ -34,17 +32,14 @@ room c = omega (arith, start (c .before) .pre .1, c .before .loop .inv .2, c .lo
 
 loop-again : tie.Need-loop-again Inv-loop μ-loop
 loop-again c =
-    let p = c .before .before in
-    let k = p .before in
+    let k = c .before in
     let l = k .before in
     let i = l .loop in
     let a = start l .args in
     let b = c .letter-of .result in
-    let e : 2 + i .node + 1 ≡ 2 + (i .node + 1) = omega arith in
-    let letter : b ≡ letterIn (a .words .now) (vertexIn (a .rows .now) (i .node + 1)) =
-    c .letter-of .ensures ∙ ap (λ j. letterIn (a .words .now) (getD (a .rows .now) j [])) (p .place-of .ensures) in (
+    let e : 2 + i .node + 1 ≡ 2 + (i .node + 1) = omega arith in (
       omega (arith, k .loop-test .taken),
-      rw (letters-more (a .words .now) (a .rows .now) (i .node), sym letter, sym e)
+      rw (letters-more (a .words .now) (a .rows .now) (i .node), sym (c .letter-of .ensures), sym e)
           (put-both (i .inv .1) (put-byte b (2 + i .node) (i .out) (room k))),
       length-set (i .out) (2 + i .node) b ∙ i .inv .2,
     )
@@ -67,9 +62,8 @@ node c =
 
 letter-of-requires : tie.Need-letter-of-requires Inv-loop μ-loop
 letter-of-requires c κs =
-    let p = c .before in
-    let l = p .before .before in
-    rw (p .place-of .ensures) (start l .pre .0 .row (l .loop .node) (p .before .loop-test .taken))
+    let l = c .before in
+    (node c, start l .pre .0 .row (l .loop .node) (c .loop-test .taken))
 
 pub put-letters-spec : {M : Type 1} → statement M
 put-letters-spec =
@@ -78,15 +72,12 @@ put-letters-spec =
     Inv-loop
     μ-loop
     loop-holds
-    (λ c. let h = node c in search needs)
-    (λ c κs. node c)
-    (λ c. let h = node (c .before) .1 in let e = c .place-of .ensures in search needs)
-    (λ c. let h = node (c .before) .1 in let e = c .place-of .ensures in omega arith)
+    (λ c. omega (arith, node c .0))
     letter-of-requires
-    (λ c. search needs)
-    (λ c. room (c .before .before .before))
-    (λ c. search needs)
-    (λ c. let h = c .before .before .before .loop-test .taken in omega arith)
+    (λ c. omega (arith, node (c .before) .0))
+    (λ c. room (c .before))
+    (λ c. omega (arith, node (c .before) .0))
+    (λ c. let h = c .before .loop-test .taken in omega arith)
     loop-again
     (λ c. c .before .loop .inv .2)
     returns)

@@ -1,10 +1,9 @@
 -- `writing::put_lists` meets its contract: before each vertex the lists of the vertices before it are put. The
 -- measure is the vertices left. Assumes nothing.
 use Prim.Native.Nat.{ℕ, suc, _+_, _-_, _≤_}
-use mathlib.Core.Path.{_≡_, refl, sym, ap, _∙_}
+use mathlib.Core.Path.{_≡_, refl, ap, _∙_}
 use mathlib.Core.List.{List, []}
 use native.Mathlib.Omega.{arith}
-use borrow.Author.Needs.{needs}
 use lib.ListN.{length, getD}
 use Rattle.image.specs.Image.{listBytes}
 use Rattle.registering.specs.Numbering.{numbersIn}
@@ -96,7 +95,7 @@ room c =
 
 put-list-requires : tie.Need-put-list-requires Inv-loop μ-loop
 put-list-requires c κs =
-    let f = c .before .before in
+    let f = c .before in
     let p = f .before .before .before in
     let l = p .before .before in (
       rw (p .place-of .ensures) (start l .pre .0 .row (l .loop .vertex) (p .before .loop-test .taken)),
@@ -106,7 +105,7 @@ put-list-requires c κs =
 loop-again : tie.Need-loop-again Inv-loop μ-loop
 loop-again c =
     let q = c .before .before in
-    let f = q .before .before .before in
+    let f = q .before .before in
     let k = f .before .before .before .before in
     let l = k .before in
     let a = start l .args in (
@@ -128,20 +127,18 @@ put-lists-spec =
     (tie.spec
     Inv-loop
     μ-loop
-    (λ c. let h = c .before .before .before .pre .0 .places .few in search needs)
+    (λ c. omega (arith, c .before .before .before .pre .0 .places .few))
     loop-holds
     (λ c κs. vertex c)
-    (λ c. let h = inside c in search needs)
-    (λ c. let h = inside c in omega arith)
-    (λ c. let h = inside (c .before) in search needs)
-    (λ c. let h = inside (c .before) in omega arith)
+    (λ c. omega (arith, inside c))
+    (λ c. omega (arith, inside c))
+    (λ c. omega (arith, inside (c .before)))
+    (λ c. omega (arith, inside (c .before)))
     first-arc-requires
-    (λ c. let h = inside (c .before .before .before) in search needs)
-    (λ c. let h = inside (c .before .before .before) in omega arith)
     put-list-requires
-    (λ c. let k = c .before .before .before .before .before .before .before .before .before in
-    let h = vertex k .0 in search needs)
-    (λ c. let k = c .before .before .before .before .before .before .before .before .before in
+    (λ c. let k = c .before .before .before .before .before .before .before .before in
+    omega (arith, vertex k .0))
+    (λ c. let k = c .before .before .before .before .before .before .before .before in
     let h = k .loop-test .taken in omega arith)
     loop-again
     (λ c. c .before .loop .inv .2)
