@@ -1,5 +1,5 @@
--- What a call leaves in the buffers that it is lent (document 01, under the refusal table). The work space is the call's
--- scratch memory.
+-- What a call leaves in the buffers that it is lent (document 01, under the refusal table). The work space is the
+-- call's scratch memory.
 -- Assumes nothing.
 use Prim.Native.Nat.{ℕ, _≤_, _<_}
 use mathlib.Core.Path.{_≡_}
@@ -45,8 +45,8 @@ furtherCleared work further = cond (shortSpaces work further) further (zeroed fu
 -- ---- the output
 
 module _ {A : Type 0} where
-  -- a value comes with its bytes at the output's start, and the bytes after them keep their values; a refusal leaves the
-  -- output unchanged
+  -- a value comes with its bytes at the output's start, and the bytes after them keep their values; a refusal leaves
+  -- the output unchanged
   unfoldable pub written : Answer A → List ℕ → List ℕ → List ℕ
   written (value a) bytes out = bytes ++ drop (length bytes) out
   written (refused r) bytes out = out

@@ -4,8 +4,8 @@ use mathlib.Core.Bool.{Bool, not}
 use lib.Dec.{leb}
 use Rattle.endian.specs.Lists.{within}
 
--- the least work space of a call with a lexicon, the least further one of a call that is lent two, and the most words of
--- a lexicon
+-- the least work space of a call with a lexicon, the least further one of a call that is lent two, and the most words
+-- of a lexicon
 abbrev pub workSpace : ℕ
 workSpace = 64000
 

@@ -50,8 +50,8 @@ pub fn code_to_word(
         (now (out .entry)) ⌝ }
     ensures { λ _. ⌜ now (work .exit) ≡ codeToWordWork (now (voice .entry)) (now (lexicon .entry)) code
         (now (work .entry)) ⌝ }
-    ensures { λ _. ⌜ now (out .exit) ≡ codeToWordOut (now (voice .entry)) (now (lexicon .entry)) code (now (work .entry))
-        (now (out .entry)) ⌝ }
+    ensures { λ _. ⌜ now (out .exit) ≡ codeToWordOut (now (voice .entry)) (now (lexicon .entry)) code
+        (now (work .entry)) (now (out .entry)) ⌝ }
 {
     let mut vertices = [[0u32; 4]; 402];
     let opened = open(voice, lexicon, work, &mut vertices);
