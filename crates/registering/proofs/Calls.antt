@@ -3,7 +3,7 @@
 -- since. Assumes nothing.
 use Prim.Native.Nat.{ℕ, zero, suc, _+_, _*_, _-_, _≤_, _<_}
 use mathlib.Core.Path.{_≡_, refl, sym, ap, subst, _∙_}
-use mathlib.Core.Bool.{Bool, true, false, _||_}
+use mathlib.Core.Bool.{true, false}
 use mathlib.Core.List.{List, [], _∷_, _++_, append-assoc, List·Memᴰ as In}
 use native.Mathlib.Nat.{suc-add}
 use native.Mathlib.Omega.{arith}
@@ -22,7 +22,7 @@ use Rattle.call.proofs.Buffers.{written-refused, part-zeroed}
 use Rattle.voice.specs.Voice.{letterCount}
 use Rattle.graph.specs.Graph.{graphOf}
 use Rattle.graph.specs.Words.{letterWords}
-use Rattle.graph.specs.Checking.{Accepted, imageRows}
+use Rattle.graph.specs.Checking.{imageRows}
 use Rattle.graph.proofs.Accepted.{AcceptedImages, accepted}
 use Rattle.codes.specs.Gathering.{slotBytes}
 use Rattle.canonical.specs.Dictionary.{inOrder}

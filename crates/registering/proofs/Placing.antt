@@ -1,6 +1,6 @@
 -- Numbers and places put into the rows of the register: they stand in columns of their own, so that words, prefixes and
 -- heights stay as they were, and what is put is put in order. Assumes nothing.
-use Prim.Native.Nat.{ℕ, suc, _+_, _*_, _≤_, _<_}
+use Prim.Native.Nat.{ℕ, _+_, _*_, _≤_, _<_}
 use mathlib.Core.Path.{_≡_, refl, sym, ap, subst, _∙_}
 use mathlib.Core.List.{List, [], _∷_}
 use native.Mathlib.Decide.{ℕ-discrete}
@@ -9,7 +9,6 @@ use native.Mathlib.Omega.{arith}
 use lib.ListN.{length, getD, set, length-set}
 use lib.Seq.{getD-set-same, getD-set-other}
 use borrow.Author.Tests.{eq-eqb, ne-eqb}
-use Rattle.checking.specs.Tables.{column}
 use Rattle.checking.proofs.Columns.{column-at, column-long, column-stored, column-kept}
 use Rattle.registering.specs.Register.{firstOf, depthOf}
 use Rattle.registering.specs.Numbering.{heightsIn, numbersIn, orderIn, SameRows, placesBelow, Low, Rows, Placed}

@@ -4,10 +4,10 @@ use Prim.Native.Nat.{ℕ, _<_}
 use mathlib.Core.Path.{refl, ap, subst}
 use mathlib.Core.List.{List, [], List·Memᴰ as In}
 use native.Mathlib.Omega.{arith}
-use lib.ListN.{length, getD, replicate, length-replicate, getD-replicate}
+use lib.ListN.{length, replicate, length-replicate, getD-replicate}
 use Rattle.endian.proofs.Lists.{getD-copies}
 use Rattle.call.specs.declared.Refusal.the-variants.{CanonicalImage}
-use Rattle.call.specs.Table.{Answer, refused, on, unless}
+use Rattle.call.specs.Table.{Answer, refused, unless}
 use Rattle.call.specs.Buffers.{written}
 use Rattle.canonical.specs.Canonical.{outsideRows}
 use Rattle.sorting.specs.Slots.{wordsFrom}

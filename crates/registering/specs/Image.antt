@@ -1,7 +1,7 @@
 -- The canonical image, as the tables make it. No public contract cites it. Assumes nothing.
 use Prim.Native.Nat.{ℕ, suc, _+_, _*_, _≤_, _<_}
 use mathlib.Core.Path.{_≡_}
-use mathlib.Core.List.{List, [], _++_, map, flatMap}
+use mathlib.Core.List.{List, _++_, map, flatMap}
 use lib.ListN.{length, getD, take, drop}
 use Rattle.endian.specs.Lists.{from, sum}
 use Rattle.endian.specs.Bytes.{u16Bytes}
