@@ -20,11 +20,17 @@ use Rattle.registering.specs.Register.{firstOf, manyOf, depthOf}
 use Rattle.registering.specs.Numbering.{numbersIn}
 use Rattle.registering.specs.Arcs.{placeIn, vertexIn, firstArc, vertexList, partings, partingsOf, listOf}
 use Rattle.registering.specs.Arcs.{listLength, Spanned}
-use Rattle.registering.specs.Image.{Put, letterIn, lettersFrom, listsFrom, listsLength, tableImage, Measured}
+use Rattle.registering.specs.Image.{Put, letterIn, lettersFrom, listsFrom, listsLength, tableImage}
+use Rattle.registering.specs.Image.{LetterRow, Lettered, Measured}
 use Rattle.registering.proofs.Putting.{put-both}
 use Rattle.registering.proofs.Partings.{list-long}
 
 -- ---- letters, and their states
+
+-- what is asked for reading a node's letter
+pub node-read : {t : List ℕ} {rows : List (List ℕ)} {count k : ℕ} → Lettered t rows count → k < count
+    → ((k + 1 ≤ 400) × (placeIn rows (k + 1) ≤ 400)) × LetterRow t (vertexIn rows (k + 1))
+node-read {k = k} l h = ((omega (arith, l .places .few), l .places .inside (k + 1) (omega arith)), l .row k h)
 
 module _ (t : List ℕ) (rows : List (List ℕ)) where
   pub letters-none : lettersFrom t rows 1 0 ≡ []

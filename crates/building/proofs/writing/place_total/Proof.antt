@@ -8,9 +8,8 @@ use lib.ListN.{length, getD}
 use Rattle.endian.specs.Lists.{sum}
 use Rattle.voice.specs.Voice.{letterCount, states}
 use Rattle.voice.proofs.Letters.{states-range, states-there}
-use Rattle.registering.specs.Arcs.{placeIn}
 use Rattle.registering.specs.Image.{lettersFrom}
-use Rattle.registering.proofs.Images.{states-none, states-more}
+use Rattle.registering.proofs.Images.{node-read, states-none, states-more}
 use Rattle.building.proofs.writing.place_total.Statement.{statement}
 use Rattle.building.proofs.writing.place_total.Tie as tie
 
@@ -71,25 +70,13 @@ returns c =
     let e : i .node ≡ start (c .before) .args .count = omega (arith, i .inv .0, c .loop-test .left) in
     rw e at (i .inv .1)
 
--- a node and its place
-node : (c : tie.In-loop Inv-loop μ-loop) →
-    let l = c .before in
-    (l .loop .node + 1 ≤ 400) × (placeIn (start l .args .rows .now) (l .loop .node + 1) ≤ 400)
-node c =
-    let l = c .before in
-    let p = start l .pre .0 .places in
-    let h = c .loop-test .taken in
-    (omega (arith, p .few), p .inside (l .loop .node + 1) (omega arith))
-
-letter-of-requires : tie.Need-letter-of-requires Inv-loop μ-loop
-letter-of-requires c κs =
-    let l = c .before in
-    (node c, start l .pre .0 .row (l .loop .node) (c .loop-test .taken))
+node-few : (c : tie.In-loop Inv-loop μ-loop) → c .before .loop .node < 400
+node-few c = omega (arith, start (c .before) .pre .0 .places .few, c .loop-test .taken)
 
 add-places : tie.Need-add-places-2 Inv-loop μ-loop
 add-places c =
     let k = c .before in
-    omega (arith, few k, turn k .loop .inv .2, node (k .before) .0)
+    omega (arith, few k, turn k .loop .inv .2, node-few (k .before))
 
 pub place-total-spec : {M : Type 1} → statement M
 place-total-spec =
@@ -98,15 +85,15 @@ place-total-spec =
     Inv-loop
     μ-loop
     loop-holds
-    (λ c. omega (arith, node c .0))
-    letter-of-requires
+    (λ c. omega (arith, node-few c))
+    (λ c κs. node-read (start (c .before) .pre .0) (c .loop-test .taken))
     (λ c. omega (arith, c .letter-of .ok))
     (λ c. omega (arith, c .letter-of .ok))
     (λ c. omega (arith, c .letter-of .ok))
     (λ c. there (c .before))
     (λ c. omega (arith, few (c .before)))
     add-places
-    (λ c. omega (arith, node (c .before .before) .0))
+    (λ c. omega (arith, node-few (c .before .before)))
     (λ c. let h = c .before .before .loop-test .taken in omega arith)
     loop-again
     returns)

@@ -4,10 +4,9 @@ use Prim.Native.Nat.{_+_, _-_, _≤_, _<_}
 use mathlib.Core.Path.{_≡_, refl, sym, _∙_}
 use native.Mathlib.Omega.{arith}
 use lib.ListN.{length, length-set}
-use Rattle.registering.specs.Arcs.{placeIn}
 use Rattle.registering.specs.Image.{Put, lettersFrom}
 use Rattle.registering.proofs.Putting.{put-none, put-both, put-byte}
-use Rattle.registering.proofs.Images.{letters-none, letters-more}
+use Rattle.registering.proofs.Images.{node-read, letters-none, letters-more}
 use Rattle.building.proofs.writing.put_letters.Statement.{statement}
 use Rattle.building.proofs.writing.put_letters.Tie as tie
 
@@ -50,20 +49,8 @@ returns c =
     let e : i .node ≡ start (c .before) .args .count = omega (arith, i .inv .0, c .loop-test .left) in
     rw e at (i .inv .1)
 
--- a node and its place
-node : (c : tie.In-loop Inv-loop μ-loop) →
-    let l = c .before in
-    (l .loop .node + 1 ≤ 400) × (placeIn (start l .args .rows .now) (l .loop .node + 1) ≤ 400)
-node c =
-    let l = c .before in
-    let p = start l .pre .0 .places in
-    let h = c .loop-test .taken in
-    (omega (arith, p .few), p .inside (l .loop .node + 1) (omega arith))
-
-letter-of-requires : tie.Need-letter-of-requires Inv-loop μ-loop
-letter-of-requires c κs =
-    let l = c .before in
-    (node c, start l .pre .0 .row (l .loop .node) (c .loop-test .taken))
+node-few : (c : tie.In-loop Inv-loop μ-loop) → c .before .loop .node < 400
+node-few c = omega (arith, start (c .before) .pre .0 .places .few, c .loop-test .taken)
 
 pub put-letters-spec : {M : Type 1} → statement M
 put-letters-spec =
@@ -72,11 +59,11 @@ put-letters-spec =
     Inv-loop
     μ-loop
     loop-holds
-    (λ c. omega (arith, node c .0))
-    letter-of-requires
-    (λ c. omega (arith, node (c .before) .0))
+    (λ c. omega (arith, node-few c))
+    (λ c κs. node-read (start (c .before) .pre .0) (c .loop-test .taken))
+    (λ c. omega (arith, node-few (c .before)))
     (λ c. room (c .before))
-    (λ c. omega (arith, node (c .before) .0))
+    (λ c. omega (arith, node-few (c .before)))
     (λ c. let h = c .before .loop-test .taken in omega arith)
     loop-again
     (λ c. c .before .loop .inv .2)
