@@ -14,6 +14,7 @@ use Rattle.call.specs.declared.Refusal.the-variants.{LexiconRange}
 use Rattle.call.specs.declared.Refusal.the-variants.{Orphan, Places, LongWord, WordCount, SameLetters}
 use Rattle.call.specs.declared.Refusal.the-variants.{Frames, Count}
 use Rattle.call.specs.declared.Refusal.the-variants.{NoWord, Packed, Code, Output, WordList, CanonicalImage}
+use Rattle.call.specs.declared.Refusal.the-variants.{Items}
 use Rattle.call.specs.declared.Answer as declared
 use Rattle.call.specs.declared.Answer.the-variants.{Value, Refused}
 
@@ -37,6 +38,7 @@ number Code = 15
 number Output = 16
 number WordList = 17
 number CanonicalImage = 18
+number Items = 19
 
 -- what a call answers: a value, or a refusal
 pub data Answer (A : Type 0) : Type 0 where

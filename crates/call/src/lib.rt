@@ -49,6 +49,8 @@ pub enum Refusal {
     WordList,
     // 18: a canonical image outside the limits on nodes, arcs or places
     CanonicalImage,
+    // 19: an item that runs past the end, or over 1,000 items
+    Items,
 }
 
 // What a call answers: a number, or the first refusal that applies.
@@ -81,6 +83,7 @@ impl Refusal {
             Refusal::Output => 16,
             Refusal::WordList => 17,
             Refusal::CanonicalImage => 18,
+            Refusal::Items => 19,
         }
     }
 }

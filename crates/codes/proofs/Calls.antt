@@ -1,4 +1,4 @@
--- The calls with words and codes, and the listing: they answer as checking does where it refuses, and else by their own rows, with accepted
+-- Code to word and the listing: they answer as checking does where it refuses, and else by their own rows, with accepted
 -- images and filled tables. Assumes nothing.
 use Prim.Native.Nat.{ℕ, suc, _+_, _≤_, _<_}
 use mathlib.Core.Path.{_≡_, _∙_, sym, ap}
@@ -22,9 +22,8 @@ use Rattle.graph.specs.Checking.{firstRows, checkAnswer}
 use Rattle.graph.proofs.Accepted.{accepted, sound-images, Passed, passed}
 use Rattle.checking.specs.Tables.{openedVertices}
 use Rattle.checking.proofs.VertexRows.{opened-vertices}
-use Rattle.codes.specs.Lookup.{wordToCodeRows, wordToCodeAnswer, codeToWordRows, codeToWordAnswer, codeToWordOut, listing, listRows, listAnswer, listOut}
+use Rattle.codes.specs.Lookup.{codeToWordRows, codeToWordAnswer, codeToWordOut, listing, listRows, listAnswer, listOut}
 use Rattle.codes.specs.Steps.{OpenedImages, lettersOfCode, Spellable, Spelled, Printable, roomAnswer}
-use Rattle.codes.specs.Marks.{lookedUp}
 use Rattle.codes.specs.Lines.{roomRows, BytesAnswered}
 use Rattle.codes.proofs.Words.{well-formed, printable, word-letters}
 
@@ -101,17 +100,6 @@ module _ (v x work : List ℕ) where
         → written a (wordOfCode v (graphOf x) code) out ≡ codeToWordOut v x code work out
     unfolding codeToWordOut
     out-written e = rw e
-
-  -- ---- word to code
-
-  module _ (word : List ℕ) where
-    pub word-refused : {r : Refusal} → checkAnswer v x work ≡ refused r → wordToCodeAnswer v x word work ≡ refused r
-    unfolding checkAnswer wordToCodeAnswer wordToCodeRows
-    word-refused e = refused-before (firstRows v x work) _ (wordCount (graphOf x)) _ e
-
-    pub word-looked : {W : ℕ} → Passed v x work W → wordToCodeAnswer v x word work ≡ lookedUp v (graphOf x) word
-    unfolding wordToCodeAnswer wordToCodeRows lookedUp
-    word-looked p = unless-past (firstRows v x work) _ _ (p .rows)
 
   -- ---- listing
 

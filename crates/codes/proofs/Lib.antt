@@ -3,10 +3,6 @@ pub mod Rows
 pub mod Theorems
 pub mod Words
 pub mod Walks
-pub mod Marks
-pub mod Least
-pub mod Search
-pub mod Lookups
 pub mod Calls
 pub mod Lines
 pub mod Sizes
@@ -16,3 +12,4 @@ pub mod Passing
 pub mod Totals
 pub mod Whole
 pub mod Slots
+pub mod Items

@@ -2,13 +2,15 @@
 -- Assumes nothing.
 use Rattle.codes.specs.Lookup.{wordToCodeRows, wordToCodeAnswer, codeToWordRows, codeToWordAnswer, codeToWordOut, listing, listRows, listAnswer, listOut}
 use Rattle.codes.specs.Steps.{lettersOfCode, roomAnswer}
-use Rattle.codes.specs.Marks.{fits, fitsAfter, markOf, marked, lookedUp}
+use Rattle.codes.specs.Items.{itemsWithin, pastWithin, itemsOf, runsPast, badItems, answerBytes, itemAnswers}
+use Rattle.codes.specs.Items.{wordsToCodesRows, wordsToCodesAnswer, wordsToCodesOut}
 use Rattle.codes.specs.Lines.{linesFrom, linesOver, arcsOnWays, roomRows}
 use Rattle.codes.specs.Gathering.{slotOf, slotBytes, gatherRows, gatherAnswer, gatherOut}
 use Rattle.codes.specs.Slots.{slotRows}
 
 unfoldable pub everything : Unit {0}
 unfolding wordToCodeRows wordToCodeAnswer codeToWordRows codeToWordAnswer codeToWordOut listing listRows listAnswer
-    listOut lettersOfCode roomAnswer fits fitsAfter markOf marked lookedUp linesFrom linesOver arcsOnWays roomRows
-    slotOf slotBytes gatherRows gatherAnswer gatherOut slotRows
+    listOut lettersOfCode roomAnswer linesFrom linesOver arcsOnWays roomRows
+    slotOf slotBytes gatherRows gatherAnswer gatherOut slotRows itemsWithin pastWithin itemsOf runsPast badItems
+    answerBytes itemAnswers wordsToCodesRows wordsToCodesAnswer wordsToCodesOut
 everything = tt

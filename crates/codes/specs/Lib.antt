@@ -1,7 +1,7 @@
 pub mod Lookup
+pub mod Items
 pub mod Theorems
 pub mod Steps
-pub mod Marks
 pub mod Lines
 pub mod Gathering
 pub mod Slots

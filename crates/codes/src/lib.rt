@@ -1,42 +1,21 @@
-// Word to code, code to word, listing, and gathering: definitions in specs/.
+// Code to word, listing, and gathering: definitions in specs/. Word to code is the crate lookup's.
 ghost use mathlib.Core.Path.{_≡_};
 ghost use Rattle.call.specs.Table.{answerOf};
-ghost use Rattle.codes.specs.Lookup.{wordToCodeAnswer, wordToCodeWork, listAnswer, listOut, listWork};
+ghost use Rattle.codes.specs.Lookup.{listAnswer, listOut, listWork};
 ghost use Rattle.codes.specs.Lookup.{codeToWordAnswer, codeToWordWork, codeToWordOut};
 ghost use Rattle.codes.specs.Gathering.{gatherAnswer, gatherWork, gatherOut};
 use crate::descent::put_word;
 use crate::descent::spell;
 use crate::gathering::put_slots;
 use crate::listing::put_listing;
-use crate::suffixes::TABLE;
-use crate::suffixes::look_up;
 use call::Answer;
 use call::Refusal;
-use call::clear;
 use checking::open;
 
 mod descent;
 mod gathering;
 mod image;
 mod listing;
-mod suffixes;
-
-// The code of a word, given as print bytes.
-pub fn word_to_code(voice: &[u8], lexicon: &[u8], word: &[u8], work: &mut [u8]) -> Answer
-    ensures { λ r. ⌜ answerOf r ≡ wordToCodeAnswer (now (voice .entry)) (now (lexicon .entry)) (now (word .entry))
-        (now (work .entry)) ⌝ }
-    ensures { λ _. ⌜ now (work .exit) ≡ wordToCodeWork (now (voice .entry)) (now (lexicon .entry)) (now (word .entry))
-        (now (work .entry)) ⌝ }
-{
-    let mut vertices = [[0u32; 4]; 402];
-    let opened = open(voice, lexicon, work, &mut vertices);
-    let Answer::Value(_) = opened else {
-        return opened;
-    };
-    let answer = look_up(voice, lexicon, &vertices, word, &mut work[0..TABLE]);
-    clear(work);
-    answer
-}
 
 // Writes the word of a code, as print bytes, and answers the bytes written.
 pub fn code_to_word(

@@ -5,8 +5,7 @@ use mathlib.Core.Path.{_≡_, refl, sym, ap, ap₂, _∙_}
 use mathlib.Core.List.{List, [], _∷_, _++_, flatMap, append-assoc, append-nil, List·Memᴰ, List·Memᴰ·head as here}
 use mathlib.Core.List.{List·Memᴰ·tail as there}
 use native.Mathlib.Omega.{arith}
-use native.Mathlib.Nat.{add-zero}
-use native.Mathlib.Numerals.{add-one, towards-suc}
+use native.Mathlib.Numerals.{add-one}
 use borrow.Author.Tests.{eq-eqb, ne-eqb}
 use lib.IntN.{natAbs}
 use lib.ListN.{length, getD, set, take, drop, length-append, length-drop, drop-of-length-le}
@@ -21,22 +20,6 @@ use Rattle.decoder.specs.Score.{bias, raised, valueOf}
 use Rattle.decoder.proofs.Biased.{raised-is, value-back}
 use Rattle.storing.specs.Held.{tokenOf, pad, held}
 use Rattle.decoding.specs.Listing.{hitOf, hitsOf, Listable}
-
--- ---- bytes
-
--- four bytes that a call hands over
-pub put-four : (out : List ℕ) (at : ℕ) (b : List ℕ) → length b ≡ 4
-    → set (set (set (set out at (getD b 0 0)) (at + 1) (getD b 1 0)) (at + 2) (getD b 2 0)) (at + 3) (getD b 3 0) ≡ sets out at b
-put-four out at (a ∷ b ∷ c ∷ d ∷ []) e = simp towards-suc
-put-four out at [] e = absurd (omega arith)
-put-four out at (a ∷ []) e = absurd (omega arith)
-put-four out at (a ∷ b ∷ []) e = absurd (omega arith)
-put-four out at (a ∷ b ∷ c ∷ []) e = absurd (omega arith)
-put-four out at (a ∷ b ∷ c ∷ d ∷ x ∷ l) e = absurd (omega arith)
-
-pub sets-append : (xs ys l : List ℕ) (i : ℕ) → sets (sets l i xs) (i + length xs) ys ≡ sets l i (xs ++ ys)
-sets-append [] ys l i = ap (λ j. sets l j ys) (add-zero i)
-sets-append (x ∷ xs) ys l i = let e : i + length (x ∷ xs) ≡ suc i + length xs = omega arith in rw e (sets-append xs ys _ (suc i))
 
 -- the eight bytes of a hit
 abbrev pub bytesOf : Hit → List ℕ

@@ -9,3 +9,4 @@ pub mod Signed
 pub mod Differences
 pub mod Integers
 pub mod Bytes
+pub mod Stores

@@ -1,3 +1,4 @@
 pub mod Lists
 pub mod Integers
 pub mod Bytes
+pub mod Rows

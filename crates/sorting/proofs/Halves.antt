@@ -10,7 +10,8 @@ use native.Mathlib.Omega.{arith}
 use lib.ListN.{length}
 use Rattle.canonical.specs.Dictionary.{precedes}
 use Rattle.sorting.specs.Slots.{wordAt, Slot}
-use Rattle.sorting.specs.Rows.{numberAt, wordOf, Points, Rising, Somewhere, Merged, Back, Ordered}
+use Rattle.endian.specs.Rows.{numberAt}
+use Rattle.sorting.specs.Rows.{wordOf, Points, Rising, Somewhere, Merged, Back, Ordered}
 use Rattle.sorting.proofs.Rising.{not-before-trans}
 
 pub ordered-short : (t r : List ℕ) (lo hi : ℕ) → hi - lo < 2 → Ordered t r lo hi r

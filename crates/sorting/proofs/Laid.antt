@@ -14,7 +14,8 @@ use native.Mathlib.Omega.{arith}
 use lib.ListN.{length, getD, length-append}
 use Rattle.canonical.specs.Dictionary.{precedes, insert, inOrder}
 use Rattle.sorting.specs.Slots.{wordAt, Slot, Holds, Padded, wordsFrom}
-use Rattle.sorting.specs.Rows.{numberAt, wordOf, Rising, rowWords, Gathered, New}
+use Rattle.endian.specs.Rows.{numberAt}
+use Rattle.sorting.specs.Rows.{wordOf, Rising, rowWords, Gathered, New}
 use Rattle.sorting.specs.Rows.{LaidWord, known, over, laid, LaidOut}
 use Rattle.canonical.proofs.Order.{Before, before-trans, before-asym, before-total, not-before}
 use Rattle.canonical.proofs.Sorting.{order-out, order-same}

@@ -11,7 +11,8 @@ use native.Mathlib.Omega.{arith}
 use lib.ListN.{length}
 use Rattle.canonical.specs.Dictionary.{inOrder}
 use Rattle.sorting.specs.Slots.{wordAt, Slot, Padded, wordsFrom}
-use Rattle.sorting.specs.Rows.{numberAt, wordOf, NumberPut, Ordered, rowWords}
+use Rattle.endian.specs.Rows.{numberAt, NumberPut}
+use Rattle.sorting.specs.Rows.{wordOf, Ordered, rowWords}
 use Rattle.sorting.specs.Rows.{Gathered, LaidOut, Numbered, Dictionary}
 use Rattle.canonical.proofs.Sorting.{order-same}
 use Rattle.sorting.proofs.SlotWords.{words-split, one-word}

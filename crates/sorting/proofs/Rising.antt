@@ -13,39 +13,9 @@ use lib.Seq.{getD-set-same, getD-set-other}
 use Rattle.endian.specs.Bytes.{u16}
 use Rattle.canonical.specs.Dictionary.{precedes}
 use Rattle.sorting.specs.Slots.{wordAt}
-use Rattle.sorting.specs.Rows.{numberAt, wordOf, NumberPut, Rising, Somewhere, Taken, first, second, Merged, Back}
+use Rattle.endian.specs.Rows.{numberAt, NumberPut}
+use Rattle.sorting.specs.Rows.{wordOf, Rising, Somewhere, Taken, first, second, Merged, Back}
 use Rattle.canonical.proofs.Order.{Before, before-trans, before-asym, before-total, not-before}
-
--- ---- one number
-
-module _ (r : List ℕ) (k v : ℕ) (h : 2 * k + 2 ≤ length r) where
-  -- both bytes are written
-  abbrev put : List ℕ
-  put = set (set r (2 * k) (v % 256)) (2 * k + 1) (v / 256)
-
-  low-byte : getD put (2 * k) 0 ≡ v % 256
-  low-byte =
-      getD-set-other (set r (2 * k) (v % 256)) (2 * k + 1) (2 * k) (v / 256) 0 (omega arith)
-      ∙ getD-set-same r (2 * k) (v % 256) 0 (omega arith)
-
-  high-byte : getD put (2 * k + 1) 0 ≡ v / 256
-  high-byte =
-      let l = length-set r (2 * k) (v % 256) in
-      getD-set-same (set r (2 * k) (v % 256)) (2 * k + 1) (v / 256) 0 (omega arith)
-
-  same : (b : ℕ) → ¬ (b ≡ 2 * k) → ¬ (b ≡ 2 * k + 1) → getD put b 0 ≡ getD r b 0
-  same b x y =
-      getD-set-other (set r (2 * k) (v % 256)) (2 * k + 1) b (v / 256) 0 (omega arith)
-      ∙ getD-set-other r (2 * k) b (v % 256) 0 (omega arith)
-
-  pub number-put : NumberPut r k v (set (set r (2 * k) (v % 256)) (2 * k + 1) (v / 256))
-  unfolding numberAt u16
-  number-put = record {
-    long = length-set (set r (2 * k) (v % 256)) (2 * k + 1) (v / 256) ∙ length-set r (2 * k) (v % 256);
-    here = rw (low-byte, high-byte) (omega arith);
-    others = λ j n. ap₂ (λ a b. a + 256 * b) (same (2 * j) (omega arith) (omega arith))
-        (same (2 * j + 1) (omega arith) (omega arith));
-  }
 
 -- ---- numbers brought back
 

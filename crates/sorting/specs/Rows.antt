@@ -6,27 +6,17 @@ use mathlib.Core.Logic.{_⊎_}
 use mathlib.Core.Bool.{true, false}
 use mathlib.Core.List.{List, [], _∷_, _++_}
 use lib.ListN.{length, getD}
-use Rattle.endian.specs.Bytes.{u16}
+use Rattle.endian.specs.Rows.{numberAt, NumberPut}
 use Rattle.canonical.specs.Dictionary.{precedes, inOrder}
 use Rattle.sorting.specs.Slots.{wordAt, Slot, Holds, Padded, wordsFrom, Filled, Copied}
 
--- the slot number at place k
-unfoldable pub numberAt : List ℕ → ℕ → ℕ
-numberAt r k = u16 r (2 * k)
-
--- the word that it names
+-- the word that the number at place k names
 abbrev pub wordOf : List ℕ → List ℕ → ℕ → List ℕ
 wordOf t r k = wordAt t (numberAt r k)
 
 -- the numbers from lo up to hi are those of slots that hold words
 abbrev pub Points : List ℕ → List ℕ → ℕ → ℕ → Type 0
 Points t r lo hi = (p : ℕ) → lo ≤ p → p < hi → Slot t (numberAt r p)
-
--- v stands at place k, and the other places are as they were
-pub record NumberPut (r : List ℕ) (k v : ℕ) (u : List ℕ) : Type 0 where
-  pub long : length u ≡ length r
-  pub here : numberAt u k ≡ v
-  pub others : (j : ℕ) → ¬ (j ≡ k) → numberAt u j ≡ numberAt r j
 
 -- no word of the places from lo up to hi stands behind a later one
 abbrev pub Rising : List ℕ → List ℕ → ℕ → ℕ → Type 0

@@ -2,7 +2,8 @@
 ghost use Prim.Native.Nat.{ℕ, _+_, _-_, _≤_, _<_};
 ghost use lib.ListN.{length};
 ghost use Rattle.sorting.specs.Slots.{Slot};
-ghost use Rattle.sorting.specs.Rows.{numberAt, Gathered, Rising, LaidWord, LaidOut, Numbered, Dictionary};
+ghost use Rattle.endian.specs.Rows.{numberAt};
+ghost use Rattle.sorting.specs.Rows.{Gathered, Rising, LaidWord, LaidOut, Numbered, Dictionary};
 use crate::ordering::sort;
 use crate::ordering::stands_before;
 use crate::rows::number;

@@ -2,7 +2,8 @@
 ghost use mathlib.Core.Path.{_≡_};
 ghost use Prim.Native.Nat.{_+_, _*_, _≤_, _<_};
 ghost use lib.ListN.{length};
-ghost use Rattle.sorting.specs.Rows.{numberAt, NumberPut, Back};
+ghost use Rattle.endian.specs.Rows.{numberAt, NumberPut};
+ghost use Rattle.sorting.specs.Rows.{Back};
 use endian::u16_at;
 
 // The slot number at place k.

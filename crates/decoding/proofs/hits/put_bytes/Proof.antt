@@ -2,7 +2,7 @@
 use native.Mathlib.Omega.{arith}
 use borrow.Author.Needs.{needs}
 use lib.ListN.{length-set}
-use Rattle.decoding.proofs.Listing.{put-four}
+use Rattle.endian.proofs.Stores.{put-four}
 use Rattle.decoding.proofs.hits.put_bytes.Statement.{statement}
 use Rattle.decoding.proofs.hits.put_bytes.Tie as tie
 

@@ -12,7 +12,7 @@ use Rattle.endian.specs.Bytes.{i32Bytes, u32Bytes}
 use Rattle.decoder.specs.Score.{valueOf}
 use Rattle.decoder.specs.Token.{codePart}
 use Rattle.decoding.specs.Listing.{hitOf}
-use Rattle.decoding.proofs.Listing.{sets-append}
+use Rattle.endian.proofs.Stores.{sets-append}
 use Rattle.decoding.proofs.hits.put_hit.Statement.{statement}
 use Rattle.decoding.proofs.hits.put_hit.Tie as tie
 

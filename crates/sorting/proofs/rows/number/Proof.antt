@@ -1,5 +1,5 @@
 -- `rows::number` meets its contract: it is the u16 at twice the place. Assumes nothing.
-use Rattle.sorting.specs.Rows.{numberAt}
+use Rattle.endian.specs.Rows.{numberAt}
 use borrow.Author.Needs.{needs}
 use Rattle.sorting.proofs.rows.number.Statement.{statement}
 use Rattle.sorting.proofs.rows.number.Tie as tie

@@ -1,7 +1,7 @@
 -- `rows::put_number` meets its contract: it writes the number's two bytes. Assumes nothing.
 use native.Mathlib.Omega.{arith}
 use lib.ListN.{length-set}
-use Rattle.sorting.proofs.Rising.{number-put}
+use Rattle.endian.proofs.Stores.{number-put}
 use borrow.Author.Needs.{needs}
 use Rattle.sorting.proofs.rows.put_number.Statement.{statement}
 use Rattle.sorting.proofs.rows.put_number.Tie as tie

@@ -1,0 +1,4 @@
+pub mod Least
+pub mod Ways
+pub mod Chains
+pub mod Tries
