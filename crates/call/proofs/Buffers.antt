@@ -1,12 +1,13 @@
 -- Laws of the buffers: work spaces and the output keep their lengths, and a cleared work space does not depend on what
 -- its first bytes held, 64,000 of the one and 262,144 of the further one. Assumes nothing.
-use Prim.Native.Nat.{ℕ, _+_, _-_, _≤_, _<_}
+use Prim.Native.Nat.{ℕ, zero, suc, _+_, _-_, _≤_, _<_}
 use mathlib.Core.Path.{_≡_, refl, sym, ap, _∙_}
 use mathlib.Core.Logic.{_⊎_, inl, inr, ⊎-elim}
 use mathlib.Core.Bool.{Bool, true, false, or-false}
-use mathlib.Core.List.{List, _++_}
+use mathlib.Core.List.{List, _∷_, _++_}
 use native.Mathlib.Omega.{arith}
 use lib.ListN.{length, take, drop, replicate, length-append, length-drop, length-replicate}
+use lib.ListN.{take-append-drop}
 use lib.Seq.{length-take-le, drop-at, drop-drop, drop-append-add}
 use lib.Dec.{ltb}
 use borrow.Author.Tests.{lt-ltb, le-ltb, ltb-true, ltb-false}
@@ -54,6 +55,20 @@ cleared-length w = go (ltb (length w) 64000) refl
     go : (b : Bool) → ltb (length w) 64000 ≡ b → length (cleared w) ≡ length w
     go true e = ap length (cleared-short w (ltb-true (length w) 64000 e))
     go false e = let h = ltb-false (length w) 64000 e in ap length (cleared-long w h) ∙ zeroed-length 64000 w h
+
+-- the first m of a cleared work space are zero; lent on, and zero when they come back, they leave it cleared
+take-zeros : (m n : ℕ) (l : List ℕ) → m ≤ n → take m (replicate n 0 ++ l) ≡ replicate m 0
+take-zeros zero n l h = refl
+take-zeros (suc m) zero l h = absurd (omega arith)
+take-zeros (suc m) (suc n) l h = ap (λ (z : List ℕ). 0 ∷ z) (take-zeros m n l (omega arith))
+
+module _ (m : ℕ) (w : List ℕ) (h : m ≤ 64000) (k : 64000 ≤ length w) where
+  pub cleared-front : take m (cleared w) ≡ replicate m 0
+  unfolding zeroed
+  cleared-front = ap (take m) (cleared-long w k) ∙ take-zeros m 64000 (drop 64000 w) h
+
+  pub cleared-back : {part : List ℕ} → part ≡ replicate m 0 → part ++ drop m (cleared w) ≡ cleared w
+  cleared-back e = ap (λ (l : List ℕ). l ++ drop m (cleared w)) (e ∙ sym cleared-front) ∙ take-append-drop m (cleared w)
 
 -- the first n bytes lent on, and m of them made zero: what the part held is gone
 pub part-zeroed : {n : ℕ} (m : ℕ) (part w : List ℕ) → length part ≡ n → n ≤ m → zeroed m (part ++ drop n w) ≡ zeroed m w

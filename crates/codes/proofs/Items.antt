@@ -2,10 +2,14 @@
 use Prim.Native.Nat.{ℕ, zero, suc, _≤_}
 use mathlib.Core.Path.{_≡_, refl, sym, ap, ap₂, _∙_}
 use mathlib.Core.Bool.{Bool, true, false, _||_}
-use mathlib.Core.List.{List, [], _∷_, _++_, flatMap}
+use mathlib.Core.Logic.{⊎-elim}
+use mathlib.Core.List.{List, [], _∷_, _++_, flatMap, List·Memᴰ, List·Memᴰ·tail as there}
+use mathlib.Core.List.{Memᴰ·append-right, List·Memᴰ·cases-cons as cases, List·Memᴰ·not-nil as not-nil}
 use native.Mathlib.Omega.{arith}
-use lib.ListN.{length, take, drop, length-drop}
+use lib.ListN.{length, take, drop, length-drop, take-append-drop}
 use lib.Dec.{ltb}
+use Rattle.endian.specs.Bytes.{Bytes}
+use Rattle.endian.proofs.Lists.{take-out}
 use Rattle.codes.specs.Items.{itemsWithin, pastWithin, itemsOf, runsPast}
 
 -- ---- one after the other
@@ -57,3 +61,21 @@ module _ (k : ℕ) (bytes : List ℕ) where
   past-next =
       let l = length-drop k bytes in
       ap (λ r. ltb (length bytes) k || r) (past-enough (length bytes) (length (drop k bytes)) (drop k bytes) (omega arith) (omega arith))
+
+-- ---- the bytes of an item are bytes of the list
+
+drop-out : (k : ℕ) (bytes : List ℕ) {x : ℕ} → List·Memᴰ x (drop k bytes) → List·Memᴰ x bytes
+drop-out k bytes m = rw (take-append-drop k bytes) at (Memᴰ·append-right (take k bytes) m)
+
+within-bytes : (n : ℕ) (bytes : List ℕ) → Bytes bytes → {word : List ℕ} → List·Memᴰ word (itemsWithin n bytes)
+    → Bytes word
+unfolding itemsWithin
+within-bytes zero bytes low m = absurd (not-nil m)
+within-bytes (suc n) [] low m = absurd (not-nil m)
+within-bytes (suc n) (k ∷ bytes) low {word} m =
+    ⊎-elim (λ e x i. low x (there (take-out k bytes (rw e at i))))
+    (within-bytes n (drop k bytes) (λ x i. low x (there (drop-out k bytes i)))) (cases m)
+
+pub item-bytes : (bytes : List ℕ) → Bytes bytes → {word : List ℕ} → List·Memᴰ word (itemsOf bytes) → Bytes word
+unfolding itemsOf
+item-bytes bytes low m = within-bytes (length bytes) bytes low m

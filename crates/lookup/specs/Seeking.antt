@@ -1,7 +1,7 @@
 -- Looking a word up, as a computation: depth first in code order, from a vertex on. An arc fits where the vertex that it
 -- leads to prints what the word has next: a node prints its letter's print byte, and the sink 256, which is no byte and
 -- stands behind every word. No public contract cites it. Assumes nothing.
-use Prim.Native.Nat.{ℕ, _+_, _≤_}
+use Prim.Native.Nat.{ℕ, _+_, _≤_, _<_}
 use mathlib.Core.Path.{_≡_}
 use mathlib.Core.Bool.{cond}
 use mathlib.Core.List.{List, [], _∷_}
@@ -14,7 +14,6 @@ use Rattle.voice.specs.Voice.{printByte}
 use Rattle.lexicon.specs.Lexicon.{nodeCount, sinkOf, nodeLetter}
 use Rattle.graph.specs.Graph.{Graph, pathCount}
 use Rattle.checking.specs.Tables.{column}
-use Rattle.codes.specs.Steps.{Tabled}
 use Rattle.codes.specs.Lines.{Countable}
 
 -- ---- the search
@@ -61,6 +60,7 @@ printsColumn vertices = column 2 vertices
 -- the prints of a lexicon
 pub record Prints (v x prints : List ℕ) : Type 0 where
   pub node : {u : ℕ} → 1 ≤ u → u ≤ nodeCount x → getD prints u 0 ≡ printByte v (nodeLetter x u)
+  pub low : {u : ℕ} → 1 ≤ u → u ≤ nodeCount x → getD prints u 0 < 256
   pub end : getD prints (sinkOf x) 0 ≡ 256
 
 -- the table of vertices with them

@@ -29,14 +29,14 @@ pub(crate) fn count_items(items: &[u8]) -> Answer
     let mut at = 0;
     let mut count = 0;
     while at < items.len() {
-        let letters = items[at] as usize;
+        let end = at + 1 + items[at] as usize;
         if count == ITEMS {
             return Answer::Refused(Refusal::Items);
         }
-        if items.len() - at - 1 < letters {
+        if items.len() < end {
             return Answer::Refused(Refusal::Items);
         }
-        at += 1 + letters;
+        at = end;
         count += 1;
     }
     Answer::Value(count)

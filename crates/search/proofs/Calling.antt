@@ -16,7 +16,7 @@ use Rattle.call.specs.Table.{Answer, value, refused, on, unless}
 use Rattle.call.specs.Limits.{badCount}
 use Rattle.call.specs.Buffers.{zeroed, cleared}
 use Rattle.call.proofs.Table.{none-parts, none-says, unless-past, value-passed, refused-before}
-use Rattle.call.proofs.Buffers.{cleared-long, cleared-length, cleared-twice}
+use Rattle.call.proofs.Buffers.{cleared-front, cleared-length, cleared-twice}
 use Rattle.lexicon.specs.Lexicon.{sinkOf}
 use Rattle.graph.specs.Graph.{graphOf, wordCount}
 use Rattle.graph.specs.Conditions.{placeCount}
@@ -35,25 +35,15 @@ use Rattle.search.proofs.Whole.{zeros-empty}
 
 -- ---- the work space
 
--- the first m of a cleared work space are zero
-take-zeros : (m n : ℕ) (l : List ℕ) → m ≤ n → take m (replicate n 0 ++ l) ≡ replicate m 0
-take-zeros zero n l h = refl
-take-zeros (suc m) zero l h = absurd (omega arith)
-take-zeros (suc m) (suc n) l h = ap (λ (z : List ℕ). 0 ∷ z) (take-zeros m n l (omega arith))
-
-front-zeros : (m n : ℕ) (w : List ℕ) → m ≤ n → take m (zeroed n w) ≡ replicate m 0
-unfolding zeroed
-front-zeros m n w h = take-zeros m n (drop n w) h
-
 -- the part that is lent is empty
 part-empty : (m : ℕ) (b w : List ℕ) → b ≡ cleared w → m ≤ 64000 → 64000 ≤ length w → Empty (take m b)
-part-empty m b w e k h j = rw (e, cleared-long w h, front-zeros m 64000 w k) (zeros-empty m j)
+part-empty m b w e k h j = rw (e, cleared-front m w k h) (zeros-empty m j)
 
 -- zero again, it leaves the work space cleared
 part-zeroed : (m : ℕ) (b w ys zs : List ℕ) → b ≡ cleared w → m ≤ 64000 → 64000 ≤ length w → length ys ≡ m
     → zs ≡ replicate (length (take m (ys ++ drop m b))) 0 → zs ++ drop m (ys ++ drop m b) ≡ cleared w
 part-zeroed m b w ys zs e k h long z =
-    let front : take m b ≡ replicate m 0 = rw (e, cleared-long w h) (front-zeros m 64000 w k) in
+    let front : take m b ≡ replicate m 0 = rw e (cleared-front m w k h) in
     let zeros : zs ≡ take m b =
     z ∙ ap (λ l. replicate {A = ℕ} (length l) 0) (take-at ys (drop m b) m long) ∙ ap (λ (i : ℕ). replicate {A = ℕ} i 0) long ∙ sym front in
     ap (λ l. zs ++ l) (drop-at ys (drop m b) m long) ∙ ap (λ l. l ++ drop m b) zeros ∙ take-append-drop m b ∙ e

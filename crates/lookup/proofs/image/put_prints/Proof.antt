@@ -1,90 +1,86 @@
+-- `image::put_prints` meets its contract: before each node those below it have their prints. The measure is the nodes
+-- left. Assumes nothing.
+use Prim.Native.Nat.{_+_, _-_, _*_, _≤_, _<_}
+use mathlib.Core.Path.{_≡_, refl}
+use native.Mathlib.Omega.{arith}
+use lib.ListN.{length, getD}
+use borrow.Author.Needs.{needs}
+use Rattle.voice.specs.Voice.{printByte}
+use Rattle.lexicon.specs.Lexicon.{nodeCount, nodeLetter, sinkOf}
+use Rattle.graph.proofs.Accepted.{accepted}
+use Rattle.checking.specs.Tables.{WellFormed}
+use Rattle.checking.proofs.Arcs.{shape-of}
+use Rattle.checking.proofs.Filling.{count-there}
+use Rattle.codes.specs.Steps.{Readable}
+use Rattle.codes.proofs.Words.{well-formed, readable}
+use Rattle.lookup.proofs.Prints.{PrintsBelow, table-countable, prints-start, prints-next, prints-done}
 use Rattle.lookup.proofs.image.put_prints.Statement.{statement}
 use Rattle.lookup.proofs.image.put_prints.Tie as tie
-use Rattle.lookup.proofs.image.put_prints.Reads as reads
-use Rattle.lookup.proofs.image.put_prints.Lts as lts
-use Rattle.lookup.proofs.image.number_at.Reads as number-at-reads
 
 abbrev Inv-loop : tie.InvT-loop
-Inv-loop voice lexicon vertices₀ nodes node₀ vertices node = ?
+Inv-loop voice lexicon vertices₀ nodes node₀ vertices node = PrintsBelow voice lexicon node vertices₀ vertices
 
 abbrev μ-loop : tie.MeasureT-loop
-μ-loop voice lexicon vertices₀ nodes node₀ vertices node = ?
+μ-loop voice lexicon vertices₀ nodes node₀ vertices node = nodes + 1 - node
 
--- src/image.rt:41:9
-number-at-requires : tie.Need-number-at-requires Inv-loop μ-loop
-number-at-requires c κs = ?
+formed : (s : tie.Start Inv-loop μ-loop) → WellFormed (s .args .lexicon .now)
+formed s = well-formed (accepted (s .pre .0))
 
--- src/image.rt:43:5
-loop-holds : tie.Need-loop-holds Inv-loop μ-loop
-loop-holds c = ?
+abbrev Counted : Type 0
+Counted = tie.After-number-at Inv-loop μ-loop
 
--- src/image.rt:44:30
-add-letter : tie.Need-add-letter Inv-loop μ-loop
-add-letter c = ?
+nodes : (c : Counted) → c .number-at .result ≡ nodeCount (c .before .before .before .args .lexicon .now)
+unfolding nodeCount
+nodes c = c .number-at .ensures .0
 
--- src/image.rt:44:22
-shared-slice-read-letter : tie.Need-shared-slice-read-letter Inv-loop μ-loop
-shared-slice-read-letter c = ?
+few : (s : tie.Start Inv-loop μ-loop) → nodeCount (s .args .lexicon .now) ≤ 400
+few s = shape-of (formed s) .few
 
--- src/image.rt:44:22
-cast-letter : tie.Need-cast-letter Inv-loop μ-loop
-cast-letter c = ?
+abbrev Turn : Type 0
+Turn = tie.In-loop Inv-loop μ-loop
 
--- src/image.rt:45:43
-mul-vertices : tie.Need-mul-vertices Inv-loop μ-loop
-mul-vertices c = ?
+abbrev start : Turn → tie.Start Inv-loop μ-loop
+start c = c .before .before .before .before .before
 
--- src/image.rt:45:39
-add-vertices : tie.Need-add-vertices Inv-loop μ-loop
-add-vertices c = ?
+high : (c : Turn) → c .before .loop .node ≤ nodeCount (start c .args .lexicon .now)
+high c = omega (arith, c .loop-test .taken, nodes (c .before .before))
 
--- src/image.rt:45:33
-shared-slice-read-vertices : tie.Need-shared-slice-read-vertices Inv-loop μ-loop
-shared-slice-read-vertices c = ?
+there : (c : Turn) → Readable (start c .args .voice .now) (start c .args .lexicon .now) (c .before .loop .node)
+unfolding sinkOf
+there c = readable (accepted (start c .pre .0)) (c .before .loop .inv .low) (omega (arith, high c))
 
--- src/image.rt:45:33
-cast-vertices : tie.Need-cast-vertices Inv-loop μ-loop
-cast-vertices c = ?
+inside : (c : Turn) →
+    let a = start c .args in 1 + 2 * getD (a .lexicon .now) (1 + c .before .loop .node) 0 < length (a .voice .now)
+unfolding nodeLetter
+inside c = there c .print
 
--- src/image.rt:45:9
-mul-vertices-2 : tie.Need-mul-vertices-2 Inv-loop μ-loop
-mul-vertices-2 c = ?
+abbrev turn : tie.After-shared-slice-known4 Inv-loop μ-loop → Turn
+turn c = c .before .before
 
--- src/image.rt:45:9
-index-1-vertices : tie.Need-index-1-vertices Inv-loop μ-loop
-index-1-vertices c = ?
+row : (c : Turn) → c .before .loop .node < 402
+row c = omega (arith, high c, few (start c))
 
--- src/image.rt:45:9
-index-2-vertices : tie.Need-index-2-vertices Inv-loop μ-loop
-index-2-vertices c = ?
+letter : (c : tie.After-shared-slice-known3 Inv-loop μ-loop) →
+    getD (start (c .before) .args .lexicon .now) (1 + c .before .before .loop .node) 0 < 256
+letter c = omega (arith, c .shared-slice-known3 .given (1 + c .before .before .loop .node))
 
--- src/image.rt:46:9
-add-node : tie.Need-add-node Inv-loop μ-loop
-add-node c = ?
-
--- src/image.rt:43:5
-loop-less : tie.Need-loop-less Inv-loop μ-loop
-loop-less c = ?
-
--- src/image.rt:43:5
 loop-again : tie.Need-loop-again Inv-loop μ-loop
-loop-again c = ?
+unfolding printByte nodeLetter
+loop-again c =
+    let s = start (turn c) in
+    prints-next (turn c .before .loop .inv) (few s) _ (high (turn c)) refl
+    (omega (arith, c .shared-slice-known4 .given
+    (1 + 2 * getD (s .args .lexicon .now) (1 + turn c .before .loop .node) 0)))
 
--- src/image.rt:48:5
-mul-vertices-3 : tie.Need-mul-vertices-3 Inv-loop μ-loop
-mul-vertices-3 c = ?
+last : (c : tie.After-loop Inv-loop μ-loop) → c .before .loop .node < 402
+last c =
+    let s = c .before .before .before .before .before in omega (arith, c .before .loop .inv .high, few s)
 
--- src/image.rt:48:5
-index-1-vertices-2 : tie.Need-index-1-vertices-2 Inv-loop μ-loop
-index-1-vertices-2 c = ?
-
--- src/image.rt:48:5
-index-2-vertices-2 : tie.Need-index-2-vertices-2 Inv-loop μ-loop
-index-2-vertices-2 c = ?
-
--- src/image.rt:37:1
 returns : tie.Need-returns Inv-loop μ-loop
-returns c = ?
+returns c =
+    let s = c .before .before .before .before .before in
+    prints-done (c .before .loop .inv) (few s) 256 (omega (arith, c .loop-test .left, nodes (c .before .before))) refl
+    (table-countable _ (s .pre .0) (s .pre .1))
 
 pub put-prints-spec : {M : Type 1} → statement M
 put-prints-spec =
@@ -92,22 +88,23 @@ put-prints-spec =
     (tie.spec
     Inv-loop
     μ-loop
-    number-at-requires
-    loop-holds
-    add-letter
-    shared-slice-read-letter
-    cast-letter
-    mul-vertices
-    add-vertices
-    shared-slice-read-vertices
-    cast-vertices
-    mul-vertices-2
-    index-1-vertices
-    index-2-vertices
-    add-node
-    loop-less
+    (λ c κs. count-there (formed (c .before .before)))
+    (λ c. prints-start _ (c .before .before .before .pre .1))
+    (λ c. omega (arith, row c))
+    (λ c. there (c .before) .letter)
+    (λ c. omega (arith, letter c))
+    (λ c. omega (arith, letter c))
+    (λ c. omega (arith, letter c))
+    (λ c. inside (turn c))
+    (λ c. omega (arith, c .shared-slice-known4 .given
+        (1 + 2 * getD (start (turn c) .args .lexicon .now) (1 + turn c .before .loop .node) 0)))
+    (λ c. omega (arith, row (turn c)))
+    (λ c. row (turn c))
+    (λ c. search needs)
+    (λ c. omega (arith, row (turn c)))
+    (λ c. omega (arith, turn c .loop-test .taken))
     loop-again
-    mul-vertices-3
-    index-1-vertices-2
-    index-2-vertices-2
+    (λ c. omega (arith, last c))
+    last
+    (λ c. search needs)
     returns)

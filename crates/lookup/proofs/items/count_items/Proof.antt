@@ -1,65 +1,21 @@
+-- `items::count_items` meets its contract: the items before an offset are counted, and none of them runs past the end.
+-- The measure is the bytes left. Assumes nothing.
+use Prim.Native.Nat.{_-_, _<_}
+use native.Mathlib.Omega.{arith}
+use lib.ListN.{length, getD}
+use Rattle.lookup.proofs.Stock.{Counting, count-start, count-many, count-past, count-next, count-done}
 use Rattle.lookup.proofs.items.count_items.Statement.{statement}
 use Rattle.lookup.proofs.items.count_items.Tie as tie
-use Rattle.lookup.proofs.items.count_items.Reads as reads
-use Rattle.lookup.proofs.items.count_items.Lts as lts
 
 abbrev Inv-loop : tie.InvT-loop
-Inv-loop items at₀ count₀ at count = ?
+Inv-loop items at₀ count₀ at count = Counting items at count
 
 abbrev μ-loop : tie.MeasureT-loop
-μ-loop items at₀ count₀ at count = ?
+μ-loop items at₀ count₀ at count = length items - at
 
--- src/items.rt:31:5
-loop-holds : tie.Need-loop-holds Inv-loop μ-loop
-loop-holds c = ?
-
--- src/items.rt:32:23
-shared-slice-read-letters : tie.Need-shared-slice-read-letters Inv-loop μ-loop
-shared-slice-read-letters c = ?
-
--- src/items.rt:32:23
-cast-letters : tie.Need-cast-letters Inv-loop μ-loop
-cast-letters c = ?
-
--- src/items.rt:34:13
-returns : tie.Need-returns Inv-loop μ-loop
-returns c = ?
-
--- src/items.rt:36:12
-sub-if2 : tie.Need-sub-if2 Inv-loop μ-loop
-sub-if2 c = ?
-
--- src/items.rt:36:12
-sub-if2-2 : tie.Need-sub-if2-2 Inv-loop μ-loop
-sub-if2-2 c = ?
-
--- src/items.rt:37:13
-returns-2 : tie.Need-returns-2 Inv-loop μ-loop
-returns-2 c = ?
-
--- src/items.rt:39:15
-add-at : tie.Need-add-at Inv-loop μ-loop
-add-at c = ?
-
--- src/items.rt:39:9
-add-at-2 : tie.Need-add-at-2 Inv-loop μ-loop
-add-at-2 c = ?
-
--- src/items.rt:40:9
-add-count : tie.Need-add-count Inv-loop μ-loop
-add-count c = ?
-
--- src/items.rt:31:5
-loop-less : tie.Need-loop-less Inv-loop μ-loop
-loop-less c = ?
-
--- src/items.rt:31:5
-loop-again : tie.Need-loop-again Inv-loop μ-loop
-loop-again c = ?
-
--- src/items.rt:26:1
-returns-3 : tie.Need-returns-3 Inv-loop μ-loop
-returns-3 c = ?
+letters : (c : tie.After-shared-slice-known Inv-loop μ-loop) →
+    getD (c .before .before .before .args .items .now) (c .before .before .loop .at) 0 < 256
+letters c = omega (arith, c .shared-slice-known .given (c .before .before .loop .at))
 
 pub count-items-spec : {M : Type 1} → statement M
 count-items-spec =
@@ -67,16 +23,15 @@ count-items-spec =
     (tie.spec
     Inv-loop
     μ-loop
-    loop-holds
-    shared-slice-read-letters
-    cast-letters
-    returns
-    sub-if2
-    sub-if2-2
-    returns-2
-    add-at
-    add-at-2
-    add-count
-    loop-less
-    loop-again
-    returns-3)
+    (λ c. count-start _)
+    (λ c. omega (arith, c .loop-test .taken, c .before .before .good .0))
+    (λ c. c .before .loop-test .taken)
+    (λ c. omega (arith, letters c))
+    (λ c. omega (arith, letters c, c .before .loop-test .taken, c .before .before .before .good .0))
+    (λ c. let l = c .before .before in count-many (l .before .loop .inv) (l .loop-test .taken) (c .if1 .taken))
+    (λ c. let l = c .before .before .before in count-past (l .before .loop .inv) (l .loop-test .taken) (c .if2 .taken))
+    (λ c. omega (arith, c .before .before .before .before .loop .inv .few))
+    (λ c. omega (arith, c .if2 .left, c .before .before .before .loop-test .taken))
+    (λ c. let l = c .before .before .before in
+        count-next (l .before .loop .inv) (l .loop-test .taken) (c .before .if1 .left) (c .if2 .left))
+    (λ c. count-done (c .before .loop .inv) (c .loop-test .left)))
