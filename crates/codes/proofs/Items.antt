@@ -8,9 +8,10 @@ use mathlib.Core.List.{Memᴰ·append-right, List·Memᴰ·cases-cons as cases, 
 use native.Mathlib.Omega.{arith}
 use lib.ListN.{length, take, drop, length-drop, take-append-drop}
 use lib.Dec.{ltb}
-use Rattle.endian.specs.Bytes.{Bytes}
+use Rattle.endian.specs.Bytes.{Bytes, u32Bytes}
 use Rattle.endian.proofs.Lists.{take-out}
-use Rattle.codes.specs.Items.{itemsWithin, pastWithin, itemsOf, runsPast}
+use Rattle.call.specs.Table.{Answer, value, refused}
+use Rattle.codes.specs.Items.{itemsWithin, pastWithin, itemsOf, runsPast, answerBytes}
 
 -- ---- one after the other
 
@@ -79,3 +80,10 @@ within-bytes (suc n) (k ∷ bytes) low {word} m =
 pub item-bytes : (bytes : List ℕ) → Bytes bytes → {word : List ℕ} → List·Memᴰ word (itemsOf bytes) → Bytes word
 unfolding itemsOf
 item-bytes bytes low m = within-bytes (length bytes) bytes low m
+
+-- ---- an answer takes 8 bytes
+
+pub length-answer : (a : Answer ℕ) → length (answerBytes a) ≡ 8
+unfolding answerBytes u32Bytes
+length-answer (value code) = refl
+length-answer (refused r) = refl

@@ -13,3 +13,4 @@ pub mod Totals
 pub mod Whole
 pub mod Slots
 pub mod Items
+pub mod Stock

@@ -15,10 +15,10 @@ use Rattle.endian.specs.Lists.{from, same, first, isNone}
 use Rattle.endian.proofs.Lists.{mem-getD, first-none, first-at, same-eq, same-refl, from-out, flatMap-cong, flatMap-map, by-index}
 use Rattle.endian.proofs.Search.{Passing}
 use Rattle.call.specs.declared.Refusal.the-variants.{NoWord, Code, Output}
-use Rattle.call.specs.Table.{value, on, noneApplies, unless}
+use Rattle.call.specs.Table.{value, refused, on, noneApplies, unless}
 use Rattle.call.specs.Limits.{badCode}
 use Rattle.call.specs.Buffers.{spaceRows, written}
-use Rattle.call.proofs.Table.{none-join, none-parts, none-says, passed-none, unless-value, value-passed}
+use Rattle.call.proofs.Table.{none-join, none-parts, none-says, passed-none, unless-past, unless-value, value-passed}
 use Rattle.voice.specs.Voice.{letterCount}
 use Rattle.graph.specs.Graph.{graphOf, fullPaths, pathCode, wordCount}
 use Rattle.graph.specs.Words.{wordOfPath, LexiconWord, pathOfWord, codeOf, wordOfCode}
@@ -154,7 +154,7 @@ module _ (v x work : List ℕ) where
       (none-join (firstRows v x work) _ h (passed-none _ (lt-leb _ _ below, (le-ltb _ _ fits, tt))))
 
   -- nor of word to code to a lexicon word
-  word-found : (word : List ℕ) → noneApplies (firstRows v x work) ≡ true → LexiconWord v (graphOf x) word
+  pub word-found : (word : List ℕ) → noneApplies (firstRows v x work) ≡ true → LexiconWord v (graphOf x) word
       → wordToCodeAnswer v x word work ≡ value (codeOf (graphOf x) (pathOfWord v (graphOf x) word))
   unfolding wordToCodeAnswer wordToCodeRows
   word-found word h w =
@@ -165,6 +165,13 @@ module _ (v x work : List ℕ) where
           → isNone (pathOfWord v (graphOf x) word) ≡ false
       there-is true e = absurd (nowhere v x (images-of h) word .0 e w)
       there-is false e = e
+
+  -- and 13 applies to every other
+  pub word-missing : (word : List ℕ) → noneApplies (firstRows v x work) ≡ true → ¬ LexiconWord v (graphOf x) word
+      → wordToCodeAnswer v x word work ≡ refused NoWord
+  unfolding wordToCodeAnswer wordToCodeRows unless
+  word-missing word h n =
+      unless-past (firstRows v x work) _ _ h ∙ rw (nowhere v x (images-of h) word .1 n) refl
 
 pub word-comes-back : WordComesBack
 unfolding wordToCodeAnswer wordToCodeRows codeToWordOut written

@@ -11,9 +11,10 @@ use Rattle.call.specs.Buffers.{cleared, written}
 use Rattle.graph.specs.Checking.{firstRows}
 use Rattle.codes.specs.Lookup.{wordToCodeAnswer}
 
--- ---- the items: each is a length byte and that many letters
+-- ---- the items: each is a length byte and that many letters, as print bytes
 
--- the letters of each, of at most so many items; one that runs past the end has the letters that are there
+-- The letters of each item. The first number only lets the reading end: every item takes a byte at least, so there are
+-- no more items than bytes. An item that runs past the end, which 19 refuses, has the letters that are there.
 unfoldable pub itemsWithin : ℕ → List ℕ → List (List ℕ)
 itemsWithin zero bytes = []
 itemsWithin (suc n) [] = []
@@ -25,7 +26,7 @@ pastWithin zero bytes = false
 pastWithin (suc n) [] = false
 pastWithin (suc n) (k ∷ bytes) = ltb (length bytes) k || pastWithin n (drop k bytes)
 
--- of all items: each has its length byte, so they are no more than the bytes
+-- all items
 unfoldable pub itemsOf : List ℕ → List (List ℕ)
 itemsOf bytes = itemsWithin (length bytes) bytes
 
@@ -38,17 +39,19 @@ badItems bytes = runsPast bytes || ltb 1000 (length (itemsOf bytes))
 
 -- ---- what is written
 
--- for each item, in 8 bytes: u32 refusal number or 0, and u32 code or 0
+-- for each item, in 8 bytes: u32 refusal number or 0, and u32 code or 0; 0 and 0 is a word found, with code 0
 unfoldable pub answerBytes : Answer ℕ → List ℕ
 answerBytes (value code) = u32Bytes 0 ++ u32Bytes code
 answerBytes (refused r) = u32Bytes (number r) ++ u32Bytes 0
 
--- every item is answered as if looked up by itself
+-- Every item is answered as if looked up by itself. Where the call writes, no row of 1 to 10 applies, so an item's
+-- refusal is 13 or none; it doesn't stop the items after it.
 unfoldable pub itemAnswers : List ℕ → List ℕ → List ℕ → List ℕ → List ℕ
 itemAnswers v x items work = flatMap (λ word. answerBytes (wordToCodeAnswer v x word work)) (itemsOf items)
 
 -- ---- the call: it answers the number of items, found or not
 
+-- 1 to 10 as in every call with a lexicon, an empty list too; 19 after 12, so before 16
 unfoldable pub wordsToCodesRows : List ℕ → List ℕ → List ℕ → List ℕ → List ℕ → List Row
 wordsToCodesRows v x items work out =
     firstRows v x work

@@ -1,5 +1,6 @@
 pub mod Lookup
 pub mod Items
+pub mod Stock
 pub mod Theorems
 pub mod Steps
 pub mod Lines

@@ -9,14 +9,13 @@ use lib.ListN.{length, getD, take, drop, length-append, length-drop, drop-of-len
 use lib.Seq.{sets, sets-eq, length-sets, drop-cons, drop-append-add, take-append-seam, drop-drop, append-snoc}
 use lib.Dec.{ltb}
 use borrow.Author.Tests.{lt-ltb, le-ltb, ltb-false}
-use Rattle.endian.specs.Bytes.{u32Bytes}
 use Rattle.endian.proofs.Booleans.{or-none}
 use Rattle.endian.proofs.Lists.{flatMap-append}
 use Rattle.call.specs.declared.Refusal.the-variants.{Items}
-use Rattle.call.specs.Table.{Answer, value, refused, on, unless}
+use Rattle.call.specs.Table.{value, refused, on, unless}
 use Rattle.graph.specs.Graph.{Graph}
 use Rattle.codes.specs.Items.{itemsOf, runsPast, badItems, answerBytes}
-use Rattle.codes.proofs.Items.{items-none, past-none, items-next, past-next}
+use Rattle.codes.proofs.Items.{items-none, past-none, items-next, past-next, length-answer}
 use Rattle.lookup.specs.Seeking.{soughtAnswer}
 use Rattle.lookup.specs.Items.{countAnswer, soughtBytes}
 
@@ -100,12 +99,6 @@ module _ {items : List ℕ} {at count : ℕ} (c : Counting items at count) where
       rw (c .past, e, past-none, n, le-ltb 1000 count (c .few)) refl
 
 -- ---- answering
-
--- an answer takes 8 bytes
-length-answer : (a : Answer ℕ) → length (answerBytes a) ≡ 8
-unfolding answerBytes u32Bytes
-length-answer (value code) = refl
-length-answer (refused r) = refl
 
 -- bytes written behind those that are there already
 bytes-more : (done more out₀ : List ℕ) {out : List ℕ} {n : ℕ} → length done ≡ n → out ≡ done ++ drop n out₀

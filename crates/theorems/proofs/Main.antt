@@ -38,7 +38,11 @@ use Rattle.packing.proofs.Theorems.{pack-numbers, unpack-numbers}
 use Rattle.codes.specs.Lookup.{wordToCodeRows, wordToCodeAnswer, wordToCodeWork}
 use Rattle.codes.specs.Lookup.{codeToWordRows, codeToWordAnswer, codeToWordOut, codeToWordWork}
 use Rattle.codes.specs.Lookup.{listing, listRows, listAnswer, listOut, listWork}
-use Rattle.codes.proofs.Rows.{word-to-code-numbers, code-to-word-numbers, list-numbers}
+use Rattle.codes.specs.Items.{itemsOf, itemAnswers, wordsToCodesRows, wordsToCodesAnswer, wordsToCodesOut}
+use Rattle.codes.specs.Items.{wordsToCodesWork}
+use Rattle.codes.specs.Stock.{ItemsRead, StockAnswered, StockLeft}
+use Rattle.codes.proofs.Rows.{word-to-code-numbers, code-to-word-numbers, list-numbers, words-to-codes-numbers}
+use Rattle.codes.proofs.Stock.{items-read, stock-answered, stock-left}
 use Rattle.codes.specs.Theorems.{WordComesBack, CodeComesBack}
 use Rattle.codes.proofs.Theorems.{code-theorems, word-comes-back, code-comes-back}
 use Rattle.canonical.specs.Canonical.{sortedWords, wordsGraph, canonicalImage, canonicalRows, canonicalAnswer}
@@ -74,19 +78,23 @@ module _ (v x : List ℕ) where
 
   -- ---- Demand 1: any call, whatever it is given
 
-  module _ (frames word work further out codes bytes : List ℕ) (n c W T : ℕ) (score : ℤ) where
-    -- A call (`check`, `word_to_code`, `code_to_word`, `list`, `decode`, `canonical`; `pack`, `unpack`, `width`,
-    -- `mean`) answers its value where no row of its table applies, else the first refusal that applies: with a lexicon,
+  module _ (frames word items work further out codes bytes : List ℕ) (n c W T : ℕ) (score : ℤ) where
+    -- A call (`check`, `word_to_code`, `words_to_codes`, `code_to_word`, `list`, `decode`, `canonical`; `pack`,
+    -- `unpack`, `width`, `mean`) answers its value where no row of its table applies, else the first refusal that
+    -- applies: with a lexicon,
     lexicon-calls-answer :
         AnswersBy (firstRows v x work) (wordCount g) (checkAnswer v x work)
         × AnswersBy (wordToCodeRows v x word work) (codeOf g (pathOfWord v g word)) (wordToCodeAnswer v x word work)
+        × AnswersBy (wordsToCodesRows v x items work out) (length (itemsOf items))
+        (wordsToCodesAnswer v x items work out)
         × AnswersBy (codeToWordRows v x c work out) (length (wordOfCode v g c)) (codeToWordAnswer v x c work out)
         × AnswersBy (listRows v x work out) (length (listing v g)) (listAnswer v x work out)
         × AnswersBy (decodeRows v x frames n work out) (length (hits v g frames n)) (decodeAnswer v x frames n work out)
         × AnswersBy (canonicalRows v x work further out) (length (canonicalImage v x))
         (canonicalAnswer v x work further out)
-    unfolding checkAnswer wordToCodeAnswer codeToWordAnswer listAnswer decodeAnswer canonicalAnswer
-    lexicon-calls-answer = (answers-by, answers-by, answers-by, answers-by, answers-by, answers-by)
+    unfolding checkAnswer wordToCodeAnswer wordsToCodesAnswer codeToWordAnswer listAnswer decodeAnswer canonicalAnswer
+    lexicon-calls-answer =
+        (answers-by, answers-by, answers-by, answers-by, answers-by, answers-by, answers-by)
 
     -- and without one.
     other-calls-answer :
@@ -98,10 +106,12 @@ module _ (v x : List ℕ) where
     other-calls-answer = (answers-by, answers-by, answers-by, answers-by)
 
     -- The order in which refusals are tested. In the tables of document 01 it rises, so the first refusal that applies
-    -- is the lowest; the canonical writer tests 17 and 18 directly after 10, and 16 after them.
+    -- is the lowest; the canonical writer tests 17 and 18 directly after 10, and 16 after them, and a stock list is
+    -- tested for 19 before 16.
     numbers-tested :
         (numbers (firstRows v x work) ≡ from 1 10)
         × (numbers (wordToCodeRows v x word work) ≡ from 1 10 ++ 13 ∷ [])
+        × (numbers (wordsToCodesRows v x items work out) ≡ from 1 10 ++ 19 ∷ 16 ∷ [])
         × (numbers (codeToWordRows v x c work out) ≡ from 1 10 ++ 15 ∷ 16 ∷ [])
         × (numbers (listRows v x work out) ≡ from 1 10 ++ 16 ∷ [])
         × (numbers (decodeRows v x frames n work out) ≡ from 1 12 ++ 16 ∷ [])
@@ -112,6 +122,7 @@ module _ (v x : List ℕ) where
     numbers-tested = (
       check-numbers v x work,
       word-to-code-numbers v x work word,
+      words-to-codes-numbers v x work items out,
       code-to-word-numbers v x work c out,
       list-numbers v x work out,
       decode-numbers v x frames work out n,
@@ -122,7 +133,9 @@ module _ (v x : List ℕ) where
 
     -- A value comes with its bytes at the output's start, later ones unchanged; a refusal leaves the output unchanged.
     output-left :
-        Writes (codeToWordAnswer v x c work out) (wordOfCode v g c) out (codeToWordOut v x c work out)
+        Writes (wordsToCodesAnswer v x items work out) (itemAnswers v x items work) out
+        (wordsToCodesOut v x items work out)
+        × Writes (codeToWordAnswer v x c work out) (wordOfCode v g c) out (codeToWordOut v x c work out)
         × Writes (listAnswer v x work out) (listing v g) out (listOut v x work out)
         × Writes (decodeAnswer v x frames n work out) (hitBytes (hits v g frames n)) out
         (decodeOut v x frames n work out)
@@ -130,17 +143,17 @@ module _ (v x : List ℕ) where
         × Writes (unpackAnswer W n bytes out) (flatMap u32Bytes (unpacked (width W) n bytes)) out
         (unpackOut W n bytes out)
         × Writes (canonicalAnswer v x work further out) (canonicalImage v x) out (canonicalOut v x work further out)
-    unfolding codeToWordOut listOut decodeOut packOut unpackOut canonicalOut
-    output-left = (writes, writes, writes, writes, writes, writes)
+    unfolding wordsToCodesOut codeToWordOut listOut decodeOut packOut unpackOut canonicalOut
+    output-left = (writes, writes, writes, writes, writes, writes, writes)
 
     -- Refusal 1 leaves the work space as it was; after any other call its first 64,000 bytes are zero, the rest kept. A
     -- further work space likewise, with its first 262,144 bytes; where either is too short, both stay as they were.
     work-left :
         Clears work (checkWork v x work) × Clears work (wordToCodeWork v x word work)
-        × Clears work (codeToWordWork v x c work) × Clears work (listWork v x work)
-        × Clears work (decodeWork v x frames n work)
+        × Clears work (wordsToCodesWork v x items work) × Clears work (codeToWordWork v x c work)
+        × Clears work (listWork v x work) × Clears work (decodeWork v x frames n work)
         × ClearsBoth work further (canonicalWork work further) (canonicalFurther work further)
-    work-left = (clears, clears, clears, clears, clears, clears-both)
+    work-left = (clears, clears, clears, clears, clears, clears, clears-both)
 
   -- ---- Demand 2: any accepted voice model and lexicon
 
@@ -224,6 +237,21 @@ module _ (v x : List ℕ) where
 -- The same of the calls: what one has answered, the other takes back.
 calls-undo : WordComesBack × CodeComesBack
 calls-undo = (word-comes-back, code-comes-back)
+
+-- ---- A stock list of words in one call
+
+-- The items of a list are the words that it is written from, a length byte and that many letters each.
+stock-items : (items : List ℕ) → ItemsRead items
+stock-items = items-read
+
+-- The call answers k exactly where the list is written from k words, at most 1,000, the images are accepted, the work
+-- space is long enough, and there is room for 8 bytes a word.
+stock-answers : StockAnswered
+stock-answers = stock-answered
+
+-- It then leaves for word i the eight bytes of a call of word to code with that word alone: 0 and its code, or 13 and 0.
+stock-leaves : StockLeft
+stock-leaves = stock-left
 
 -- ---- One image for one list: lexicons that are accepted, with at most 2,000 words, 16,000 letters in all, and whose
 -- canonical image keeps the limits on nodes, arcs and places

@@ -21,8 +21,11 @@ use Rattle.graph.specs.Checking.{Accepted, imageRows, firstRows, checkAnswer}
 use Rattle.graph.proofs.Accepted.{accepted, sound-images, passed, words-limit}
 use Rattle.canonical.specs.Canonical.{canonicalAnswer}
 use Rattle.canonical.proofs.Rows.{canonical-short}
-use Rattle.codes.specs.Lookup.{wordToCodeRows, wordToCodeAnswer, codeToWordRows, codeToWordAnswer, listing, listRows, listAnswer}
+use Rattle.codes.specs.Lookup.{wordToCodeRows, wordToCodeAnswer, codeToWordRows, codeToWordAnswer}
+use Rattle.codes.specs.Lookup.{listing, listRows, listAnswer}
+use Rattle.codes.specs.Items.{wordsToCodesAnswer}
 use Rattle.codes.proofs.Theorems.{code-theorems}
+use Rattle.codes.proofs.Stock.{stock-few}
 use Rattle.codes.proofs.Words.{word-short}
 use Rattle.codes.proofs.Sizes.{listing-size, arcs-most}
 use Rattle.decoder.specs.Decoding.{hits, row, decodeAnswer}
@@ -70,6 +73,12 @@ word-to-code-fits v x word work = record {
       let r = none-parts (firstRows v x work) _ (p .0) in
       let h = images-accepted v x work (r .0) in
       omega (arith, p .1, words-limit (accepted h), code-limit v x h word (none-says _ (r .1) .0));
+}
+
+-- at most 1,000 items
+pub words-to-codes-fits : (v x items work out : List ℕ) → FitsInt (wordsToCodesAnswer v x items work out)
+words-to-codes-fits v x items work out = record {
+  below = λ k e. omega (arith, stock-few v x items work out k e);
 }
 
 pub code-to-word-fits : (v x : List ℕ) (code : ℕ) (work out : List ℕ) → FitsInt (codeToWordAnswer v x code work out)

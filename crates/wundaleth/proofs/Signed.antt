@@ -6,7 +6,9 @@ use native.Mathlib.Omega.{arith}
 use lib.IntN.{ℤ, pos, negsuc, negℤ}
 use lib.Signed.{mag}
 use Rattle.call.specs.declared.Refusal.{Refusal}
-use Rattle.call.specs.declared.Refusal.the-variants.{WorkSpace, VoiceLength, VoiceRange, LexiconLength, LexiconRange, Orphan, Places, LongWord, WordCount, SameLetters, Frames, Count, NoWord, Packed, Code, Output, WordList, CanonicalImage}
+use Rattle.call.specs.declared.Refusal.the-variants.{WorkSpace, VoiceLength, VoiceRange, LexiconLength, LexiconRange}
+use Rattle.call.specs.declared.Refusal.the-variants.{Orphan, Places, LongWord, WordCount, SameLetters, Frames, Count}
+use Rattle.call.specs.declared.Refusal.the-variants.{NoWord, Packed, Code, Output, WordList, CanonicalImage, Items}
 use Rattle.call.specs.Table.{Answer, value, refused, number, signedAnswer}
 
 from-one : (r : Refusal) → 1 ≤ number r
@@ -28,6 +30,7 @@ from-one Code = omega arith
 from-one Output = omega arith
 from-one WordList = omega arith
 from-one CanonicalImage = omega arith
+from-one Items = omega arith
 
 abbrev isPositive : ℤ → Bool
 isPositive (pos n) = true

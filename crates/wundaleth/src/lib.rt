@@ -4,7 +4,9 @@ ghost use mathlib.Core.Path.{_≡_};
 ghost use lib.IntN.{pos};
 ghost use Rattle.call.specs.Table.{answerOf, signedAnswer};
 ghost use Rattle.graph.specs.Checking.{checkAnswer, checkWork};
-ghost use Rattle.codes.specs.Lookup.{wordToCodeAnswer, wordToCodeWork, codeToWordAnswer, codeToWordWork, codeToWordOut, listAnswer, listOut, listWork};
+ghost use Rattle.codes.specs.Lookup.{wordToCodeAnswer, wordToCodeWork, codeToWordAnswer, codeToWordWork};
+ghost use Rattle.codes.specs.Lookup.{codeToWordOut, listAnswer, listOut, listWork};
+ghost use Rattle.codes.specs.Items.{wordsToCodesAnswer, wordsToCodesWork, wordsToCodesOut};
 ghost use Rattle.canonical.specs.Canonical.{canonicalAnswer, canonicalOut, canonicalWork, canonicalFurther};
 ghost use Rattle.decoder.specs.Decoding.{decodeAnswer, decodeOut, decodeWork};
 ghost use Rattle.decoder.specs.Demand.{ListsHits};
@@ -15,8 +17,9 @@ use call::Answer;
 use checking::check;
 use codes::code_to_word;
 use codes::list;
-use codes::word_to_code;
 use decoding::decode;
+use lookup::word_to_code;
+use lookup::words_to_codes;
 use packing::pack;
 use packing::unpack;
 
@@ -55,6 +58,26 @@ pub extern "C" fn wundaleth_word_to_code(
     ensures { λ _. ⌜ now (work .exit) ≡ wordToCodeWork (now (voice .entry)) (now (lexicon .entry)) (now (word .entry)) (now (work .entry)) ⌝ }
 {
     signed_of(word_to_code(voice, lexicon, word, work))
+}
+
+// Looks up each item of a stock list, writes u32 refusal number or 0 and u32 code or 0 for each, and answers the number
+// of items, found or not.
+#[no_mangle]
+pub extern "C" fn wundaleth_words_to_codes(
+    voice: &[u8],
+    lexicon: &[u8],
+    items: &[u8],
+    work: &mut [u8],
+    out: &mut [u8],
+) -> i32
+    ensures { λ r. ⌜ r ≡ signedAnswer (wordsToCodesAnswer (now (voice .entry)) (now (lexicon .entry))
+        (now (items .entry)) (now (work .entry)) (now (out .entry))) ⌝ }
+    ensures { λ _. ⌜ now (work .exit) ≡ wordsToCodesWork (now (voice .entry)) (now (lexicon .entry))
+        (now (items .entry)) (now (work .entry)) ⌝ }
+    ensures { λ _. ⌜ now (out .exit) ≡ wordsToCodesOut (now (voice .entry)) (now (lexicon .entry)) (now (items .entry))
+        (now (work .entry)) (now (out .entry)) ⌝ }
+{
+    signed_of(words_to_codes(voice, lexicon, items, work, out))
 }
 
 // Writes the word of a code, as print bytes, and answers the bytes written.
