@@ -1,10 +1,12 @@
-//! The functions that bench/codes times, of the library and of bench/plain_codes.c, called with slices.
+//! The functions that bench/codes and bench/stock time, of the library and of bench/plain_codes.c, called with slices.
 
 #[path = "../include/wundaleth.rs"]
 mod wundaleth;
 
 use crate::inputs::Input;
-use wundaleth::{wundaleth_check, wundaleth_code_to_word, wundaleth_word_to_code};
+use wundaleth::{
+    wundaleth_check, wundaleth_code_to_word, wundaleth_word_to_code, wundaleth_words_to_codes,
+};
 
 type Check = unsafe extern "C" fn(*const u8, usize, *const u8, usize, *mut u8, usize) -> i32;
 type WordToCode = unsafe extern "C" fn(
@@ -13,6 +15,18 @@ type WordToCode = unsafe extern "C" fn(
     *const u8,
     usize,
     *const u8,
+    usize,
+    *mut u8,
+    usize,
+) -> i32;
+type WordsToCodes = unsafe extern "C" fn(
+    *const u8,
+    usize,
+    *const u8,
+    usize,
+    *const u8,
+    usize,
+    *mut u8,
     usize,
     *mut u8,
     usize,
@@ -40,6 +54,18 @@ extern "C" {
         word_len: usize,
         w: *mut u8,
         wn: usize,
+    ) -> i32;
+    fn plain_words_to_codes(
+        v: *const u8,
+        vn: usize,
+        l: *const u8,
+        ln: usize,
+        items: *const u8,
+        items_len: usize,
+        w: *mut u8,
+        wn: usize,
+        out: *mut u8,
+        out_len: usize,
     ) -> i32;
     fn plain_code_to_word(
         v: *const u8,
@@ -99,6 +125,35 @@ pub fn word_to_code(side: Side, input: &Input, word: &[u8], work: &mut [u8]) -> 
             word.len(),
             work.as_mut_ptr(),
             work.len(),
+        )
+    }
+}
+
+/// The items as the call takes them, a length byte before each.
+pub fn words_to_codes(
+    side: Side,
+    input: &Input,
+    items: &[u8],
+    work: &mut [u8],
+    out: &mut [u8],
+) -> i32 {
+    let call: WordsToCodes = match side {
+        Side::Product => wundaleth_words_to_codes,
+        Side::Plain => plain_words_to_codes,
+    };
+    let (v, l) = (&input.voice, &input.lexicon);
+    unsafe {
+        call(
+            v.as_ptr(),
+            v.len(),
+            l.as_ptr(),
+            l.len(),
+            items.as_ptr(),
+            items.len(),
+            work.as_mut_ptr(),
+            work.len(),
+            out.as_mut_ptr(),
+            out.len(),
         )
     }
 }
@@ -187,4 +242,5 @@ mod marisa {
 }
 
 #[cfg(marisa)]
+#[allow(unused_imports)] // bench/stock looks up words only
 pub use marisa::{marisa_find_code, marisa_find_word, marisa_trie};

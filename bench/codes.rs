@@ -1,6 +1,7 @@
 //! Times the product's word to code and code to word beside the plain ones: whole calls on the same words, call about call,
-//! and the plain lookups alone beside a marisa trie. Prints medians.
+//! and the plain lookups alone beside a marisa trie. Prints medians. bench/stock times lists of words.
 
+#[allow(dead_code)]
 mod calls;
 #[allow(dead_code)]
 #[path = "../tests/running/draw.rs"]
@@ -24,6 +25,8 @@ use random::Random;
 use std::time::Instant;
 
 const SAMPLES: usize = 301;
+/// Microseconds that word to code may take more than checking, even where the plain one takes less than half of that.
+const ALLOWED: f64 = 2.0;
 /// Lookups alone are timed in rows of so many.
 const ROW: usize = 4_096;
 const ROWS: usize = 11;
@@ -65,7 +68,14 @@ fn compare(input: &Input, entries: &[Entry], work: &mut [u8]) {
 }
 
 /// Of the product and of the plain one: the calls' medians, their ratio, and what the calls take more than checks do.
-fn print_row(name: &str, direction: &str, calls: [Vec<f64>; 2], checks: &[Vec<f64>; 2]) {
+/// Where so much is allowed at least, also what the product may take more: that, or twice what the plain one does.
+fn print_row(
+    name: &str,
+    direction: &str,
+    calls: [Vec<f64>; 2],
+    checks: &[Vec<f64>; 2],
+    allowed: Option<f64>,
+) {
     let more = |k: usize| {
         let differences = calls[k].iter().zip(&checks[k]);
         median(differences.map(|(call, check)| call - check).collect())
@@ -74,7 +84,11 @@ fn print_row(name: &str, direction: &str, calls: [Vec<f64>; 2], checks: &[Vec<f6
     let [product, plain] = calls.map(median);
     let ratio = product / plain;
     print!("  {name:<20}{direction:<14}{product:>12.1}{plain:>10.1}{ratio:>8.2}");
-    println!("{:>16.1}{:>12.1}", more[0], more[1]);
+    print!("{:>16.2}{:>12.2}", more[0], more[1]);
+    match allowed {
+        Some(least) => println!("{:>10.2}", least.max(2.0 * more[1])),
+        None => println!(),
+    }
 }
 
 /// Whole calls in both directions with these words. A check of the same side goes before, untimed, so that neither side
@@ -92,8 +106,8 @@ fn time_calls(name: &str, input: &Input, entries: &[Entry], work: &mut [u8]) {
             to_word[k].push(timed(|| code_to_word(side, input, *code, work, &mut out)));
         }
     }
-    print_row(name, "word to code", to_code, &checks);
-    print_row("", "code to word", to_word, &checks);
+    print_row(name, "word to code", to_code, &checks, Some(ALLOWED));
+    print_row("", "code to word", to_word, &checks, None);
 }
 
 /// Any words, and then words of about the same length where lengths differ much.
@@ -178,13 +192,14 @@ fn marisa(_: &[Entry], _: &[Entry]) {
 fn main() {
     let mut work = vec![0; 64_000];
     let mut random = Random::from_seed(1);
-    let inputs = lexicons::lexicons(&mut random);
+    let inputs = lexicons::all(&mut random);
     println!(
-        "whole calls in microseconds, checking included; then what they take more than checking"
+        "whole calls in microseconds, checking included; then what they take more than checking,"
     );
+    println!("and what word to code may take more at most: twice what the plain one does, or 2");
     println!(
-        "{:<36}{:>12}{:>10}{:>8}{:>16}{:>12}",
-        "", "product", "plain", "ratio", "product more", "plain more"
+        "{:<36}{:>12}{:>10}{:>8}{:>16}{:>12}{:>10}",
+        "", "product", "plain", "ratio", "product more", "plain more", "at most"
     );
     for input in &inputs {
         let words = all_words(input, &mut work);

@@ -1,4 +1,5 @@
-//! The lexicons that the bench looks words and codes up in: as many words as are accepted, in several shapes.
+//! The lexicons that the bench looks words and codes up in: as many words as are accepted, in several shapes, and some
+//! that are hard for a search.
 
 use crate::draw;
 use crate::image::{small_lexicon, small_voice};
@@ -8,7 +9,14 @@ use crate::sketch::{Sketch, ROOT, SINK};
 
 const MOST_WORDS: u64 = 1_048_576;
 
-pub fn lexicons(random: &mut Random) -> Vec<Input> {
+/// Those with the most words, and then the hard ones.
+pub fn all(random: &mut Random) -> Vec<Input> {
+    let mut inputs = lexicons(random);
+    inputs.extend(hard(random));
+    inputs
+}
+
+fn lexicons(random: &mut Random) -> Vec<Input> {
     let (voice, lexicon) = (small_voice(), small_lexicon());
     let small = Input {
         name: "the paper's small lexicon",
@@ -36,6 +44,58 @@ pub fn lexicons(random: &mut Random) -> Vec<Input> {
         input("2^20", &two_letters, random),
         input("4^10, nodes split", &split, random),
     ]
+}
+
+/// Lexicons in which letters decide late, so that a search for a word goes many wrong ways to their ends and back. That
+/// has a limit: two paths from the root with the same letters do not meet again, or a word would be spelled twice, so a
+/// search looks at no more than an arc to each vertex for each letter of the word and for its end.
+fn hard(random: &mut Random) -> Vec<Input> {
+    vec![
+        input("12 chains of one letter", &chains(12), random),
+        input("183 ways behind one letter", &fan(183), random),
+    ]
+}
+
+/// So many chains of 31 nodes of letter 0, each before a letter of its own. The root leads to every node of them, so a
+/// search begins at each, and sees whether the way is right only where the chain ends or the word does.
+fn chains(count: u8) -> Sketch {
+    let mut sketch = Sketch::new();
+    for last in 1..=count {
+        let mut letters = [0; 32];
+        letters[31] = last;
+        chain_from_all(&mut sketch, &letters, 31);
+    }
+    sketch
+}
+
+/// One such chain of 29 nodes, and behind it so many nodes of letter 0, each before one of 61 letters and then one of
+/// three. A search may come to all of these nodes at any letter of a long word but the first and the last two. If the
+/// right way is the last that it tries, it looks at nearly as many arcs as can be.
+fn fan(count: usize) -> Sketch {
+    let mut sketch = Sketch::new();
+    chain_from_all(&mut sketch, &[0; 29], 29);
+    let hub = sketch.nodes();
+    sketch.successors[hub].clear();
+    let ends: Vec<usize> = (0..3).map(|letter| sketch.node(letter)).collect();
+    for end in &ends {
+        sketch.arc(*end, SINK);
+    }
+    for k in 0..count {
+        let (first, second) = (sketch.node(0), sketch.node(1 + (k / 3) as u8));
+        sketch.arc(hub, first);
+        sketch.arc(first, second);
+        sketch.arc(second, ends[k % 3]);
+    }
+    sketch
+}
+
+/// A path of new nodes from the root to the sink. The root leads to each of its first so many nodes.
+fn chain_from_all(sketch: &mut Sketch, letters: &[u8], count: usize) {
+    let first = sketch.nodes() + 1;
+    sketch.chain(ROOT, letters, SINK);
+    for node in first + 1..first + count {
+        sketch.arc(ROOT, node);
+    }
 }
 
 /// Nodes in layers, and arcs at random from one layer to the next, now and then to a later one or to the sink, as many as

@@ -1,5 +1,11 @@
-/* Word to code and code to word as one would write them in C, with checking and without. For bench/codes only. */
+/* Word to code, of one word and of a list, and code to word as one would write them in C, with checking and without.
+   For bench/codes and bench/stock; bench/instructions and bench/stack take the words to look up from it. */
 #include "plain_judge.h"
+
+enum {
+    MOST_ITEMS = 1000,
+    RESULT = 8 /* bytes of an item's result: u32 refusal or 0, u32 code or 0 */
+};
 
 static unsigned print_byte(const struct graph *graph, const uint8_t *voice, unsigned node)
 {
@@ -61,10 +67,45 @@ static int32_t code_to_word(const struct graph *graph, const uint8_t *voice, uin
     return (int32_t)length;
 }
 
+/* How many items there are, each a length byte and that many letters, or the refusal. */
+static int32_t count_items(struct reader items)
+{
+    int32_t count = 0;
+
+    for (; items.at < items.end; items.at += 1 + items.at[0])
+        if (count++ == MOST_ITEMS || is_short(&items, 1 + items.at[0]))
+            return -19;
+    return count;
+}
+
+static void put_number(uint8_t *at, uint32_t value)
+{
+    for (unsigned k = 0; k < 4; k++)
+        at[k] = (uint8_t)(value >> 8 * k);
+}
+
+static int32_t words_to_codes(const struct graph *graph, const uint8_t *voice, struct reader items, uint8_t *out,
+                              size_t out_len)
+{
+    int32_t count = count_items(items);
+
+    if (count > 0 && out_len < (size_t)RESULT * (size_t)count)
+        return -16;
+    for (int32_t k = 0; k < count; k++) {
+        int32_t code = word_to_code(graph, voice, items.at + 1, items.at[0]);
+        put_number(out, code < 0 ? (uint32_t)-code : 0);
+        put_number(out + 4, code < 0 ? 0 : (uint32_t)code);
+        items.at += 1 + items.at[0];
+        out += RESULT;
+    }
+    return count;
+}
+
 struct wanted {
-    enum { CHECK, KEEP, CODE, WORD } what;
+    enum { CHECK, KEEP, CODE, CODES, WORD } what;
     const uint8_t *word;
     size_t word_len;
+    struct reader items;
     uint32_t code;
     uint8_t *out;
     size_t out_len;
@@ -84,6 +125,8 @@ static int32_t call(struct reader voice, struct reader lexicon, const struct wan
     answer = judge(voice, lexicon, work, &graph);
     if (answer > 0 && wanted->what == CODE)
         answer = word_to_code(&graph, voice.at, wanted->word, wanted->word_len);
+    else if (answer > 0 && wanted->what == CODES)
+        answer = words_to_codes(&graph, voice.at, wanted->items, wanted->out, wanted->out_len);
     else if (answer > 0 && wanted->what == WORD)
         answer = code_to_word(&graph, voice.at, wanted->code, wanted->out, wanted->out_len);
     else if (answer > 0 && wanted->what == KEEP)
@@ -111,6 +154,15 @@ int32_t plain_word_to_code(const uint8_t *voice, size_t voice_len, const uint8_t
                            const uint8_t *word, size_t word_len, uint8_t *work, size_t work_len)
 {
     struct wanted wanted = {.what = CODE, .word = word, .word_len = word_len};
+
+    return call(reader_of(voice, voice_len), reader_of(lexicon, lexicon_len), &wanted, work, work_len);
+}
+
+int32_t plain_words_to_codes(const uint8_t *voice, size_t voice_len, const uint8_t *lexicon, size_t lexicon_len,
+                             const uint8_t *items, size_t items_len, uint8_t *work, size_t work_len, uint8_t *out,
+                             size_t out_len)
+{
+    struct wanted wanted = {.what = CODES, .items = reader_of(items, items_len), .out = out, .out_len = out_len};
 
     return call(reader_of(voice, voice_len), reader_of(lexicon, lexicon_len), &wanted, work, work_len);
 }

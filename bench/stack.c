@@ -6,14 +6,14 @@
 
 enum { STACK = 1 << 20, PAINT = 0xa5 };
 
-enum which { CHECK, WORD_TO_CODE, CODE_TO_WORD, LIST, DECODE, CANONICAL };
+enum which { CHECK, WORD_TO_CODE, WORDS_TO_CODES, CODE_TO_WORD, LIST, DECODE, CANONICAL };
 
 /* A call, its answer, and the bytes of stack that it took. stack.rs has the same fields. */
 struct call {
     uint32_t which;
     uint32_t code;
-    const uint8_t *voice, *lexicon, *word;
-    size_t voice_len, lexicon_len, word_len;
+    const uint8_t *voice, *lexicon, *word, *items;
+    size_t voice_len, lexicon_len, word_len, items_len;
     uint8_t *work, *further, *out;
     size_t work_len, further_len, out_len;
     int32_t answer;
@@ -37,6 +37,9 @@ static int32_t made(const struct call *c)
     case WORD_TO_CODE:
         return wundaleth_word_to_code(c->voice, c->voice_len, c->lexicon, c->lexicon_len, c->word, c->word_len, c->work,
                                       c->work_len);
+    case WORDS_TO_CODES:
+        return wundaleth_words_to_codes(c->voice, c->voice_len, c->lexicon, c->lexicon_len, c->items, c->items_len,
+                                        c->work, c->work_len, c->out, c->out_len);
     case CODE_TO_WORD:
         return wundaleth_code_to_word(c->voice, c->voice_len, c->lexicon, c->lexicon_len, c->code, c->work, c->work_len,
                                       c->out, c->out_len);
