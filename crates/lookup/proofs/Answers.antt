@@ -23,14 +23,16 @@ use Rattle.graph.specs.Checking.{Accepted, firstRows, checkAnswer}
 use Rattle.graph.proofs.Sound.{Sound}
 use Rattle.graph.proofs.Paths.{full-paths}
 use Rattle.graph.proofs.Accepted.{accepted, sound-images, Passed}
+use Rattle.checking.proofs.Arcs.{sound-of}
 use Rattle.codes.specs.Lookup.{wordToCodeRows, wordToCodeAnswer}
 use Rattle.codes.specs.Theorems.{CodeTheorems}
 use Rattle.codes.proofs.Theorems.{code-theorems}
 use Rattle.codes.proofs.Words.{word-root, path-short}
-use Rattle.lookup.specs.Seeking.{codeAfter, codeAnswer, soughtAnswer, Prints, Printed, Seekable}
+use Rattle.lookup.specs.Seeking.{codeAfter, codeAnswer, soughtAnswer, printsColumn, Prints}
+use Rattle.lookup.specs.Seeking.{Printed, Seekable}
 use Rattle.lookup.specs.Marks.{ends, Marks}
 use Rattle.lookup.proofs.Least.{first-code}
-use Rattle.lookup.proofs.Ways.{WayAfter, Printing, found-way, no-way}
+use Rattle.lookup.proofs.Ways.{WayAfter, Printing, found-way, no-way, after-within}
 
 -- ---- before a search no pair is marked
 
@@ -66,9 +68,27 @@ module _ (prints : List ℕ) (g : Graph) (word : List ℕ) where
   unfolding soughtAnswer
   sought-long h = rw (lt-ltb 32 (length word) h) refl
 
-  pub sought-short : length word ≤ 32 → codeAnswer (codeAfter prints g 0 word) ≡ soughtAnswer prints g word
+  sought-short : length word ≤ 32 → codeAnswer (codeAfter prints g 0 word) ≡ soughtAnswer prints g word
   unfolding soughtAnswer
   sought-short h = rw (le-ltb 32 (length word) h) refl
+
+  pub sought-none : length word ≤ 32 → codeAfter prints g 0 word ≡ none → refused NoWord ≡ soughtAnswer prints g word
+  unfolding codeAnswer
+  sought-none h e = sym (rw e refl) ∙ sought-short h
+
+  pub sought-found : length word ≤ 32 → {c : ℕ} → codeAfter prints g 0 word ≡ some c
+      → value c ≡ soughtAnswer prints g word
+  unfolding codeAnswer
+  sought-found h e = sym (rw e refl) ∙ sought-short h
+
+-- a code counted from the root is no more than W
+pub root-few : {x : List ℕ} {vertices : List (List ℕ)} → Seekable x vertices → (word : List ℕ) → Bytes word → (c : ℕ)
+    → codeAfter (printsColumn vertices) (graphOf x) 0 word ≡ some c → c ≤ 1048576
+unfolding sink sinkOf
+root-few {x} {vertices} t word low c e =
+    let formed = t .countable .tabled .located .well-formed in
+    omega (arith, t .countable .few {u = 0} (omega arith),
+    after-within (sound-of formed) (printsColumn vertices) (t .end) word low {u = 0} (omega arith) e)
 
 -- ---- as word to code answers
 

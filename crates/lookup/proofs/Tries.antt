@@ -21,7 +21,7 @@ use Rattle.graph.specs.Graph.{Graph, graphOf, sink, pathCount}
 use Rattle.checking.specs.Tables.{WellFormed}
 use Rattle.checking.proofs.Arcs.{sound-of, ArcNext, arc-next, arcs-done}
 use Rattle.checking.proofs.Increments.{CountsPassed, counts-start, counts-next}
-use Rattle.lookup.specs.Seeking.{wantedAt, codeOr, firstCode, codeBy, codeAfter, codeAnswer}
+use Rattle.lookup.specs.Seeking.{wantedAt, codeOr, firstCode, codeBy, codeAfter, codeNumber}
 use Rattle.lookup.specs.Marks.{placeOf, Marks, SameBelow, PairMarked}
 
 -- ---- an arc that fits, and one that doesn't
@@ -152,20 +152,22 @@ module _ (i u : ℕ) {m n : List ℕ} (low : u < 402) (put : PairMarked m (place
 
 -- ---- what is answered
 
-pub answer-found : (o : Option ℕ) {code : ℕ} → o ≡ some code → value code ≡ codeAnswer o
-unfolding codeAnswer
-answer-found o e = rw e refl
+pub number-found : (o : Option ℕ) {code : ℕ} → o ≡ some code → code ≡ codeNumber o
+unfolding codeNumber
+number-found o e = rw e refl
 
-pub answer-none : (o : Option ℕ) → o ≡ none → refused NoWord ≡ codeAnswer o
-unfolding codeAnswer
-answer-none o e = rw e refl
+pub number-none : (o : Option ℕ) → o ≡ none → 4294967295 ≡ codeNumber o
+unfolding codeNumber
+number-none o e = rw e refl
 
-pub found-answer : (o : Option ℕ) {code : ℕ} → value code ≡ codeAnswer o → o ≡ some code
-unfolding codeAnswer
-found-answer (some c) e = cc
-found-answer none e = let z : _≡_ {A = ℕ} 0 1 = cc in absurd (omega arith)
+pub found-number : (o : Option ℕ) {code : ℕ} → code ≡ codeNumber o → ¬ (code ≡ 4294967295) → o ≡ some code
+unfolding codeNumber
+found-number (some c) e d = ap some (sym e)
+found-number none e d = absurd (d e)
 
-pub none-answer : (o : Option ℕ) {r : Refusal} → refused r ≡ codeAnswer o → o ≡ none
-unfolding codeAnswer
-none-answer none e = refl
-none-answer (some c) e = let z : _≡_ {A = ℕ} 0 1 = cc in absurd (omega arith)
+-- a code that is found is below that number
+pub none-number : (o : Option ℕ) {code : ℕ} → ((c : ℕ) → o ≡ some c → c ≤ 1048576) → code ≡ codeNumber o
+    → code ≡ 4294967295 → o ≡ none
+unfolding codeNumber
+none-number none few e d = refl
+none-number (some c) few e d = absurd (omega (arith, few c refl))

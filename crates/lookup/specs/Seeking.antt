@@ -42,6 +42,11 @@ codeBy prints g (b ∷ bytes) s =
 unfoldable pub codeAfter : List ℕ → Graph → ℕ → List ℕ → Option ℕ
 codeAfter prints g u bytes = firstCode (codeBy prints g bytes) (pathCount g) (g .successors u) 0
 
+-- as a number: where there is none, one that is no code
+unfoldable pub codeNumber : Option ℕ → ℕ
+codeNumber none = 4294967295
+codeNumber (some code) = code
+
 -- 13 where there is none
 unfoldable pub codeAnswer : Option ℕ → Answer ℕ
 codeAnswer none = refused NoWord

@@ -5,7 +5,7 @@ ghost use mathlib.Core.Path.{_≡_};
 ghost use lib.ListN.{drop, replicate};
 ghost use Rattle.call.specs.Table.{answerOf};
 ghost use Rattle.graph.specs.Graph.{graphOf};
-ghost use Rattle.lookup.specs.Seeking.{codeAfter, codeAnswer, soughtAnswer, printsColumn};
+ghost use Rattle.lookup.specs.Seeking.{codeAfter, codeNumber, soughtAnswer, printsColumn};
 ghost use Rattle.lookup.specs.Seeking.{wantedAt, Seekable};
 ghost use Rattle.lookup.specs.Marks.{Seeking, Sought};
 use crate::image::END;
@@ -22,7 +22,11 @@ use checking::ARCS_AT;
 use checking::LETTERS;
 use checking::PATHS;
 
-// The code of the bytes of the word from i on, counted from a vertex, or 13.
+// What a search answers that finds no way: no code is as great. It answers a number and no enum, since that goes through
+// a register.
+const NOWHERE: u32 = 4294967295;
+
+// The code of the bytes of the word from i on, counted from a vertex.
 fn seek(
     lexicon: &[u8],
     vertices: &[[u32; 4]; 402],
@@ -30,16 +34,16 @@ fn seek(
     marks: &mut [u8],
     i: usize,
     vertex: usize,
-) -> Answer
+) -> u32
     requires { ⌜ Seeking (now lexicon) (now vertices) (now word) (now marks) i vertex ⌝ }
-    ensures { λ r. ⌜ answerOf r ≡ codeAnswer (codeAfter (printsColumn (now (vertices .entry)))
-        (graphOf (now (lexicon .entry))) vertex (drop i (now (word .entry)))) ⌝ }
+    ensures { λ r. ⌜ r ≡ codeNumber (codeAfter (printsColumn (now (vertices .entry))) (graphOf (now (lexicon .entry)))
+        vertex (drop i (now (word .entry)))) ⌝ }
     ensures { λ _. ⌜ Sought (now (lexicon .entry)) (now (vertices .entry)) (now (word .entry)) (now (marks .entry))
         (now (marks .exit)) vertex ⌝ }
 {
     let place = 1 + ROW * i + vertex;
     if number_at(marks, 2 * place) != 0 {
-        return Answer::Refused(Refusal::NoWord);
+        return NOWHERE;
     }
     let wanted = wanted_at(word, i);
     let start = vertices[vertex][ARCS_AT] as usize;
@@ -50,18 +54,18 @@ fn seek(
         let next = number_at(lexicon, at);
         if vertices[next][PRINT] == wanted {
             if wanted == END {
-                return Answer::Value(passed);
+                return passed;
             }
-            let found = seek(lexicon, vertices, word, marks, i + 1, next);
-            if let Answer::Value(code) = found {
-                return Answer::Value(passed + code);
+            let code = seek(lexicon, vertices, word, marks, i + 1, next);
+            if code != NOWHERE {
+                return passed + code;
             }
         }
         passed += vertices[next][PATHS];
         at += 2;
     }
     set_mark(marks, place);
-    Answer::Refused(Refusal::NoWord)
+    NOWHERE
 }
 
 // What the next vertex has to print.
@@ -90,7 +94,10 @@ pub(crate) fn look_up(
         return Answer::Refused(Refusal::NoWord);
     }
     put_number(marks, 0, NONE);
-    let answer = seek(lexicon, vertices, word, marks, 0, 0);
+    let code = seek(lexicon, vertices, word, marks, 0, 0);
     clear_marks(marks);
-    answer
+    if code == NOWHERE {
+        return Answer::Refused(Refusal::NoWord);
+    }
+    Answer::Value(code)
 }

@@ -14,7 +14,6 @@ use borrow.Fn.PlainCycle.{Measures, is, falls, and}
 use lib.ListN.{length, getD, drop}
 use Rattle.endian.specs.Bytes.{u16}
 use Rattle.endian.specs.Rows.{numberAt}
-use Rattle.call.specs.Table.{answerOf}
 use Rattle.lexicon.specs.Lexicon.{sinkOf}
 use Rattle.graph.specs.Graph.{graphOf, sink, pathCount}
 use Rattle.checking.specs.Tables.{WellFormed}
@@ -28,7 +27,7 @@ use Rattle.lookup.proofs.Ways.{not-end, after-within}
 use Rattle.lookup.proofs.Tries.{fits-not, fits-end, fits-letter, letter-left, wanted-low, low-bytes}
 use Rattle.lookup.proofs.Tries.{Trying, Passed, try-start, try-done, next, try-found, try-next}
 use Rattle.lookup.proofs.Tries.{marks-more, same-more}
-use Rattle.lookup.proofs.Tries.{answer-found, answer-none, found-answer, none-answer}
+use Rattle.lookup.proofs.Tries.{number-found, number-none, found-number, none-number}
 use Rattle.lookup.proofs.seeking.seek.Reads as seek
 use Rattle.lookup.proofs.seeking.seek.Kinds as seek-kinds
 use Rattle.lookup.proofs.seeking.+seek.Lts-seek as lts
@@ -103,7 +102,7 @@ module _ (t : ℕ) where
       let r = c .before in
       let s = start r in
       (
-        answer-none _ (asked s .marks .tells (position s) (vertex s)
+        number-none _ (asked s .marks .tells (position s) (vertex s)
             (λ e. c .if1 .taken (r .number-at .ensures .0 ∙ e))),
         record { marks = asked s .marks; same = λ j w a b d. refl },
       )
@@ -198,7 +197,7 @@ module _ (t : ℕ) where
       let by = fits-end _ (graphOf (s .args .lexicon .now)) (s .args .word .now) (s .args .i) _ (fits (c .before))
           (low (n .before) (s .args .i)) (sym (wanted (n .before) .wanted-at .ensures) ∙ c .if3 .taken) in
       (
-        answer-found _ (try-found (well-formed s) (asked s .vertex) (l .loop .inv) (n .before .loop-test .taken) by
+        number-found _ (try-found (well-formed s) (asked s .vertex) (l .loop .inv) (n .before .loop-test .taken) by
             ∙ ap some (add-zero (l .loop .passed))),
         record {
           marks = l .loop .inv .marks;
@@ -277,22 +276,36 @@ module _ (t : ℕ) where
       SameBelow (suc (s .args .vertex)) (turn (fitting c) .before .loop .marks) (c .seek .last .1 .1 .1 .0)
   same-here c j w a b d = c .seek .ensures .1 .same j w a (omega (arith, node (fitting c) .0)) d
 
+  -- codes from there stay within its paths
+  within : (c : Fitting) (code : ℕ) →
+      let s = begin (turn c) in
+      codeAfter (printsColumn (s .args .vertices .now)) (graphOf (s .args .lexicon .now)) (onto c)
+      (drop (s .args .i + 1) (s .args .word .now))
+      ≡ some code
+      → code ≤ pathCount (graphOf (s .args .lexicon .now)) (onto c)
+  unfolding sinkOf sink
+  within c code e =
+      let s = begin (turn c) in
+      after-within (sound-of (well-formed s)) (printsColumn (s .args .vertices .now)) (asked s .table .end)
+      (drop (s .args .i + 1) (s .args .word .now)) (low-bytes (s .args .word .now) (low (turn c)) (s .args .i + 1))
+      (node c .1) e
+
   -- a way is found
-  abbrev Told : Type 0
-  Told = lts.After-known-told (claims t) (seek-at t) seek.Post Inv-loop μ-loop
+  abbrev Found : Type 0
+  Found = lts.Then4 (claims t) (seek-at t) seek.Post Inv-loop μ-loop
 
-  abbrev sought : Told → After
-  sought c = c .before .before .before .before .before
+  abbrev sought : Found → After
+  sought c = c .before .before .before
 
-  found : (c : Told) →
+  found : (c : Found) →
       let f = fitting (sought c) in
       let s = begin (turn f) in
       codeAfter (printsColumn (s .args .vertices .now)) (graphOf (s .args .lexicon .now)) (onto f)
       (drop (s .args .i + 1) (s .args .word .now))
-      ≡ some (c .before .found .given .0 .0)
-  found c = found-answer _ (sym (ap answerOf (c .before .found .given .1)) ∙ sought c .seek .ensures .0)
+      ≡ some (sought c .seek .result)
+  found c = found-number _ (sought c .seek .ensures .0) (c .if4 .taken)
 
-  -- codes stay within the paths from the vertex
+  -- and with those passed within the paths from the vertex
   few : (c : Led) →
       let s = begin (c .before) in
       let x = s .args .lexicon .now in
@@ -303,16 +316,12 @@ module _ (t : ℕ) where
       omega (arith, asked s .table .countable .few {u = s .args .vertex} (omega (arith, asked s .vertex)),
       counts-below (well-formed s) (asked s .vertex) (c .before .before .loop .inv .counts) (arc (c .before)))
 
-  add-code : lts.Need-add-t39 (claims t) (seek-at t) seek.Post Inv-loop μ-loop
-  unfolding sinkOf sink
+  add-code : lts.Need-add-result (claims t) (seek-at t) seek.Post Inv-loop μ-loop
   add-code c =
       let f = fitting (sought c) in
-      let s = begin (turn f) in
-      let within = after-within (sound-of (well-formed s)) (printsColumn (s .args .vertices .now)) (asked s .table .end)
-          (drop (s .args .i + 1) (s .args .word .now)) (low-bytes (s .args .word .now) (low (turn f)) (s .args .i + 1))
-          (node f .1) (found c) in
       let n = f .before .before .before in
-      omega (arith, within, few n, ap (pathCount (graphOf (s .args .lexicon .now))) (led n))
+      omega (arith, within f (sought c .seek .result) (found c), few n,
+      ap (pathCount (graphOf (begin (turn f) .args .lexicon .now))) (led n))
 
   returns-3 : lts.Need-returns-3 (claims t) (seek-at t) seek.Post Inv-loop μ-loop
   returns-3 c =
@@ -320,7 +329,7 @@ module _ (t : ℕ) where
       let s = begin (turn f) in
       let l = turn f .before in
       (
-        answer-found _ (try-found (well-formed s) (asked s .vertex) (l .loop .inv) (turn f .loop-test .taken)
+        number-found _ (try-found (well-formed s) (asked s .vertex) (l .loop .inv) (turn f .loop-test .taken)
             (by-letter f ∙ found c)),
         record {
           marks = sought c .seek .ensures .1 .marks;
@@ -351,8 +360,10 @@ module _ (t : ℕ) where
       (λ w.
         let f : Fitting = record { before = record { before = c .before; if2 = w .0 }; if3 = w .1 } in
         let a : After = record { before = record { before = f; seek-arg = w .2 }; seek = w .3 } in
-        subst Here (sym (w .8)) (record {
-          nowhere = by-letter f ∙ none-answer _ (sym (ap answerOf (w .7 .given .1)) ∙ w .3 .ensures .0);
+        let few : (code : ℕ) → _ ≡ some code → code ≤ 1048576 = λ code e.
+            omega (arith, within f code e, asked s .table .countable .few {u = onto f} (omega (arith, node f .1))) in
+        subst Here (sym (w .7)) (record {
+          nowhere = by-letter f ∙ none-number _ few (w .3 .ensures .0) (w .6 .left);
           marks = w .3 .ensures .1 .marks;
           same = same-here a;
         }))
@@ -421,7 +432,7 @@ module _ (t : ℕ) where
       let s = first d in
       let l = d .before .loop in
       (
-        answer-none _ (none-left d),
+        number-none _ (none-left d),
         record {
           marks = marks-more (s .args .i) (s .args .vertex) (vertex s) (m .set-mark .ensures) (l .inv .marks) (none-left d);
           same = same-more (s .args .i) (s .args .vertex) (vertex s) (m .set-mark .ensures) (s .args .marks .now)
@@ -462,12 +473,10 @@ pub +seek-spec : {M : Type 1} → statement M
     (returns-2 t)
     (λ c. omega (arith, letter t (c .before), asked t (begin t (turn t (c .before))) .short))
     (seek-requires t)
-    (λ c. search needs)
     (add-code t)
     (λ c. let q = sought t c in
         q .seek .ensures .1 .marks .long ∙ sym (asked t (begin t (turn t (fitting t q))) .marks .long))
     (returns-3 t)
-    (λ c. search needs)
     (λ c. omega (arith, led-low t (c .before .before)))
     (λ c. led-low t (c .before .before))
     (λ c. search needs)

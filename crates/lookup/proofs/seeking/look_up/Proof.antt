@@ -1,14 +1,15 @@
 -- `seeking::look_up` meets its contract: before the search no pair is marked, and after it the marks are cleared. Assumes
 -- nothing.
-use Prim.Native.Nat.{ℕ}
+use Prim.Native.Nat.{ℕ, _≤_, _<_}
 use mathlib.Core.Path.{_≡_, ap, _∙_}
 use native.Mathlib.Omega.{arith}
 use borrow.Author.Needs.{needs}
-use lib.ListN.{length, length-replicate}
+use lib.ListN.{length, getD, length-replicate}
 use Rattle.graph.specs.Graph.{graphOf}
 use Rattle.lookup.specs.Seeking.{printsColumn}
 use Rattle.lookup.specs.Marks.{Marks}
-use Rattle.lookup.proofs.Answers.{marks-start, sought-long, sought-short}
+use Rattle.lookup.proofs.Tries.{low-bytes, found-number, none-number}
+use Rattle.lookup.proofs.Answers.{marks-start, sought-long, sought-none, sought-found, root-few}
 use Rattle.lookup.proofs.seeking.look_up.Statement.{statement}
 use Rattle.lookup.proofs.seeking.look_up.Tie as tie
 
@@ -40,12 +41,40 @@ seek-requires c κs =
 clear-marks-requires : tie.Need-clear-marks-requires
 clear-marks-requires c κs = let m = c .before .before .before .seek .ensures .1 .marks in (m .long, m .chained)
 
+abbrev Cleared : Type 0
+Cleared = tie.After-slice-known4
+
+abbrev sought : Cleared → tie.After-seek
+sought c = c .before .before .before .before .before .before
+
+abbrev start : Cleared → tie.Start
+start c = sought c .before .before .before .before .before .before .before .before .before .before
+
+short : (c : Cleared) → length (start c .args .word .now) ≤ 32
+short c = sought c .before .before .before .before .before .before .if1 .left
+
+-- the bytes of the word
+low : (c : Cleared) (j : ℕ) → getD (start c .args .word .now) j 0 < 256
+low c j =
+    omega (arith, sought c .before .before .before .before .before .before .before .before .shared-slice-known2 .given j)
+
 returns-2 : tie.Need-returns-2
 returns-2 c =
-    let k = c .before .before in
-    let q = k .before .before .before .before in
-    let p = q .before .before .before .before in
-    (q .seek .ensures .0 ∙ sought-short _ _ _ (p .before .before .if1 .left), k .clear-marks .ensures)
+    let q = c .before in
+    let s = start q in
+    let few = root-few (s .pre .0) (s .args .word .now) (low-bytes (s .args .word .now) (low q) 0) in
+    (
+      sought-none _ _ _ (short q) (none-number _ few (sought q .seek .ensures .0) (c .if2 .taken)),
+      q .before .before .clear-marks .ensures,
+    )
+
+returns-3 : tie.Need-returns-3
+returns-3 c =
+    let q = c .before in
+    (
+      sought-found _ _ _ (short q) (found-number _ (sought q .seek .ensures .0) (c .if2 .left)),
+      q .before .before .clear-marks .ensures,
+    )
 
 pub look-up-spec : {M : Type 1} → statement M
 look-up-spec =
@@ -57,4 +86,6 @@ look-up-spec =
     seek-requires
     clear-marks-requires
     (λ c. search needs)
-    returns-2)
+    returns-2
+    (λ c. search needs)
+    returns-3)
