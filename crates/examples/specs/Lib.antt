@@ -1,3 +1,4 @@
 pub mod SmallLexicon
 pub mod Further
 pub mod Canonical
+pub mod Stock
