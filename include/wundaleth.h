@@ -11,7 +11,8 @@
  * Answers. A call answers a value, 0 or above, or a refusal's number made negative: -WUNDALETH_LEXICON_LENGTH is -4,
  * so compare with the constant made negative. Of the refusals that apply the first is answered, in the order in which
  * the call's comment names them; since 1.2 that is not always the lowest number (wundaleth_canonical tests 17 and 18
- * before 16). Within one image the fields are read in order, so that 2 and 3, and 4 and 5, follow the first bad field.
+ * before 16, and wundaleth_words_to_codes, since 1.3, 19 before 16). Within one image the fields are read in order, so
+ * that 2 and 3, and 4 and 5, follow the first bad field.
  *
  * Work space. Every call with a lexicon is lent at least WUNDALETH_WORK_BYTES bytes, and wundaleth_canonical a further
  * WUNDALETH_FURTHER_BYTES; they may hold anything. Refusal 1 leaves all buffers as they were. After every other call
@@ -19,8 +20,8 @@
  * work space the first 262,144.
  *
  * Side by side. Calls keep no state: all that a call knows is in its arguments. Any number of calls may run at the
- * same time, each with work spaces and an output of its own; images, frames, words and codes are only read and may
- * be shared.
+ * same time, each with work spaces and an output of its own; images, frames, words, items and codes are only read and
+ * may be shared.
  *
  * What it needs. The library is compiled for x86-64 Linux. Of the C library it needs memcpy and memset, and nothing
  * else: no heap, no files, no locale. A call takes less than 16 KiB of stack, some 15.7 KB at most (decoding, listing
@@ -42,7 +43,7 @@ extern "C" {
 
 /* The version of this interface. */
 #define WUNDALETH_VERSION_MAJOR 1
-#define WUNDALETH_VERSION_MINOR 2
+#define WUNDALETH_VERSION_MINOR 3
 #define WUNDALETH_VERSION_PATCH 0
 
 /* Sizes. */
@@ -51,6 +52,8 @@ extern "C" {
 #define WUNDALETH_CANONICAL_BYTES 6006 /* of a canonical image, at most: room for any */
 #define WUNDALETH_MOST_WORDS 1048576 /* W of an accepted lexicon, at most */
 #define WUNDALETH_MOST_LETTERS 32    /* of a word, each a print byte: room for any word */
+#define WUNDALETH_MOST_ITEMS 1000    /* of one list of words to look up */
+#define WUNDALETH_ITEM_BYTES 8       /* an item in the output of wundaleth_words_to_codes: refusal, then code */
 #define WUNDALETH_MOST_FRAMES 1000   /* of one decoding */
 #define WUNDALETH_MOST_HITS 8        /* n of one decoding, and the codes of one packing or unpacking */
 #define WUNDALETH_HIT_BYTES 8        /* a hit in the output of decoding: score, then code */
@@ -72,9 +75,10 @@ enum wundaleth_refusal {
     WUNDALETH_NO_WORD = 13,       /* the bytes given spell no word here; the empty word too */
     WUNDALETH_PACKED = 14,        /* packed bytes of the wrong length, or a padding bit set */
     WUNDALETH_CODE = 15,          /* a code not below W */
-    WUNDALETH_OUTPUT = 16,        /* output shorter than 8 x n (hits), 4 x n (unpacked), or the answer's bytes */
+    WUNDALETH_OUTPUT = 16,        /* output under 8 x n (hits), 8 x items, 4 x n (unpacked), or the answer's bytes */
     WUNDALETH_WORD_LIST = 17,     /* over 2,000 words, or over 16,000 letters in all: too many for a canonical image */
-    WUNDALETH_CANONICAL_IMAGE = 18 /* a canonical image of more than 400 nodes, 4,000 arcs or 1,000 places */
+    WUNDALETH_CANONICAL_IMAGE = 18, /* a canonical image of more than 400 nodes, 4,000 arcs or 1,000 places */
+    WUNDALETH_ITEMS = 19          /* an item that runs past the end of its list, or over 1,000 items */
 };
 
 /* Checks a voice model and a lexicon. Answers W, the number of words, 1 to 1,048,576, or refuses with 1 to 10. */
@@ -88,6 +92,16 @@ int32_t wundaleth_check(const uint8_t *voice, size_t voice_length, const uint8_t
 int32_t wundaleth_word_to_code(const uint8_t *voice, size_t voice_length, const uint8_t *lexicon,
                                size_t lexicon_length, const uint8_t *word, size_t word_length, uint8_t *work,
                                size_t work_length);
+
+/* The codes of a list of words, each answered as wundaleth_word_to_code answers for it alone. An item is a length byte
+ * and so many bytes, any; items stand one after the other to the end of the list. Writes for each item, in order, 8
+ * bytes, uint32_t refusal and uint32_t code, both little-endian: 0 and the code, or 13 and 0 where the item spells no
+ * word here, the item of length 0 and items of more than 32 letters among them; wundaleth_item_at below reads one. The
+ * output needs no alignment. A word that is not there does not stop the following ones. Answers the number of items, 0
+ * to 1,000, found or not, or refuses with 1 to 10, 19 or 16, tested in this order. */
+int32_t wundaleth_words_to_codes(const uint8_t *voice, size_t voice_length, const uint8_t *lexicon,
+                                 size_t lexicon_length, const uint8_t *items, size_t items_length, uint8_t *work,
+                                 size_t work_length, uint8_t *out, size_t out_length);
 
 /* Writes the word of a code as its print bytes, with nothing after them. Answers the bytes written, 1 to 32, or
  * refuses with 1 to 10, 15 or 16. */
@@ -133,6 +147,25 @@ int32_t wundaleth_pack(uint32_t words, const uint32_t *codes, size_t codes_lengt
  * alignment. packed_length is exactly what n codes take. Answers n, or refuses with 9, 12, 14, 15 or 16. */
 int32_t wundaleth_unpack(uint32_t words, uint32_t n, const uint8_t *packed, size_t packed_length, uint8_t *out,
                          size_t out_length);
+
+/* What an item is answered: 0 and the word's code, or the number of its refusal and 0. */
+struct wundaleth_item {
+    uint32_t refusal;
+    uint32_t code;
+};
+
+/* Reads item i, from 0 and below the number that wundaleth_words_to_codes answered, in the output that it left. */
+static inline struct wundaleth_item wundaleth_item_at(const uint8_t *out, size_t i)
+{
+    const uint8_t *at = out + WUNDALETH_ITEM_BYTES * i;
+    const uint32_t r0 = at[0], r1 = at[1], r2 = at[2], r3 = at[3];
+    const uint32_t c0 = at[4], c1 = at[5], c2 = at[6], c3 = at[7];
+    struct wundaleth_item item;
+
+    item.refusal = r3 << 24 | r2 << 16 | r1 << 8 | r0;
+    item.code = c3 << 24 | c2 << 16 | c1 << 8 | c0;
+    return item;
+}
 
 /* A hit: a word's true score and its code. */
 struct wundaleth_hit {

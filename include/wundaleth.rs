@@ -1,7 +1,7 @@
 //! The functions of libwundaleth.a for callers in Rust; include/wundaleth.h says what holds of each of them and of its
 //! caller. The tests, the bench and docs/graph take them from here.
 
-#![allow(dead_code)] // hardly a program calls all eight
+#![allow(dead_code)] // hardly a program calls all nine
 
 extern "C" {
     pub fn wundaleth_check(
@@ -21,6 +21,18 @@ extern "C" {
         word_length: usize,
         work: *mut u8,
         work_length: usize,
+    ) -> i32;
+    pub fn wundaleth_words_to_codes(
+        voice: *const u8,
+        voice_length: usize,
+        lexicon: *const u8,
+        lexicon_length: usize,
+        items: *const u8,
+        items_length: usize,
+        work: *mut u8,
+        work_length: usize,
+        out: *mut u8,
+        out_length: usize,
     ) -> i32;
     pub fn wundaleth_code_to_word(
         voice: *const u8,

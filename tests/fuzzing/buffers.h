@@ -29,7 +29,7 @@ static uint8_t held_work[72 << 10], held_further[272 << 10], held_out[OUTPUT];
 
 static void reserve(void)
 {
-    static const size_t least[ROLES] = {IMAGE, IMAGE, 16 << 10, sizeof held_work, sizeof held_further, OUTPUT};
+    static const size_t least[ROLES] = {IMAGE, IMAGE, IMAGE + PAINTED, sizeof held_work, sizeof held_further, OUTPUT};
     size_t page = (size_t)sysconf(_SC_PAGESIZE);
     for (int role = 0; role < ROLES; role++) {
         size_t size = (least[role] + page - 1) / page * page;

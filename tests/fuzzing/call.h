@@ -22,8 +22,8 @@ static void put_number(struct bytes *bytes, uint32_t value)
     put(bytes, value >> 8);
 }
 
-/* `given` is the word, the frames, the codes or the packed bytes; `number` the code or n; `words` the W of packing;
- * `work`, `further` and `out` are how long these buffers are. */
+/* `given` is the word, the items, the frames, the codes or the packed bytes; `number` the code or n; `words` the W of
+ * packing; `work`, `further` and `out` are how long these buffers are. */
 struct call {
     enum function which;
     struct bytes *given;
@@ -52,6 +52,9 @@ static int32_t made(const struct call *call, const struct lent *lent)
         return wundaleth_check(v, v_length, l, l_length, work, call->work);
     case WORD_TO_CODE:
         return wundaleth_word_to_code(v, v_length, l, l_length, given, given_length, work, call->work);
+    case WORDS_TO_CODES:
+        return wundaleth_words_to_codes(v, v_length, l, l_length, given, given_length, work, call->work, out,
+                                        call->out);
     case CODE_TO_WORD:
         return wundaleth_code_to_word(v, v_length, l, l_length, call->number, work, call->work, out, call->out);
     case LIST:

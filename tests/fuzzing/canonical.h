@@ -37,37 +37,6 @@ static void test_dictionary(const uint8_t *sorted, size_t length)
     must(rises && is_same && at == length, "the canonical image does not list the words in dictionary order");
 }
 
-/* An accepted lexicon, read: N, and for each vertex its letter (0 is the sink's, and of no node), its successors, its
- * longest continuation, and when it is first met on a walk that takes the lists in their order. */
-static struct {
-    uint32_t nodes;
-    struct {
-        uint32_t letter, count, longest, met;
-        uint8_t *list;
-    } vertices[NODES + 2];
-} graph;
-
-static uint32_t successor(uint32_t vertex, uint32_t k)
-{
-    const uint8_t *at = graph.vertices[vertex].list + 2 * k;
-    return at[0] + 256u * at[1];
-}
-
-static void read_graph(void)
-{
-    uint8_t *at = lexicon.at;
-    memset(&graph, 0, sizeof graph);
-    graph.nodes = at[0] + 256u * at[1];
-    for (uint32_t node = 1; node <= graph.nodes; node++)
-        graph.vertices[node].letter = 1u + at[1 + node];
-    at += 2 + graph.nodes;
-    for (uint32_t vertex = 0; vertex <= graph.nodes; vertex++) {
-        graph.vertices[vertex].count = at[0] + 256u * at[1];
-        graph.vertices[vertex].list = at + 2;
-        at += 2 + 2 * graph.vertices[vertex].count;
-    }
-}
-
 /* No vertex leads to one letter twice. Then the canonical image is not larger. */
 static bool has_each_letter_once(void)
 {

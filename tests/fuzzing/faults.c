@@ -10,6 +10,7 @@
 
 WRAPPED(check);
 WRAPPED(word_to_code);
+WRAPPED(words_to_codes);
 WRAPPED(code_to_word);
 WRAPPED(list);
 WRAPPED(canonical);
@@ -46,6 +47,68 @@ int32_t __wrap_wundaleth_word_to_code(const uint8_t *voice, size_t voice_length,
     /* the byte after the word is read */
     if (FAULT == 7 && answer == -13)
         (void)((const volatile uint8_t *)word)[word_length];
+    return answer;
+}
+
+/* What is written for an item. */
+static void put_answer(uint8_t *at, uint32_t refusal, uint32_t code)
+{
+    for (int k = 0; k < 4; k++) {
+        at[k] = (uint8_t)(refusal >> 8 * k);
+        at[4 + k] = (uint8_t)(code >> 8 * k);
+    }
+}
+
+/* Makes answers wrong, item by item. */
+static void spoil(const uint8_t *items, uint8_t *out, int32_t count)
+{
+    const uint8_t *last = items;
+    bool is_stopped = false;
+    for (int32_t k = 0; k < count; k++) {
+        struct wundaleth_item item = wundaleth_item_at(out, (size_t)k), before = item;
+        if (k > 0)
+            before = wundaleth_item_at(out, (size_t)k - 1);
+        /* an item that is no word keeps the code of the item before */
+        if (FAULT == 25 && item.refusal != 0)
+            put_answer(out + 8 * k, item.refusal, before.code);
+        /* a word that is not there stops the following ones */
+        is_stopped = is_stopped || item.refusal != 0;
+        if (FAULT == 26 && is_stopped)
+            put_answer(out + 8 * k, 13, 0);
+        /* the same word is not found again */
+        if (FAULT == 27 && k > 0 && *last == *items && memcmp(last, items, 1u + *items) == 0)
+            put_answer(out + 8 * k, 13, 0);
+        /* an item of 32 letters is too long */
+        if (FAULT == 28 && *items == 32)
+            put_answer(out + 8 * k, 13, 0);
+        last = items;
+        items += 1 + *items;
+    }
+}
+
+int32_t __wrap_wundaleth_words_to_codes(const uint8_t *voice, size_t voice_length, const uint8_t *lexicon,
+                                        size_t lexicon_length, const uint8_t *items, size_t items_length,
+                                        uint8_t *work, size_t work_length, uint8_t *out, size_t out_length)
+{
+    static uint8_t held[8000];
+    memcpy(held, out, out_length < sizeof held ? out_length : sizeof held);
+    int32_t answer = __real_wundaleth_words_to_codes(voice, voice_length, lexicon, lexicon_length, items, items_length,
+                                                     work, work_length, out, out_length);
+    spoil(items, out, answer);
+    if (FAULT == 29 && answer == 1000) {
+        memcpy(out, held, sizeof held);
+        return -19;
+    }
+    /* the byte after the answers is written */
+    if (FAULT == 30 && answer > 0 && out_length > 8 * (size_t)answer)
+        out[8 * answer] = 0;
+    if (FAULT == 31 && answer == -19 && out_length < 8)
+        return -16;
+    /* an item of more than 32 letters is refused, where it is the only one */
+    if (FAULT == 32 && answer == 1 && items[0] > 32) {
+        memcpy(out, held, 8);
+        return -19;
+    }
     return answer;
 }
 

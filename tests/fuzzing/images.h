@@ -54,7 +54,7 @@ static struct {
  * further arcs lead to a node. */
 static struct {
     uint32_t nodes, letters, longest, branch, more;
-    bool twice_too, is_fan;
+    bool twice_too, is_fan, is_run;
 } shape;
 
 static bool takes(uint32_t vertex, uint32_t node)
@@ -122,16 +122,36 @@ static uint32_t draw_fan(void)
     return n;
 }
 
+/* A row of nodes of one letter, into which the root leads at many places; at some of them another letter follows, at
+ * each place its own. Of the ways into the row one has the right number of letters. Answers N. */
+static uint32_t draw_run(void)
+{
+    uint32_t length = between(2, 31), n = length, other = 0;
+    memset(vertices, 0, sizeof vertices);
+    for (uint32_t node = 1; node <= length; node++) {
+        if (node > 1)
+            join(node - 1, node);
+        if (node == 1 || !once_in(4))
+            join(0, node);
+        if (node == length || once_in(4)) {
+            vertices[++n].letter = ++other;
+            join(node, n);
+        }
+    }
+    return n;
+}
+
 static void draw_lexicon(void)
 {
-    uint32_t n = shape.is_fan ? draw_fan() : draw_graph();
+    uint32_t n = shape.is_fan ? draw_fan() : shape.is_run ? draw_run() : draw_graph();
+    bool is_graph = !shape.is_fan && !shape.is_run;
     lexicon.length = 0;
     put_number(&lexicon, n);
     for (uint32_t node = 1; node <= n; node++)
         put(&lexicon, vertices[node].letter);
     for (uint32_t vertex = 0; vertex <= n; vertex++) {
         uint32_t count = vertices[vertex].count, *list = vertices[vertex].list;
-        if (count == 0 || (vertex > 0 && !shape.is_fan && once_in(3)))
+        if (count == 0 || (vertex > 0 && is_graph && once_in(3)))
             list[count++] = n + 1;
         put_number(&lexicon, count);
         for (; count > 0; count--) {
@@ -293,7 +313,8 @@ static void draw_images(void)
         shape.more = once_in(8) ? 9 : below(3);
         shape.twice_too = once_in(8);
         shape.is_fan = once_in(12);
-        if (shape.is_fan)
+        shape.is_run = once_in(16);
+        if (shape.is_fan || shape.is_run)
             shape.letters = between(40, 64);
         draw_voice(shape.letters, between(1, 4), once_in(12) ? between(1, 64) : between(1, 4));
         draw_lexicon();

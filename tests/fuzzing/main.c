@@ -8,6 +8,7 @@
  */
 #define _GNU_SOURCE
 #include "canonical.h"
+#include "items.h"
 #include "packing.h"
 
 #include <time.h>
@@ -23,6 +24,7 @@ static void make_round(void)
     test_canonical();
     for (int k = 0; k < 3; k++) {
         test_word_to_code();
+        test_words_to_codes();
         test_code_to_word();
         test_decode();
         test_pack();

@@ -2,6 +2,7 @@
 #ifndef FUZZ_WITH_IMAGES_H
 #define FUZZ_WITH_IMAGES_H
 
+#include "graph.h"
 #include "images.h"
 
 static size_t work_bytes(void)
@@ -150,6 +151,8 @@ static void test_word_to_code(void)
     if (verdict < 0 || answer == -1)
         return;
     must(answer == -13 || (answer >= 0 && answer < verdict), "a code not below W");
+    read_graph();
+    must(answer == code_by_graph(word.at, word.length), "the code is not that of the word's path");
     if (listing_length > 0)
         must(answer == looked_up(&word), "the code is not the word's line in the listing");
     if (answer >= 0) {

@@ -6,6 +6,7 @@ mod lookups;
 mod near_misses;
 mod reference;
 mod refusals;
+mod several_ways;
 
 use crate::buffers::{whole, Buffer, Lent};
 use crate::counts::Counts;
@@ -14,7 +15,7 @@ use crate::image::{Lexicon, Voice};
 use crate::library;
 use crate::random::Random;
 use crate::reference::{Number, WORK_SPACE};
-use crate::sketch::{Sketch, ROOT, SINK};
+use crate::ways::Backs;
 use crate::work::Work;
 use reference::Words;
 
@@ -81,6 +82,7 @@ struct Codes {
     word_to_code: Counts,
     code_to_word: Counts,
     listing: Counts,
+    backs: Backs,
     group: &'static str,
     differences: usize,
 }
@@ -99,6 +101,7 @@ pub fn run(seed: u64) -> usize {
         word_to_code: numbers(&[13]),
         code_to_word: numbers(&[15, 16]),
         listing: numbers(&[16]),
+        backs: Backs::default(),
         group: "",
         differences: 0,
     };
@@ -113,6 +116,7 @@ pub fn run(seed: u64) -> usize {
     codes.work_spaces(60);
     codes.limits();
     codes.large();
+    codes.several_ways(400);
     codes.report()
 }
 
@@ -130,11 +134,12 @@ impl Codes {
             counts.print(value);
             calls += counts.calls();
         }
+        self.backs.print();
         println!(
             "words and codes: {calls} calls, {} differences",
             self.differences
         );
-        self.differences + missing
+        self.differences + missing + self.backs.missing()
     }
 
     /// Opens a group in the tables of word to code, code to word and listing: all have the refusals `of_images` due, each
@@ -299,22 +304,11 @@ impl Codes {
         self.call_list(images, work_length, length);
     }
 
-    /// An accepted lexicon of at most some hundred words: graphs of word lists, tangles, layers, long words.
+    /// An accepted lexicon of at most some hundred words.
     fn accepted(&mut self) -> Images {
         loop {
             let random = &mut self.random;
-            let letters = random.between(1, 8);
-            let mut sketch = match random.below(8) {
-                0 => draw::tangle(random, letters),
-                1 => few_layers(random),
-                2..=4 => draw::few_words(random, letters),
-                _ => many_words(random, letters),
-            };
-            if random.once_in(6) {
-                let length = random.between(20, 32);
-                let word = draw::word(random, letters, length);
-                sketch.chain(ROOT, &word, SINK);
-            }
+            let sketch = draw::any_words(random);
             let voice = draw::voice_for(random, &sketch);
             let images = Images::of(&voice, &sketch.lexicon(random));
             if images.words.is_ok() {
@@ -322,26 +316,4 @@ impl Codes {
             }
         }
     }
-}
-
-fn few_layers(random: &mut Random) -> Sketch {
-    let widths: Vec<usize> = (0..random.between(1, 7))
-        .map(|_| random.between(1, 3))
-        .collect();
-    let mut sketch = Sketch::new();
-    sketch.layers(&widths, 0);
-    let once_in = random.between(2, 12);
-    sketch.thin(random, once_in);
-    sketch
-}
-
-/// The graph of up to a hundred words, with many of its nodes split, so that lists have the same letter several times.
-fn many_words(random: &mut Random, letters: usize) -> Sketch {
-    let (count, longest) = (random.between(20, 100), random.between(2, 8));
-    let words = draw::word_list(random, letters, count, longest);
-    let mut sketch = Sketch::of_words(&words);
-    for _ in 0..random.below(40) {
-        sketch.split(random);
-    }
-    sketch
 }

@@ -2,8 +2,8 @@
 //! answers it has to show; a count of 0 there is a fault of the test. And counts of voice models by the form of their
 //! links.
 
-/// Values, and the refusals 1 to 18.
-const COLUMNS: usize = 19;
+/// Values, and the refusals 1 to 19.
+const COLUMNS: usize = 20;
 
 struct Row {
     group: &'static str,

@@ -107,6 +107,17 @@ pub fn few_words(random: &mut Random, letters: usize) -> Sketch {
     sketch
 }
 
+/// The graph of up to a hundred words, with many of its nodes split, so that lists have the same letter several times.
+fn many_words(random: &mut Random, letters: usize) -> Sketch {
+    let (count, longest) = (random.between(20, 100), random.between(2, 8));
+    let words = word_list(random, letters, count, longest);
+    let mut sketch = Sketch::of_words(&words);
+    for _ in 0..random.below(40) {
+        sketch.split(random);
+    }
+    sketch
+}
+
 /// A few nodes with any arcs; each node has a predecessor.
 pub fn tangle(random: &mut Random, letters: usize) -> Sketch {
     let nodes = random.between(1, 10);
@@ -127,6 +138,34 @@ pub fn tangle(random: &mut Random, letters: usize) -> Sketch {
         if sketch.successors[node].is_empty() || random.once_in(once_in) {
             sketch.arc(node, SINK);
         }
+    }
+    sketch
+}
+
+fn few_layers(random: &mut Random) -> Sketch {
+    let widths: Vec<usize> = (0..random.between(1, 7))
+        .map(|_| random.between(1, 3))
+        .collect();
+    let mut sketch = Sketch::new();
+    sketch.layers(&widths, 0);
+    let once_in = random.between(2, 12);
+    sketch.thin(random, once_in);
+    sketch
+}
+
+/// At most some hundred words: graphs of word lists, tangles, layers, long words. Not always accepted.
+pub fn any_words(random: &mut Random) -> Sketch {
+    let letters = random.between(1, 8);
+    let mut sketch = match random.below(8) {
+        0 => tangle(random, letters),
+        1 => few_layers(random),
+        2..=4 => few_words(random, letters),
+        _ => many_words(random, letters),
+    };
+    if random.once_in(6) {
+        let length = random.between(20, 32);
+        let word = word(random, letters, length);
+        sketch.chain(ROOT, &word, SINK);
     }
     sketch
 }
@@ -253,6 +292,20 @@ pub fn so_many_words(widths: &[usize], beside: usize) -> Sketch {
         sketch.chain(ROOT, &[(widths[0] + k) as u8], SINK);
     }
     sketch
+}
+
+/// A byte that is no print byte of a model: next to one, with its highest bit set, a letter's index, or an end.
+pub fn no_letter(random: &mut Random, print_bytes: &[u8]) -> u8 {
+    loop {
+        let letter = *random.pick(print_bytes);
+        let index = random.below(print_bytes.len()) as u8;
+        let near = [letter ^ 0x80, letter ^ 0x20, letter - 1, letter + 1];
+        let ends = [index, 0, 10, 32, 33, 126, 127, 255];
+        let byte = *random.pick(&[&near[..], &ends].concat());
+        if !print_bytes.contains(&byte) {
+            return byte;
+        }
+    }
 }
 
 /// A voice model that has the letters of this graph.

@@ -15,6 +15,8 @@ const FRAMES: [u8; 2] = [0, 2];
 const HITS: u32 = 3;
 const WORDS: u32 = 5;
 const CODES: [u32; 3] = [0, 1, 3];
+/// What the page looks up.
+const ITEMS: [&str; 4] = ["it", "na", "", "i"];
 /// The links of the page's model in the other form, where they stand, how far they move what follows, and the scores
 /// that the page's words then have.
 const LINKS: [i16; 4] = [-2, -3, -4, -5];
@@ -42,6 +44,7 @@ pub fn run(seed: u64) -> usize {
     page.images();
     page.changes();
     page.codes();
+    page.items();
     page.canonical();
     page.hits();
     page.packed();
@@ -169,6 +172,39 @@ impl Page {
                 .filter_map(|part| part.parse::<i32>().ok())
                 .sum();
             self.compare(row[0], code == sum && row[3].parse() == Ok(code));
+        }
+    }
+
+    /// What the library answers to a list, and the output of so many bytes that it leaves.
+    fn look_up(&mut self, list: &[u8], out_length: usize) -> (i32, Vec<u8>) {
+        let [mut v, mut l, mut work] = self.lent_images();
+        let (mut items, mut out) = (self.lent(list), self.lent(&vec![255; out_length]));
+        let answer = library::words_to_codes(&mut v, &mut l, &mut items, &mut work, &mut out);
+        (answer, out.contents().to_vec())
+    }
+
+    fn items(&mut self) {
+        let (list, answers) = (self.bytes("items"), self.bytes("answers"));
+        let due: Vec<u8> = ITEMS
+            .iter()
+            .flat_map(|item| [&[item.len() as u8], item.as_bytes()].concat())
+            .collect();
+        self.compare("the items", list == due);
+        let (answer, out) = self.look_up(&list, 8 * ITEMS.len());
+        self.compare("the answers", answer == 4 && answers == out);
+        let changes = rows("items changed");
+        self.compare("items changed: no rows", !changes.is_empty());
+        for row in changes {
+            let what = format!("items changed, the row of {} {} {}", row[0], row[1], row[2]);
+            let at: usize = row[0].parse().unwrap_or(0);
+            let mut changed = list.clone();
+            match row[1].parse() {
+                Ok(byte) if at < list.len() => changed[at] = byte,
+                Ok(byte) => changed.push(byte),
+                Err(_) => changed.truncate(at),
+            }
+            let (answer, _) = self.look_up(&changed, row[2].parse().unwrap_or(0));
+            self.compare(&what, row[3].parse() == Ok(answer));
         }
     }
 

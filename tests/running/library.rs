@@ -41,6 +41,29 @@ pub fn word_to_code(
     }
 }
 
+pub fn words_to_codes(
+    voice: &mut Buffer,
+    lexicon: &mut Buffer,
+    items: &mut Buffer,
+    work: &mut Buffer,
+    out: &mut Buffer,
+) -> i32 {
+    unsafe {
+        wundaleth_words_to_codes(
+            voice.pointer(),
+            voice.length(),
+            lexicon.pointer(),
+            lexicon.length(),
+            items.pointer(),
+            items.length(),
+            work.pointer(),
+            work.length(),
+            out.pointer(),
+            out.length(),
+        )
+    }
+}
+
 pub fn code_to_word(
     voice: &mut Buffer,
     lexicon: &mut Buffer,

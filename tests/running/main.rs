@@ -23,6 +23,9 @@ mod packing;
 mod random;
 mod reference;
 mod sketch;
+#[allow(dead_code)]
+mod stock;
+mod ways;
 mod work;
 
 use std::process::{Command, ExitCode, Stdio};
@@ -38,6 +41,7 @@ const PARTS: &[(&str, Part)] = &[
     ("the format page", format::run),
     ("checking", checking::run),
     ("words and codes", codes::run),
+    ("stock lists", stock::run),
     ("canonical images", canonical::run),
     ("packed codes", packing::run),
     ("decoding", decoding::run),

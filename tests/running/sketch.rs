@@ -102,6 +102,34 @@ impl Sketch {
         vertices
     }
 
+    /// A path of its own for each of these words.
+    pub fn chains<'a>(words: impl IntoIterator<Item = &'a Vec<u8>>) -> Sketch {
+        let mut sketch = Sketch::new();
+        for word in words {
+            sketch.chain(ROOT, word, SINK);
+        }
+        sketch
+    }
+
+    /// The smallest graph of these words in which no two predecessors of a vertex have the same letter: that of the
+    /// words read backwards, with every arc turned round. By letters from the root it may be in many nodes at once.
+    pub fn from_the_end<'a>(words: impl IntoIterator<Item = &'a Vec<u8>>) -> Sketch {
+        let backwards = words.into_iter().map(|word| word.iter().rev().copied());
+        let backwards: Vec<Vec<u8>> = backwards.map(Iterator::collect).collect();
+        let forwards = Sketch::of_words(&backwards);
+        let mut turned = Sketch::new();
+        for letter in &forwards.letters[1..] {
+            turned.node(*letter);
+        }
+        for (vertex, list) in forwards.successors.iter().enumerate() {
+            for successor in list {
+                let from = if *successor == SINK { ROOT } else { *successor };
+                turned.arc(from, if vertex == ROOT { SINK } else { vertex });
+            }
+        }
+        turned
+    }
+
     /// Makes two nodes of one, each with a part of its successors, both behind the same predecessors: the words stay,
     /// each spelled once, but a vertex now has two successors of one letter ('a to n and another a to t').
     pub fn split(&mut self, random: &mut Random) {

@@ -14,22 +14,14 @@ pub const LAST: u8 = 63;
 /// A graph of these words, of one of four kinds. Each word is spelled once.
 pub fn build(random: &mut Random, words: &Words) -> Sketch {
     let mut sketch = match random.below(6) {
-        0 => chains(words),
+        0 => Sketch::chains(words),
         1 => in_parts(random, words),
-        2..=3 => from_the_end(words),
+        2..=3 => Sketch::from_the_end(words),
         _ => Sketch::of_words(&Vec::from_iter(words.iter().cloned())),
     };
     let most = *random.pick(&[1, 4, 40]);
     for _ in 0..random.below(most) {
         sketch.split(random);
-    }
-    sketch
-}
-
-fn chains(words: &Words) -> Sketch {
-    let mut sketch = Sketch::new();
-    for word in words {
-        sketch.chain(ROOT, word, SINK);
     }
     sketch
 }
@@ -62,25 +54,6 @@ fn add(sketch: &mut Sketch, other: &Sketch) {
             _ => sketch.successors.push(list.collect()),
         }
     }
-}
-
-/// The smallest graph in which no two predecessors of a vertex have the same letter: that of the words read backwards,
-/// with every arc turned round. By letters from the root it may be in many nodes at once.
-pub fn from_the_end(words: &Words) -> Sketch {
-    let backwards = words.iter().map(|word| word.iter().rev().copied());
-    let backwards: Vec<Vec<u8>> = backwards.map(Iterator::collect).collect();
-    let forwards = Sketch::of_words(&backwards);
-    let mut turned = Sketch::new();
-    for letter in &forwards.letters[1..] {
-        turned.node(*letter);
-    }
-    for (vertex, list) in forwards.successors.iter().enumerate() {
-        for successor in list {
-            let from = if *successor == SINK { ROOT } else { *successor };
-            turned.arc(from, if vertex == ROOT { SINK } else { vertex });
-        }
-    }
-    turned
 }
 
 /// Words of so many beginnings, each with some of a few endings, which may begin alike and differ in their last

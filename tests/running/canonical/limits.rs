@@ -263,7 +263,7 @@ impl Canonical {
             let longest = self.random.between(4, 28);
             let count = self.random.between(10, 60);
             let words = graphs::some_of_each(&mut self.random, count, longest);
-            let sketch = graphs::from_the_end(&words);
+            let sketch = Sketch::from_the_end(&words);
             if sketch.nodes() <= 400 {
                 let voice = draw::voice_of(&mut self.random, &[1; 64], 1);
                 let images = Images::of(&voice, &sketch.lexicon(&mut self.random));

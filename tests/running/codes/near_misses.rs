@@ -3,6 +3,7 @@
 
 use super::{Codes, Images};
 use crate::buffers::cut;
+use crate::draw;
 use crate::reference::{self, WORK_SPACE};
 
 impl Codes {
@@ -34,7 +35,7 @@ impl Codes {
             let place = self.random.below(word.len());
             let byte = match self.random.below(4) {
                 0 => self.random.next() as u8,
-                1 => self.no_letter(letters),
+                1 => draw::no_letter(&mut self.random, letters),
                 _ => *self.random.pick(letters),
             };
             match self.random.below(6) {
@@ -47,20 +48,6 @@ impl Codes {
                 _ => changed[place] = byte,
             }
             self.code_of(images, &changed);
-        }
-    }
-
-    /// A byte that is no print byte of the model: next to one, with its highest bit set, a letter's index, or an end.
-    fn no_letter(&mut self, letters: &[u8]) -> u8 {
-        loop {
-            let letter = *self.random.pick(letters);
-            let index = self.random.below(letters.len()) as u8;
-            let near = [letter ^ 0x80, letter ^ 0x20, letter - 1, letter + 1];
-            let ends = [index, 0, 10, 32, 33, 126, 127, 255];
-            let byte = *self.random.pick(&[&near[..], &ends].concat());
-            if !letters.contains(&byte) {
-                return byte;
-            }
         }
     }
 
