@@ -1,5 +1,5 @@
--- Code to word and the listing: they answer as checking does where it refuses, and else by their own rows, with accepted
--- images and filled tables. Assumes nothing.
+-- Code to word and the listing: they answer as checking does where it refuses, and else by their own rows, with
+-- accepted images and filled tables. Assumes nothing.
 use Prim.Native.Nat.{ℕ, suc, _+_, _≤_, _<_}
 use mathlib.Core.Path.{_≡_, _∙_, sym, ap}
 use mathlib.Core.List.{List, _++_}
@@ -22,7 +22,8 @@ use Rattle.graph.specs.Checking.{firstRows, checkAnswer}
 use Rattle.graph.proofs.Accepted.{accepted, sound-images, Passed, passed}
 use Rattle.checking.specs.Tables.{openedVertices}
 use Rattle.checking.proofs.VertexRows.{opened-vertices}
-use Rattle.codes.specs.Lookup.{codeToWordRows, codeToWordAnswer, codeToWordOut, listing, listRows, listAnswer, listOut}
+use Rattle.codes.specs.Lookup.{codeToWordRows, codeToWordAnswer, codeToWordOut, listing, listRows, listAnswer}
+use Rattle.codes.specs.Lookup.{listOut}
 use Rattle.codes.specs.Steps.{OpenedImages, lettersOfCode, Spellable, Spelled, Printable, roomAnswer}
 use Rattle.codes.specs.Lines.{roomRows, BytesAnswered}
 use Rattle.codes.proofs.Words.{well-formed, printable, word-letters}

@@ -1,9 +1,9 @@
 -- The items of a stock list, read one after the other, and that reading undoes writing. Assumes nothing.
 use Prim.Native.Nat.{ℕ, zero, suc, _≤_}
-use mathlib.Core.Path.{_≡_, refl, sym, ap, ap₂, _∙_}
-use mathlib.Core.Bool.{Bool, true, false, _||_}
+use mathlib.Core.Path.{_≡_, refl, ap}
+use mathlib.Core.Bool.{false, _||_}
 use mathlib.Core.Logic.{⊎-elim}
-use mathlib.Core.List.{List, [], _∷_, _++_, flatMap, List·Memᴰ, List·Memᴰ·tail as there}
+use mathlib.Core.List.{List, [], _∷_, List·Memᴰ, List·Memᴰ·tail as there}
 use mathlib.Core.List.{Memᴰ·append-right, List·Memᴰ·cases-cons as cases, List·Memᴰ·not-nil as not-nil}
 use native.Mathlib.Omega.{arith}
 use lib.ListN.{length, take, drop, length-drop, take-append-drop}
@@ -55,13 +55,15 @@ module _ (k : ℕ) (bytes : List ℕ) where
   unfolding itemsOf itemsWithin
   items-next =
       let l = length-drop k bytes in
-      ap (λ r. take k bytes ∷ r) (within-enough (length bytes) (length (drop k bytes)) (drop k bytes) (omega arith) (omega arith))
+      ap (λ r. take k bytes ∷ r)
+      (within-enough (length bytes) (length (drop k bytes)) (drop k bytes) (omega arith) (omega arith))
 
   pub past-next : runsPast (k ∷ bytes) ≡ (ltb (length bytes) k || runsPast (drop k bytes))
   unfolding runsPast pastWithin
   past-next =
       let l = length-drop k bytes in
-      ap (λ r. ltb (length bytes) k || r) (past-enough (length bytes) (length (drop k bytes)) (drop k bytes) (omega arith) (omega arith))
+      ap (λ r. ltb (length bytes) k || r)
+      (past-enough (length bytes) (length (drop k bytes)) (drop k bytes) (omega arith) (omega arith))
 
 -- ---- the bytes of an item are bytes of the list
 

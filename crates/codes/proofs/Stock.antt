@@ -2,11 +2,9 @@
 -- leaves for each word what word to code answers of it alone. Assumes nothing.
 use Prim.Native.Nat.{ℕ, zero, suc, _+_, _*_, _^_, _≤_, _<_}
 use mathlib.Core.Path.{_≡_, refl, sym, ap, ap₂, _∙_}
-use mathlib.Core.Bool.{true, false, _||_}
-use mathlib.Core.Logic.{_↔_}
+use mathlib.Core.Bool.{true, false}
 use mathlib.Core.List.{List, [], _∷_, _++_, flatMap, append-assoc}
 use native.Mathlib.Omega.{arith}
-use native.Mathlib.Nat.{add-assoc}
 use lib.ListN.{length, getD, take, drop, length-append, length-drop, take-append-drop}
 use lib.Seq.{length-take-le, take-append-seam, drop-append-add, drop-at, take-at}
 use lib.Dec.{ltb}
@@ -14,12 +12,10 @@ use borrow.Author.Tests.{le-ltb, ltb-false}
 use Rattle.endian.specs.Bytes.{u32, u32Bytes}
 use Rattle.endian.proofs.Booleans.{or-none}
 use Rattle.endian.proofs.Bytes.{u32-written}
-use Rattle.call.specs.declared.Refusal.the-variants.{NoWord}
-use Rattle.call.specs.Table.{Answer, value, refused, noneApplies}
+use Rattle.call.specs.Table.{value, noneApplies}
 use Rattle.call.specs.Buffers.{spaceRows, written}
 use Rattle.call.proofs.Table.{none-join, none-parts, none-says, passed-none, unless-past, unless-value, value-passed}
-use Rattle.call.proofs.Buffers.{written-length}
-use Rattle.graph.specs.Graph.{graphOf, wordCount}
+use Rattle.graph.specs.Graph.{graphOf}
 use Rattle.graph.specs.Words.{LexiconWord, pathOfWord, codeOf}
 use Rattle.graph.specs.Checking.{Accepted, imageRows, firstRows}
 use Rattle.graph.proofs.Accepted.{accepted, words-limit}
@@ -41,11 +37,15 @@ unfolding listOf flatMap
 words-read [] = (past-none, items-none)
 words-read (word ∷ words) =
     let r = words-read words in
-    let back : drop (length word) (word ++ listOf words) ≡ listOf words = drop-at word (listOf words) (length word) refl in
-    (
+    let back : drop (length word) (word ++ listOf words) ≡ listOf words =
+    drop-at word (listOf words) (length word) refl in (
       past-next (length word) (word ++ listOf words)
-          ∙ rw (back, r .0, le-ltb (length (word ++ listOf words)) (length word)
-          (omega (arith, length-append word (listOf words)))) refl,
+          ∙ rw (
+            back,
+            r .0,
+            le-ltb (length (word ++ listOf words)) (length word)
+                (omega (arith, length-append word (listOf words))),
+          ) refl,
       items-next (length word) (word ++ listOf words)
           ∙ ap₂ _∷_ (take-append-seam word (listOf words)) (ap itemsOf back ∙ r .1),
     )
@@ -105,8 +105,7 @@ module _ (v x items work out : List ℕ) where
         let r = none-parts (firstRows v x work) _ (p .0) in
         let f = none-parts (spaceRows work) (imageRows v x) (r .0) in
         let own = none-says _ (r .1) in
-        let bad = or-none (runsPast items) _ (own .0) in
-        (
+        let bad = or-none (runsPast items) _ (own .0) in (
           p .1,
           record {
             space = ltb-false (length work) 64000 (none-says _ (f .0) .0);
@@ -135,7 +134,8 @@ unfolding flatMap
 piece f eight d [] i rest h = absurd (omega arith)
 piece f eight d (a ∷ l) zero rest h =
     append-assoc (f a) (flatMap f l) rest
-    ∙ ap (λ (m : List ℕ). f a ++ m) (sym (ap (drop 8) (append-assoc (f a) (flatMap f l) rest) ∙ drop-at (f a) (flatMap f l ++ rest) 8 (eight a)))
+    ∙ ap (λ (m : List ℕ). f a ++ m)
+    (sym (ap (drop 8) (append-assoc (f a) (flatMap f l) rest) ∙ drop-at (f a) (flatMap f l ++ rest) 8 (eight a)))
 piece f eight d (a ∷ l) (suc i) rest h =
     later i ∙ piece f eight d l i rest (omega arith) ∙ ap (λ (m : List ℕ). f (getD l i d) ++ m) (sym (later (suc i)))
   where
@@ -190,7 +190,11 @@ module _ (v x items work out : List ℕ) (words : List (List ℕ)) (a : StockAns
   left-is : left ≡ flatMap answer words ++ drop (8 * length words) out
   unfolding wordsToCodesOut itemAnswers written
   left-is =
-      rw (stock-value v x items work out words a, items-read items .read words (a .list) .1, length-pieces answer eight words) refl
+      rw (
+        stock-value v x items work out words a,
+        items-read items .read words (a .list) .1,
+        length-pieces answer eight words,
+      ) refl
 
   passed : noneApplies (firstRows v x work) ≡ true
   passed = rows-passed v x work (a .space) (a .images)
@@ -211,7 +215,8 @@ module _ (v x items work out : List ℕ) (words : List (List ℕ)) (a : StockAns
     inside = omega (arith, left-long, a .room)
 
     -- whatever work space it is lent
-    same-work : (other : List ℕ) → 64000 ≤ length other → wordToCodeAnswer v x word work ≡ wordToCodeAnswer v x word other
+    same-work : (other : List ℕ) → 64000 ≤ length other
+        → wordToCodeAnswer v x word work ≡ wordToCodeAnswer v x word other
     unfolding wordToCodeAnswer wordToCodeRows
     same-work other k =
         unless-past (firstRows v x work) _ _ passed
@@ -229,8 +234,7 @@ module _ (v x items work out : List ℕ) (words : List (List ℕ)) (a : StockAns
     found w =
         let e = here ∙ ap (λ r. answerBytes r ++ drop (8 * suc i) left) (word-found v x work word passed w) in
         let below = code-theorems v x (a .images) .code-below word w in
-        let most = words-limit (accepted (a .images)) in
-        (
+        let most = words-limit (accepted (a .images)) in (
           first-number left 0 _ (drop (8 * suc i) left) inside e (omega arith),
           second-number left 0 _ (drop (8 * suc i) left) inside e (omega (arith, below, most)),
         )
@@ -238,8 +242,7 @@ module _ (v x items work out : List ℕ) (words : List (List ℕ)) (a : StockAns
     missing : ¬ LexiconWord v (graphOf x) word → (u32 left (8 * i) ≡ 13) × (u32 left (8 * i + 4) ≡ 0)
     unfolding answerBytes
     missing n =
-        let e = here ∙ ap (λ r. answerBytes r ++ drop (8 * suc i) left) (word-missing v x work word passed n) in
-        (
+        let e = here ∙ ap (λ r. answerBytes r ++ drop (8 * suc i) left) (word-missing v x work word passed n) in (
           first-number left 13 0 (drop (8 * suc i) left) inside e (omega arith),
           second-number left 13 0 (drop (8 * suc i) left) inside e (omega arith),
         )
@@ -250,9 +253,11 @@ module _ (v x items work out : List ℕ) (words : List (List ℕ)) (a : StockAns
     found = found;
     missing = missing;
     behind = ap (drop (8 * length words)) left-is
-        ∙ drop-at (flatMap answer words) (drop (8 * length words) out) (8 * length words) (length-pieces answer eight words);
+        ∙ drop-at (flatMap answer words) (drop (8 * length words) out) (8 * length words)
+        (length-pieces answer eight words);
     long = left-long;
   }
 
 pub stock-left : StockLeft
-stock-left v x items work out words a = (stock-value v x items work out words a, items-answered v x items work out words a)
+stock-left v x items work out words a =
+    (stock-value v x items work out words a, items-answered v x items work out words a)

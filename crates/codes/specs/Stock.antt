@@ -39,7 +39,8 @@ pub record ItemsAnswered (v x : List ℕ) (words : List (List ℕ)) (out left : 
       → take 8 (drop (8 * i) left) ≡ answerBytes (wordToCodeAnswer v x (getD words i []) work)
   -- 0 and the word's code, or 13 and 0
   pub found : (i : ℕ) → i < length words → LexiconWord v (graphOf x) (getD words i [])
-      → (u32 left (8 * i) ≡ 0) × (u32 left (8 * i + 4) ≡ codeOf (graphOf x) (pathOfWord v (graphOf x) (getD words i [])))
+      → (u32 left (8 * i) ≡ 0)
+      × (u32 left (8 * i + 4) ≡ codeOf (graphOf x) (pathOfWord v (graphOf x) (getD words i [])))
   pub missing : (i : ℕ) → i < length words → ¬ LexiconWord v (graphOf x) (getD words i [])
       → (u32 left (8 * i) ≡ 13) × (u32 left (8 * i + 4) ≡ 0)
   -- the bytes behind keep their values

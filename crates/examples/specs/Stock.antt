@@ -1,16 +1,15 @@
--- A stock list in one call: its items, its answers and its limits, computed. Each example shows one sentence of document
--- 02, 4/13. Assumes nothing.
+-- A stock list in one call: its items, its answers and its limits, computed. Each example shows one sentence of
+-- document 02, 4/13. Assumes nothing.
 use Prim.Native.Nat.{ℕ}
 use mathlib.Core.Path.{_≡_}
 use mathlib.Core.Bool.{true, false}
 use mathlib.Core.List.{List, [], _∷_, _++_, map}
-use lib.ListN.{length, replicate}
+use lib.ListN.{replicate}
 use Rattle.call.specs.declared.Refusal.the-variants.{WorkSpace, SameLetters, Output, Items}
 use Rattle.call.specs.Table.{value, refused, number}
-use Rattle.call.specs.Buffers.{cleared}
 use Rattle.codes.specs.Items.{itemsOf, runsPast, badItems, wordsToCodesAnswer, wordsToCodesOut, wordsToCodesWork}
 use Rattle.codes.specs.Stock.{listOf}
-use Rattle.examples.specs.SmallLexicon.{voice, P, Q, twoAs, twoBranches, it, work}
+use Rattle.examples.specs.SmallLexicon.{voice, P, Q, twoAs, twoBranches, work}
 
 -- an, x, the empty word, it, at, at
 abbrev pub six : List ℕ

@@ -20,7 +20,6 @@ use Rattle.lexicon.specs.Lexicon.{sinkOf}
 use Rattle.graph.specs.Graph.{Graph, graphOf, sink, FullPath, from-root, wordCount}
 use Rattle.graph.specs.Words.{wordOfPath, LexiconWord, pathOfWord, codeOf}
 use Rattle.graph.specs.Checking.{Accepted, firstRows, checkAnswer}
-use Rattle.graph.proofs.Sound.{Sound}
 use Rattle.graph.proofs.Paths.{full-paths}
 use Rattle.graph.proofs.Accepted.{accepted, sound-images, Passed}
 use Rattle.checking.proofs.Arcs.{sound-of}
@@ -87,8 +86,11 @@ pub root-few : {x : List ℕ} {vertices : List (List ℕ)} → Seekable x vertic
 unfolding sink sinkOf
 root-few {x} {vertices} t word low c e =
     let formed = t .countable .tabled .located .well-formed in
-    omega (arith, t .countable .few {u = 0} (omega arith),
-    after-within (sound-of formed) (printsColumn vertices) (t .end) word low {u = 0} (omega arith) e)
+    omega (
+      arith,
+      t .countable .few {u = 0} (omega arith),
+      after-within (sound-of formed) (printsColumn vertices) (t .end) word low {u = 0} (omega arith) e,
+    )
 
 -- ---- as word to code answers
 
@@ -162,4 +164,5 @@ module _ (v x work word : List ℕ) where
   pub word-sought : {W : ℕ} → Passed v x work W → {prints : List ℕ} → Prints v x prints → Bytes word
       → wordToCodeAnswer v x word work ≡ soughtAnswer prints (graphOf x) word
   unfolding wordToCodeAnswer wordToCodeRows
-  word-sought p f low = unless-past (firstRows v x work) _ _ (p .rows) ∙ looked-sought {v = v} {x = x} (p .images) f word low
+  word-sought p f low =
+      unless-past (firstRows v x work) _ _ (p .rows) ∙ looked-sought {v = v} {x = x} (p .images) f word low

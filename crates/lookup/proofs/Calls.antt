@@ -1,8 +1,8 @@
 -- The calls after checking: what they are lent, and that the list's answers are those of word to code. Assumes nothing.
 use Prim.Native.Nat.{ℕ, _*_, _≤_, _<_}
-use mathlib.Core.Path.{_≡_, refl, sym, ap, ap₂, _∙_}
+use mathlib.Core.Path.{_≡_, refl, sym, ap, _∙_}
 use mathlib.Core.Bool.{Bool, true, false}
-use mathlib.Core.List.{List, [], _∷_, _++_, flatMap, List·Memᴰ}
+use mathlib.Core.List.{List, [], _∷_, _++_}
 use native.Mathlib.Omega.{arith}
 use lib.ListN.{length, drop}
 use lib.Dec.{ltb}
@@ -23,10 +23,9 @@ use Rattle.checking.specs.Tables.{openedVertices, Vertices}
 use Rattle.checking.proofs.VertexRows.{opened-vertices}
 use Rattle.codes.specs.Items.{itemsOf, runsPast, badItems, answerBytes, itemAnswers}
 use Rattle.codes.specs.Items.{wordsToCodesRows, wordsToCodesAnswer, wordsToCodesOut}
-use Rattle.codes.specs.Lookup.{wordToCodeAnswer}
 use Rattle.codes.proofs.Items.{item-bytes}
 use Rattle.codes.proofs.Words.{well-formed}
-use Rattle.lookup.specs.Seeking.{soughtAnswer, Prints}
+use Rattle.lookup.specs.Seeking.{Prints}
 use Rattle.lookup.specs.Items.{countAnswer, soughtBytes}
 use Rattle.lookup.proofs.Answers.{word-sought}
 use Rattle.lookup.proofs.Stock.{length-sought}
@@ -60,7 +59,8 @@ module _ (items : List ℕ) where
   none-past e = or-none (runsPast items) _ e .0
 
 module _ (v x items work out : List ℕ) where
-  pub list-refused : {r : Refusal} → checkAnswer v x work ≡ refused r → wordsToCodesAnswer v x items work out ≡ refused r
+  pub list-refused : {r : Refusal} → checkAnswer v x work ≡ refused r
+      → wordsToCodesAnswer v x items work out ≡ refused r
   unfolding checkAnswer wordsToCodesAnswer wordsToCodesRows
   list-refused e = refused-before (firstRows v x work) _ (wordCount (graphOf x)) _ e
 

@@ -1,10 +1,10 @@
--- The chain of marks: a pair that was not marked goes before all others, and the first one of the chain can be taken off
--- it. Once all are off, every number is 0. Assumes nothing.
-use Prim.Native.Nat.{ℕ, zero, suc, _+_, _*_, _/_, _%_, _≤_, _<_}
+-- The chain of marks: a pair that was not marked goes before all others, and the first one of the chain can be taken
+-- off it. Once all are off, every number is 0. Assumes nothing.
+use Prim.Native.Nat.{ℕ, zero, suc, _+_, _*_, _/_, _≤_, _<_}
 use mathlib.Core.Path.{_≡_, refl, sym, ap, _∙_}
 use mathlib.Core.Bool.{cond}
 use mathlib.Core.Logic.{⊎-elim}
-use mathlib.Core.List.{List, [], _∷_, List·Memᴰ, List·Memᴰ·head as here, List·Memᴰ·tail as there}
+use mathlib.Core.List.{List, _∷_, List·Memᴰ, List·Memᴰ·head as here, List·Memᴰ·tail as there}
 use mathlib.Core.List.{List·Memᴰ·cases-cons as cases, List·Memᴰ·not-nil as not-nil}
 use native.Mathlib.Omega.{arith}
 use native.Mathlib.Decide.{ℕ-discrete}
@@ -39,34 +39,35 @@ chain-places {m} (goes-on {p} {ps} low high new c) q i =
 -- ---- one more pair
 
 module _ {m n k : List ℕ} {p last : ℕ} (c : Chained m (numberAt m 0)) (low : 1 ≤ p) (high : p ≤ 13266)
-    (free : numberAt m p ≡ 0) (is-last : last ≡ numberAt m 0) (first : NumberPut m p last n) (second : NumberPut n 0 p k)
-    where
-  abbrev ps : List ℕ
-  ps = c .pairs
+    (free : numberAt m p ≡ 0) (is-last : last ≡ numberAt m 0) (first : NumberPut m p last n)
+    (second : NumberPut n 0 p k)
+  where
+    abbrev ps : List ℕ
+    ps = c .pairs
 
-  new : ¬ List·Memᴰ p ps
-  new i = omega (arith, chain-places (c .chain) p i .2, free)
+    new : ¬ List·Memᴰ p ps
+    new i = omega (arith, chain-places (c .chain) p i .2, free)
 
-  number-kept : (q : ℕ) → ¬ (q ≡ p) → 1 ≤ q → numberAt k q ≡ numberAt m q
-  number-kept q d l = second .others q (λ e. omega arith) ∙ first .others q d
+    number-kept : (q : ℕ) → ¬ (q ≡ p) → 1 ≤ q → numberAt k q ≡ numberAt m q
+    number-kept q d l = second .others q (λ e. omega arith) ∙ first .others q d
 
-  of-pair : numberAt k p ≡ numberAt m 0
-  of-pair = second .others p (λ e. omega arith) ∙ first .here ∙ is-last
+    of-pair : numberAt k p ≡ numberAt m 0
+    of-pair = second .others p (λ e. omega arith) ∙ first .here ∙ is-last
 
-  pub pair-marked : PairMarked m p k
-  pair-marked = record {
-    long = second .long ∙ first .long;
-    chained = rw (second .here) (record {
-      pairs = p ∷ ps;
-      chain = goes-on low high new (rw of-pair (chain-same (c .chain)
-          (λ q i. number-kept q (λ e. new (rw e at i)) (chain-places (c .chain) q i .0))));
-      all = λ {p = q} l h d. elim (ℕ-discrete q p) [
-        | yes e ↦ here e
-        | no n ↦ there (c .all l h (λ z. d (number-kept q n l ∙ z)))
-      ];
-    });
-    others = number-kept;
-  }
+    pub pair-marked : PairMarked m p k
+    pair-marked = record {
+      long = second .long ∙ first .long;
+      chained = rw (second .here) (record {
+        pairs = p ∷ ps;
+        chain = goes-on low high new (rw of-pair (chain-same (c .chain)
+            (λ q i. number-kept q (λ e. new (rw e at i)) (chain-places (c .chain) q i .0))));
+        all = λ {p = q} l h d. elim (ℕ-discrete q p) [
+          | yes e ↦ here e
+          | no n ↦ there (c .all l h (λ z. d (number-kept q n l ∙ z)))
+        ];
+      });
+      others = number-kept;
+    }
 
 -- ---- the first pair taken off
 
@@ -85,8 +86,11 @@ pub counted-falls : {m n : List ℕ} {p : ℕ} → NumberPut m p 0 n → 1 ≤ n
 unfolding counted
 counted-falls put marked zero h = absurd (omega arith)
 counted-falls {m} {n} {p} put marked (suc k) h = elim (ℕ-discrete p k) [
-  | yes e ↦ rw (ap (numberAt n) (sym e) ∙ put .here, counted-same put k (omega arith),
-      ne-eqb (numberAt m k) 0 (λ z. omega (arith, ap (numberAt m) e))) (omega arith)
+  | yes e ↦ rw (
+    ap (numberAt n) (sym e) ∙ put .here,
+    counted-same put k (omega arith),
+    ne-eqb (numberAt m k) 0 (λ z. omega (arith, ap (numberAt m) e)),
+  ) (omega arith)
   | no d ↦ rw (put .others k (λ e. d (sym e))) (omega (arith, counted-falls put marked k (omega arith)))
 ]
 

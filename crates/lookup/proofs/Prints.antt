@@ -1,7 +1,7 @@
--- The column of prints while it is filled, from the first node up, with the sink's last. The other columns that are used
--- stay as they were. Assumes nothing.
-use Prim.Native.Nat.{ℕ, suc, _+_, _*_, _≤_, _<_}
-use mathlib.Core.Path.{_≡_, refl, sym, ap, _∙_}
+-- The column of prints while it is filled, from the first node up, with the sink's last. The other columns that are
+-- used stay as they were. Assumes nothing.
+use Prim.Native.Nat.{ℕ, suc, _+_, _≤_, _<_}
+use mathlib.Core.Path.{_≡_, refl, ap, _∙_}
 use mathlib.Core.List.{List, []}
 use native.Mathlib.Omega.{arith}
 use native.Mathlib.Decide.{ℕ-discrete}
@@ -16,7 +16,7 @@ use Rattle.checking.proofs.Columns.{column-long, column-stored, column-kept}
 use Rattle.codes.specs.Lines.{Countable}
 use Rattle.codes.proofs.Words.{well-formed}
 use Rattle.codes.proofs.Whole.{countable}
-use Rattle.lookup.specs.Seeking.{printsColumn, Prints, Printed}
+use Rattle.lookup.specs.Seeking.{printsColumn, Printed}
 
 -- ---- the table
 

@@ -31,7 +31,8 @@ module _ (items : List ℕ) {at : ℕ} (h : at < length items) where
   after : drop letters (drop (at + 1) items) ≡ drop (at + 1 + letters) items
   after = drop-drop letters (at + 1) items
 
-  pub items-here : itemsOf (drop at items) ≡ take letters (drop (at + 1) items) ∷ itemsOf (drop (at + 1 + letters) items)
+  pub items-here : itemsOf (drop at items)
+      ≡ take letters (drop (at + 1) items) ∷ itemsOf (drop (at + 1 + letters) items)
   items-here =
       ap itemsOf here ∙ items-next letters (drop (at + 1) items)
       ∙ ap (λ (l : List ℕ). take letters (drop (at + 1) items) ∷ itemsOf l) after
@@ -47,7 +48,7 @@ module _ (items : List ℕ) {at : ℕ} (h : at < length items) where
       → (at + 1 + letters ≤ length items) × (runsPast (drop (at + 1 + letters) items) ≡ false)
   inside e =
       let o = or-none (ltb (length (drop (at + 1) items)) letters) (runsPast (drop (at + 1 + letters) items))
-          (sym past-here ∙ e) in
+      (sym past-here ∙ e) in
       (omega (arith, ltb-false (length (drop (at + 1) items)) letters (o .0), length-drop (at + 1) items), o .1)
 
 -- ---- counting
@@ -79,8 +80,11 @@ module _ {items : List ℕ} {at count : ℕ} (c : Counting items at count) where
 
     pub count-past : length items < at + 1 + k → refused Items ≡ countAnswer items
     unfolding countAnswer unless badItems
-    count-past l = rw (c .past, past-here items h,
-        lt-ltb (length (drop (at + 1) items)) k (omega (arith, length-drop (at + 1) items))) refl
+    count-past l = rw (
+      c .past,
+      past-here items h,
+      lt-ltb (length (drop (at + 1) items)) k (omega (arith, length-drop (at + 1) items)),
+    ) refl
 
     pub count-next : ¬ (count ≡ 1000) → at + 1 + k ≤ length items → Counting items (at + 1 + k) (count + 1)
     count-next n l = record {
@@ -116,7 +120,8 @@ bytes-more done more out₀ {out} {n} long e room =
         ∙ drop-append-add done (drop n out₀) (length more) ∙ drop-drop (length more) n out₀
 
 module _ (prints : List ℕ) (g : Graph) where
-  sought-append : (l m : List (List ℕ)) → soughtBytes prints g (l ++ m) ≡ soughtBytes prints g l ++ soughtBytes prints g m
+  sought-append : (l m : List (List ℕ))
+      → soughtBytes prints g (l ++ m) ≡ soughtBytes prints g l ++ soughtBytes prints g m
   unfolding soughtBytes
   sought-append l m = flatMap-append _ l m
 
@@ -179,8 +184,15 @@ module _ {prints : List ℕ} {g : Graph} {items out₀ out : List ℕ} {at answe
 
     pub answer-room : 8 * length (itemsOf items) ≤ length out₀ → answered + 8 ≤ length out
     answer-room r =
-        omega (arith, r, a .count, a .long, ap length (a .split), ap length (items-here items h),
-        length-append (a .done) (itemsOf (drop at items)))
+        omega (
+          arith,
+          r,
+          a .count,
+          a .long,
+          ap length (a .split),
+          ap length (items-here items h),
+          length-append (a .done) (itemsOf (drop at items)),
+        )
 
     pub answer-next : 8 * length (itemsOf items) ≤ length out₀ → (word : List ℕ) → word ≡ item → {out′ : List ℕ}
         → out′ ≡ sets out answered (answerBytes (soughtAnswer prints g word))

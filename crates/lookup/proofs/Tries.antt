@@ -2,7 +2,7 @@
 -- passed, is what all gave at the beginning. Assumes nothing.
 use Prim.Native.Nat.{ℕ, suc, _+_, _*_, _≤_, _<_}
 use mathlib.Core.Path.{_≡_, refl, sym, ap, _∙_}
-use mathlib.Core.List.{List, [], _∷_, List·Memᴰ}
+use mathlib.Core.List.{List}
 use mathlib.Core.Option.{Option, none, some}
 use native.Mathlib.Omega.{arith}
 use native.Mathlib.Decide.{ℕ-discrete, decLt}
@@ -11,15 +11,11 @@ use lib.ListN.{length, getD, drop, drop-of-length-le}
 use lib.Seq.{drop-cons, getD-drop}
 use borrow.Author.Tests.{eq-eqb, ne-eqb, lt-ltb, le-ltb}
 use Rattle.endian.specs.Bytes.{Bytes, u16}
-use Rattle.endian.specs.Rows.{numberAt}
 use Rattle.endian.proofs.Lists.{index-of}
-use Rattle.call.specs.declared.Refusal.{Refusal}
-use Rattle.call.specs.declared.Refusal.the-variants.{NoWord}
-use Rattle.call.specs.Table.{value, refused}
-use Rattle.lexicon.specs.Lexicon.{nodeCount, sinkOf, arcsAt, successors}
-use Rattle.graph.specs.Graph.{Graph, graphOf, sink, pathCount}
+use Rattle.lexicon.specs.Lexicon.{nodeCount, arcsAt}
+use Rattle.graph.specs.Graph.{Graph, graphOf, pathCount}
 use Rattle.checking.specs.Tables.{WellFormed}
-use Rattle.checking.proofs.Arcs.{sound-of, ArcNext, arc-next, arcs-done}
+use Rattle.checking.proofs.Arcs.{ArcNext, arc-next, arcs-done}
 use Rattle.checking.proofs.Increments.{CountsPassed, counts-start, counts-next}
 use Rattle.lookup.specs.Seeking.{wantedAt, codeOr, firstCode, codeBy, codeAfter, codeNumber}
 use Rattle.lookup.specs.Marks.{placeOf, Marks, SameBelow, PairMarked}
@@ -45,13 +41,17 @@ module _ (word : List ℕ) (i : ℕ) where
   wanted-low h low = rw (wanted-letter h) low
 
 module _ (prints : List ℕ) (g : Graph) (word : List ℕ) (i s : ℕ) where
-
   pub fits-not : ¬ (getD prints s 0 ≡ wantedAt word i) → codeBy prints g (drop i word) s ≡ none
   unfolding codeBy
   fits-not d = elim (decLt i (length word)) [
-    | yes h ↦ rw (drop-cons word i 0 h, ne-eqb (getD prints s 0) (getD word i 0) (λ e. d (e ∙ sym (wanted-letter word i h)))) refl
-    | no n ↦ rw (drop-of-length-le word {i = i} (omega arith),
-        ne-eqb (getD prints s 0) 256 (λ e. d (e ∙ sym (wanted-end word i (omega arith))))) refl
+    | yes h ↦ rw (
+      drop-cons word i 0 h,
+      ne-eqb (getD prints s 0) (getD word i 0) (λ e. d (e ∙ sym (wanted-letter word i h))),
+    ) refl
+    | no n ↦ rw (
+      drop-of-length-le word {i = i} (omega arith),
+      ne-eqb (getD prints s 0) 256 (λ e. d (e ∙ sym (wanted-end word i (omega arith)))),
+    ) refl
   ]
 
   module _ (fits : getD prints s 0 ≡ wantedAt word i) where
@@ -66,7 +66,8 @@ module _ (prints : List ℕ) (g : Graph) (word : List ℕ) (i s : ℕ) where
     pub fits-letter : i < length word → codeBy prints g (drop i word) s ≡ codeAfter prints g s (drop (i + 1) word)
     unfolding codeBy codeAfter
     fits-letter h =
-        rw (drop-cons word i 0 h, eq-eqb (getD prints s 0) (getD word i 0) (fits ∙ wanted-letter word i h), add-one i) refl
+        rw (drop-cons word i 0 h, eq-eqb (getD prints s 0) (getD word i 0) (fits ∙ wanted-letter word i h), add-one i)
+        refl
 
 -- the bytes of a word, from each of them on
 pub low-bytes : (word : List ℕ) → ((j : ℕ) → getD word j 0 < 256) → (i : ℕ) → Bytes (drop i word)
@@ -99,7 +100,8 @@ module _ {x prints word : List ℕ} (w : WellFormed x) {i u : ℕ} (h : u ≤ no
     pub try-done : stop ≤ at → codeAfter prints (graphOf x) u (drop i word) ≡ none
     unfolding firstCode
     try-done k =
-        t .left ∙ ap (λ (l : List ℕ). firstCode (codeBy prints (graphOf x) (drop i word)) (pathCount (graphOf x)) l passed)
+        t .left
+        ∙ ap (λ (l : List ℕ). firstCode (codeBy prints (graphOf x) (drop i word)) (pathCount (graphOf x)) l passed)
         (arcs-done (t .counts .arcs) k)
 
     module _ (k : at < stop) where
@@ -111,7 +113,9 @@ module _ {x prints word : List ℕ} (w : WellFormed x) {i u : ℕ} (h : u ≤ no
           (firstCode (codeBy prints (graphOf x) (drop i word)) (pathCount (graphOf x)) (next .others)
           (passed + pathCount (graphOf x) (u16 x at)))
       unfolding firstCode
-      here-left = t .left ∙ ap (λ (l : List ℕ). firstCode (codeBy prints (graphOf x) (drop i word)) (pathCount (graphOf x)) l passed)
+      here-left =
+          t .left
+          ∙ ap (λ (l : List ℕ). firstCode (codeBy prints (graphOf x) (drop i word)) (pathCount (graphOf x)) l passed)
           (next .split)
 
       pub try-found : {code : ℕ} → codeBy prints (graphOf x) (drop i word) (u16 x at) ≡ some code

@@ -3,24 +3,24 @@
 -- Assumes nothing.
 use Prim.Native.Nat.{ℕ, _+_, _≤_, _<_}
 use mathlib.Core.Path.{_≡_, refl, sym, ap, ap₂, subst, _∙_}
-use mathlib.Core.Bool.{Bool, true, false, cond}
+use mathlib.Core.Bool.{Bool, true, false}
 use mathlib.Core.Logic.{_⊎_, inl, inr}
 use mathlib.Core.List.{List, [], _∷_, _++_, map, List·Memᴰ, List·Memᴰ·head as here, List·Memᴰ·tail as there}
 use mathlib.Core.List.{List·Memᴰ·not-nil, List·Memᴰ·append-cases, Memᴰ·append-right}
 use mathlib.Core.Option.{Option, none, some, Option·none-ne-some, Option·some-injective}
 use native.Mathlib.Omega.{arith}
 use native.Mathlib.Decide.{ℕ-discrete}
-use lib.ListN.{length, getD}
+use lib.ListN.{getD}
 use lib.Dec.{eqb}
-use borrow.Author.Tests.{eqb-true, eqb-false, eq-eqb}
+use borrow.Author.Tests.{eqb-true, eq-eqb}
 use Rattle.endian.specs.Lists.{sum}
 use Rattle.endian.specs.Bytes.{Bytes}
 use Rattle.voice.specs.Voice.{printByte}
-use Rattle.graph.specs.Graph.{Graph, sink, ArcPath, arrived, along, pathCount, increment, codeFrom}
+use Rattle.graph.specs.Graph.{Graph, sink, ArcPath, arrived, along, pathCount, codeFrom}
 use Rattle.graph.specs.Words.{wordOfPath}
 use Rattle.graph.proofs.Sound.{Sound}
 use Rattle.graph.proofs.Codes.{increment-at, arc-within}
-use Rattle.codes.proofs.Words.{word-node, word-beyond, word-none, word-sink}
+use Rattle.codes.proofs.Words.{word-node, word-beyond, word-none}
 use Rattle.lookup.specs.Seeking.{codeOr, firstCode, codeBy, codeAfter}
 use Rattle.lookup.proofs.Least.{Least, LeastWith, code-below, later-above}
 
@@ -165,7 +165,8 @@ module _ {v : List ℕ} {g : Graph} {prints : List ℕ} (printing : Printing v g
       lowest : (p : List ℕ) → ArcPath g u p → wordOfPath v g p ≡ bytes
           → codeFrom g u (f .one ∷ w .path) ≤ codeFrom g u p
       lowest p (arrived q) m = absurd (omega arith)
-      lowest p (along {s = t} {p = r} j i o) m = by-arc (List·Memᴰ·append-cases (f .earlier) (subst (λ (l : List ℕ). List·Memᴰ t l) (f .split) i))
+      lowest p (along {s = t} {p = r} j i o) m =
+          by-arc (List·Memᴰ·append-cases (f .earlier) (subst (λ (l : List ℕ). List·Memᴰ t l) (f .split) i))
         where
           by-arc : List·Memᴰ t (f .earlier) ⊎ List·Memᴰ t (f .one ∷ f .later)
               → codeFrom g u (f .one ∷ w .path) ≤ codeFrom g u (t ∷ r)
@@ -175,8 +176,11 @@ module _ {v : List ℕ} {g : Graph} {prints : List ℕ} (printing : Printing v g
               let l : codeFrom g (f .one) (w .path) ≤ codeFrom g (f .one) r = w .least r (rw q at o) (rw q at m) in
               rw q (omega arith)
           by-arc (inr (there a)) =
-              omega (arith, code-below ok (w .arcs),
-              later-above ok {u = u} h (f .earlier) (f .later) (f .one) (f .split) a)
+              omega (
+                arith,
+                code-below ok (w .arcs),
+                later-above ok {u = u} h (f .earlier) (f .later) (f .one) (f .split) a,
+              )
 
   after-none : (bytes : List ℕ) → ByNone v g prints bytes → (u : ℕ) → u < sink g → codeAfter prints g u bytes ≡ none
       → (q : List ℕ) → ArcPath g u q → wordOfPath v g q ≡ bytes → ⊥
@@ -184,8 +188,8 @@ module _ {v : List ℕ} {g : Graph} {prints : List ℕ} (printing : Printing v g
   after-none bytes by-none u h e q (arrived d) m = omega arith
   after-none bytes by-none u h e q (along {s = s} {p = p} k i o) m =
       let r = ok .rises k i in
-      by-none s p (omega (arith, r .0)) (r .1) (first-none (codeBy prints g bytes) (pathCount g) (g .successors u) 0 e i)
-      o m
+      by-none s p (omega (arith, r .0)) (r .1)
+      (first-none (codeBy prints g bytes) (pathCount g) (g .successors u) 0 e i) o m
 
   -- ---- by way of a vertex
 
@@ -290,9 +294,13 @@ module _ {g : Graph} (ok : Sound g) (prints : List ℕ) (end : getD prints (sink
   unfolding codeAfter
   within-after bytes within u c h e =
       let f = first-some (codeBy prints g bytes) (pathCount g) (g .successors u) 0 e in
-      omega (arith, f .adds, within (f .one) (f .own) (ok .rises h (first-member _ _ f) .1) (f .found),
-      increment-at ok h (f .earlier) (f .later) (f .one) (f .split),
-      arc-within ok {u = u} h (f .earlier) (f .later) (f .one) (f .split))
+      omega (
+        arith,
+        f .adds,
+        within (f .one) (f .own) (ok .rises h (first-member _ _ f) .1) (f .found),
+        increment-at ok h (f .earlier) (f .later) (f .one) (f .split),
+        arc-within ok {u = u} h (f .earlier) (f .later) (f .one) (f .split),
+      )
 
   within-by : (bytes : List ℕ) → Bytes bytes → Within bytes
   unfolding codeBy codeAfter

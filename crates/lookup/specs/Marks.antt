@@ -1,7 +1,7 @@
 -- The marks of a search: pairs of a letter position and a vertex from which the rest of the word can't be spelled. They
--- stand in a row of numbers of two bytes, a place for each pair. A pair that is marked has the place of the one that was
--- marked before it, and place 0 that of the last one; so the marks are a chain, by which they are found again when they
--- are cleared. No public contract cites it. Assumes nothing.
+-- stand in a row of numbers of two bytes, a place for each pair. A pair that is marked has the place of the one that
+-- was marked before it, and place 0 that of the last one; so the marks are a chain, by which they are found again when
+-- they are cleared. No public contract cites it. Assumes nothing.
 use Prim.Native.Nat.{ℕ, _+_, _*_, _≤_, _<_}
 use mathlib.Core.Path.{_≡_}
 use mathlib.Core.List.{List, [], _∷_, List·Memᴰ}

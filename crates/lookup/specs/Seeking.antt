@@ -1,6 +1,6 @@
--- Looking a word up, as a computation: depth first in code order, from a vertex on. An arc fits where the vertex that it
--- leads to prints what the word has next: a node prints its letter's print byte, and the sink 256, which is no byte and
--- stands behind every word. No public contract cites it. Assumes nothing.
+-- Looking a word up, as a computation: depth first in code order, from a vertex on. An arc fits where the vertex that
+-- it leads to prints what the word has next: a node prints its letter's print byte, and the sink 256, which is no byte
+-- and stands behind every word. No public contract cites it. Assumes nothing.
 use Prim.Native.Nat.{ℕ, _+_, _≤_, _<_}
 use mathlib.Core.Path.{_≡_}
 use mathlib.Core.Bool.{cond}

@@ -2,7 +2,7 @@
 // marked last, and each pair's place that of the pair marked before it. So they are cleared where they were set, and a
 // word that sets none costs nothing.
 ghost use mathlib.Core.Path.{_≡_};
-ghost use Prim.Native.Nat.{_≤_, _<_};
+ghost use Prim.Native.Nat.{_≤_};
 ghost use lib.ListN.{length, replicate};
 ghost use Rattle.endian.specs.Rows.{numberAt};
 ghost use Rattle.lookup.specs.Marks.{Chained, PairMarked};

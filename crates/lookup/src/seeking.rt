@@ -1,6 +1,6 @@
 // A word is sought from the root on, depth first: the arcs of a vertex are tried in stored order, so the first way that
-// is found is the first in code order. Where none leads on, the pair of letter position and vertex is marked, so that it
-// is not tried again.
+// is found is the first in code order. Where none leads on, the pair of letter position and vertex is marked, so that
+// it is not tried again.
 ghost use mathlib.Core.Path.{_≡_};
 ghost use lib.ListN.{drop, replicate};
 ghost use Rattle.call.specs.Table.{answerOf};
@@ -22,8 +22,8 @@ use checking::ARCS_AT;
 use checking::LETTERS;
 use checking::PATHS;
 
-// What a search answers that finds no way: no code is as great. It answers a number and no enum, since that goes through
-// a register.
+// What a search answers that finds no way: no code is as great. It answers a number and no enum, since that goes
+// through a register.
 const NOWHERE: u32 = 4294967295;
 
 // The code of the bytes of the word from i on, counted from a vertex.

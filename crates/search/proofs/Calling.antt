@@ -1,20 +1,20 @@
 -- The call: it answers as checking does where that refuses, and else by its own rows; then the hits are found. Assumes
 -- nothing.
-use Prim.Native.Nat.{ℕ, zero, suc, _*_, _≤_}
-use mathlib.Core.Path.{_≡_, refl, sym, ap, _∙_}
+use Prim.Native.Nat.{ℕ, _*_, _≤_}
+use mathlib.Core.Path.{_≡_, sym, ap, _∙_}
 use mathlib.Core.List.{List, [], _∷_, _++_, append-assoc}
 use native.Mathlib.Omega.{arith}
 use native.Mathlib.Nat.{mul-le-mul}
 use lib.Dec.{ltb}
 use lib.ListN.{length, take, drop, replicate, length-append, take-append-drop}
 use lib.Seq.{drop-at, take-at, length-take-le}
-use borrow.Author.Tests.{ltb-false, not-false}
+use borrow.Author.Tests.{not-false}
 use Rattle.endian.proofs.Ranges.{bounds}
 use Rattle.call.specs.declared.Refusal.{Refusal}
 use Rattle.call.specs.declared.Refusal.the-variants.{Count, Output}
 use Rattle.call.specs.Table.{Answer, value, refused, on, unless}
 use Rattle.call.specs.Limits.{badCount}
-use Rattle.call.specs.Buffers.{zeroed, cleared}
+use Rattle.call.specs.Buffers.{cleared}
 use Rattle.call.proofs.Table.{none-parts, none-says, unless-past, value-passed, refused-before}
 use Rattle.call.proofs.Buffers.{cleared-front, cleared-length, cleared-twice}
 use Rattle.lexicon.specs.Lexicon.{sinkOf}

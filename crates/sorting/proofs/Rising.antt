@@ -1,6 +1,6 @@
 -- Slot numbers merged by the words in their slots. While two runs are merged, what was taken rises and nothing left
 -- stands before it; so the whole rises, and it has the numbers of both. Assumes nothing.
-use Prim.Native.Nat.{ℕ, _+_, _*_, _-_, _/_, _%_, _≤_, _<_}
+use Prim.Native.Nat.{ℕ, _+_, _-_, _≤_, _<_}
 use mathlib.Core.Path.{_≡_, refl, sym, ap, ap₂, _∙_}
 use mathlib.Core.Logic.{_⊎_, inl, inr, ⊎-elim}
 use mathlib.Core.Bool.{false, true≢false}
@@ -8,9 +8,7 @@ use mathlib.Core.List.{List}
 use native.Mathlib.Nat.{zero-add}
 use native.Mathlib.Decide.{ℕ-discrete, decLt}
 use native.Mathlib.Omega.{arith}
-use lib.ListN.{length, getD, set, length-set}
-use lib.Seq.{getD-set-same, getD-set-other}
-use Rattle.endian.specs.Bytes.{u16}
+use lib.ListN.{length}
 use Rattle.canonical.specs.Dictionary.{precedes}
 use Rattle.sorting.specs.Slots.{wordAt}
 use Rattle.endian.specs.Rows.{numberAt, NumberPut}

@@ -249,7 +249,8 @@ stock-items = items-read
 stock-answers : StockAnswered
 stock-answers = stock-answered
 
--- It then leaves for word i the eight bytes of a call of word to code with that word alone: 0 and its code, or 13 and 0.
+-- It then leaves for word i the eight bytes of a call of word to code with that word alone: 0 and its code, or 13 and
+-- 0.
 stock-leaves : StockLeft
 stock-leaves = stock-left
 

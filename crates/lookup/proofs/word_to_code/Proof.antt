@@ -31,7 +31,9 @@ start c = c .before .before .before .before .before .before .before .before .bef
 -- checking has answered W
 passes : (c : Told) →
     let a = start c .args in Passed (a .voice .now) (a .lexicon .now) (a .work .now) (c .enum-told .given .0 .0)
-passes c = passed _ _ _ (sym (c .before .before .before .before .«open» .ensures .0) ∙ ap answerOf (c .enum-told .given .1))
+passes c =
+    let o = c .before .before .before .before in
+    passed _ _ _ (sym (o .«open» .ensures .0) ∙ ap answerOf (c .enum-told .given .1))
 
 -- the bytes of the word
 low : (c : Told) (j : ℕ) → getD (start c .args .word .now) j 0 < 256
@@ -41,8 +43,7 @@ low c j =
 put-prints-requires : tie.Need-put-prints-requires
 put-prints-requires c κs =
     let t = c .before in
-    let o = t .before .before .before .before in
-    (
+    let o = t .before .before .before .before in (
       passes t .images,
       opened-table (passes t) _ (ap answerOf (t .enum-told .given .1)) (o .«open» .ensures .1 .1),
     )
@@ -54,13 +55,17 @@ told c = c .before .before .before
 room : (c : tie.After-vertices3) → 26534 ≤ length (told c .before .before .before .before .«open» .last .1 .1 .0)
 room c =
     let o = told c .before .before .before .before in
-    omega (arith, ap length (o .«open» .ensures .1 .0), cleared-length (start (told c) .args .work .now), passes (told c) .room)
+    omega (
+      arith,
+      ap length (o .«open» .ensures .1 .0),
+      cleared-length (start (told c) .args .work .now),
+      passes (told c) .room,
+    )
 
 look-up-requires : tie.Need-look-up-requires
 look-up-requires c κs =
     let t = told (c .before) in
-    let o = t .before .before .before .before in
-    (
+    let o = t .before .before .before .before in (
       seekable (c .before .before .put-prints .ensures),
       ap (take 26534) (o .«open» .ensures .1 .0)
           ∙ cleared-front 26534 (start t .args .work .now) (omega arith) (passes t .room),
@@ -84,8 +89,7 @@ returns-2 : tie.Need-returns-2
 returns-2 c =
     let l = c .before .before in
     let v = l .before .before in
-    let t = told v in
-    (
+    let t = told v in (
       l .look-up .ensures .0
           ∙ sym (word-sought _ _ _ _ (passes t) (v .before .put-prints .ensures .prints)
           (low-bytes (start t .args .word .now) (low t) 0)),

@@ -1,6 +1,6 @@
 -- `words_to_codes` meets its contract: it answers as checking does where that refuses, then as counting the items does,
 -- then 16 where the answers have no room; else it answers the items. Assumes nothing.
-use Prim.Native.Nat.{ℕ, _*_, _≤_, _<_}
+use Prim.Native.Nat.{ℕ, _≤_, _<_}
 use mathlib.Core.Path.{_≡_, sym, ap, _∙_}
 use mathlib.Core.List.{List, _++_}
 use native.Mathlib.Omega.{arith}
@@ -40,14 +40,18 @@ work c = c .before .before .before .before .«open» .last .1 .1 .0
 
 passes : (c : Told) →
     let a = start c .args in Passed (a .voice .now) (a .lexicon .now) (a .work .now) (c .enum-told .given .0 .0)
-passes c = passed _ _ _ (sym (c .before .before .before .before .«open» .ensures .0) ∙ ap answerOf (c .enum-told .given .1))
+passes c =
+    let o = c .before .before .before .before in
+    passed _ _ _ (sym (o .«open» .ensures .0) ∙ ap answerOf (c .enum-told .given .1))
 
 work-is : (c : Told) → work c ≡ cleared (start c .args .work .now)
 work-is c = c .before .before .before .before .«open» .ensures .1 .0
 
 -- the bytes of the items
 low : (c : Told) (j : ℕ) → getD (start c .args .items .now) j 0 < 256
-low c j = omega (arith, c .before .before .before .before .before .before .before .before .before .shared-slice-known3 .given j)
+low c j =
+    let o = c .before .before .before .before in
+    omega (arith, o .before .before .before .before .before .shared-slice-known3 .given j)
 
 returns-2 : tie.Need-returns-2
 returns-2 c =
@@ -79,8 +83,7 @@ returns-3 c =
 
 put-prints-requires : tie.Need-put-prints-requires
 put-prints-requires c κs =
-    let t = told (c .before .before) in
-    (
+    let t = told (c .before .before) in (
       passes t .images,
       opened-table (passes t) _ (ap answerOf (t .enum-told .given .1))
           (t .before .before .before .before .«open» .ensures .1 .1),
@@ -104,8 +107,7 @@ put-answers-requires c κs =
     let v = c .before .before in
     let k = counted v in
     let t = told k in
-    let few = counted-few _ (counts k) in
-    (
+    let few = counted-few _ (counts k) in (
       (
         seekable (v .before .put-prints .ensures),
         ap (take 26534) (work-is t) ∙ cleared-front 26534 (start t .args .work .now) (omega arith) (passes t .room),
@@ -130,8 +132,7 @@ returns-4 c =
     let v = p .before .before .before in
     let k = counted v in
     let t = told k in
-    let fits = v .before .before .before .if1 .left in
-    (
+    let fits = v .before .before .before .if1 .left in (
       sym (list-counted _ _ _ _ _ (passes t) (counts k) fits),
       (
         work-cleared p,

@@ -8,7 +8,8 @@ use Rattle.wundaleth.proofs.wundaleth_words_to_codes.Statement.{stateme
 use Rattle.wundaleth.proofs.wundaleth_words_to_codes.Tie as tie
 
 signed-of-requires : tie.Need-signed-of-requires
-signed-of-requires c κs = rw (c .before .before .before .before .words-to-codes .ensures .0) (words-to-codes-fits _ _ _ _ _)
+signed-of-requires c κs =
+    rw (c .before .before .before .before .words-to-codes .ensures .0) (words-to-codes-fits _ _ _ _ _)
 
 returns : tie.Need-returns
 returns c =

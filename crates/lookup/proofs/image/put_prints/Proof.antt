@@ -69,8 +69,11 @@ unfolding printByte nodeLetter
 loop-again c =
     let s = start (turn c) in
     prints-next (turn c .before .loop .inv) (few s) _ (high (turn c)) refl
-    (omega (arith, c .shared-slice-known4 .given
-    (1 + 2 * getD (s .args .lexicon .now) (1 + turn c .before .loop .node) 0)))
+    (omega (
+      arith,
+      c .shared-slice-known4 .given
+          (1 + 2 * getD (s .args .lexicon .now) (1 + turn c .before .loop .node) 0),
+    ))
 
 last : (c : tie.After-loop Inv-loop μ-loop) → c .before .loop .node < 402
 last c =
@@ -96,8 +99,11 @@ put-prints-spec =
     (λ c. omega (arith, letter c))
     (λ c. omega (arith, letter c))
     (λ c. inside (turn c))
-    (λ c. omega (arith, c .shared-slice-known4 .given
-        (1 + 2 * getD (start (turn c) .args .lexicon .now) (1 + turn c .before .loop .node) 0)))
+    (λ c. omega (
+      arith,
+      c .shared-slice-known4 .given
+          (1 + 2 * getD (start (turn c) .args .lexicon .now) (1 + turn c .before .loop .node) 0),
+    ))
     (λ c. omega (arith, row (turn c)))
     (λ c. row (turn c))
     (λ c. search needs)

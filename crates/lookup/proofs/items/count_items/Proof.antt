@@ -33,5 +33,5 @@ count-items-spec =
     (λ c. omega (arith, c .before .before .before .before .loop .inv .few))
     (λ c. omega (arith, c .if2 .left, c .before .before .before .loop-test .taken))
     (λ c. let l = c .before .before .before in
-        count-next (l .before .loop .inv) (l .loop-test .taken) (c .before .if1 .left) (c .if2 .left))
+    count-next (l .before .loop .inv) (l .loop-test .taken) (c .before .if1 .left) (c .if2 .left))
     (λ c. count-done (c .before .loop .inv) (c .loop-test .left)))

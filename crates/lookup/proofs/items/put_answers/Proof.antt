@@ -1,9 +1,8 @@
--- `items::put_answers` meets its contract: the items before an offset are answered, and no pair is marked. The measure is
--- the bytes left. Assumes nothing.
+-- `items::put_answers` meets its contract: the items before an offset are answered, and no pair is marked. The measure
+-- is the bytes left. Assumes nothing.
 use Prim.Native.Nat.{_+_, _-_, _≤_, _<_}
 use mathlib.Core.Path.{_≡_, sym, ap, _∙_}
 use native.Mathlib.Omega.{arith}
-use borrow.Author.Needs.{needs}
 use lib.ListN.{length, getD, take, drop, replicate}
 use lib.Seq.{sets}
 use Rattle.graph.specs.Graph.{graphOf}
@@ -58,12 +57,12 @@ loop-again c =
     let put = c .before .before in
     let look = put .before .before .before .before in
     let l = look .before .before .before .before in
-    let a = start l .args in
-    (
+    let a = start l .args in (
       look .look-up .ensures .1,
       answer-next (l .before .loop .inv .1) (l .loop-test .taken) (start l .pre .1 .1) _ (item l)
           (put .put-answer .ensures
-          ∙ ap (λ r. sets (l .before .loop .out) (l .before .loop .answered) (answerBytes r)) (look .look-up .ensures .0)),
+          ∙ ap (λ r. sets (l .before .loop .out) (l .before .loop .answered) (answerBytes r))
+          (look .look-up .ensures .0)),
     )
 
 returns : tie.Need-returns Inv-loop μ-loop
@@ -87,11 +86,15 @@ put-answers-spec =
     (λ c κs. (start (c .before .before .before) .pre .0 .0, c .before .before .before .before .loop .inv .0))
     put-answer-requires
     (λ c. let l = turn c in
-        omega (arith, answer-room (l .before .loop .inv .1) (l .loop-test .taken) (start l .pre .1 .1),
-        l .before .loop .inv .1 .long, start l .good .1 .1 .1 .1 .0))
+    omega (
+      arith,
+      answer-room (l .before .loop .inv .1) (l .loop-test .taken) (start l .pre .1 .1),
+      l .before .loop .inv .1 .long,
+      start l .good .1 .1 .1 .1 .0,
+    ))
     (λ c. omega (arith, room (turn c), turn c .loop-test .taken))
     loop-again
     (λ c. let i = c .before .loop .inv in
-        ap length (i .0) ∙ sym (ap length (c .before .before .before .before .before .before .pre .0 .1)))
+    ap length (i .0) ∙ sym (ap length (c .before .before .before .before .before .before .pre .0 .1)))
     (λ c. c .before .loop .inv .1 .long)
     returns)

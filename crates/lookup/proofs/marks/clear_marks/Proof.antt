@@ -46,7 +46,8 @@ loop-again c =
     let n = put .before .before in
     let l = n .before .before in (
       put .put-number .ensures .long ∙ l .before .loop .inv .0,
-      rw (n .number-at2 .ensures .0) (rest-chained (l .before .loop .inv .1) (l .loop-test .taken) (put .put-number .ensures)),
+      rw (n .number-at2 .ensures .0)
+          (rest-chained (l .before .loop .inv .1) (l .loop-test .taken) (put .put-number .ensures)),
     )
 
 same-length : tie.Need-same-length Inv-loop μ-loop

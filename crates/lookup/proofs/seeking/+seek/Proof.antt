@@ -22,7 +22,7 @@ use Rattle.checking.proofs.Columns.{column-at}
 use Rattle.checking.proofs.Increments.{counts-below}
 use Rattle.codes.proofs.Heads.{arcs-of, list-of, paths-of}
 use Rattle.lookup.specs.Seeking.{wantedAt, codeBy, codeAfter, printsColumn}
-use Rattle.lookup.specs.Marks.{Seeking, Sought, SameBelow}
+use Rattle.lookup.specs.Marks.{Seeking, SameBelow}
 use Rattle.lookup.proofs.Ways.{not-end, after-within}
 use Rattle.lookup.proofs.Tries.{fits-not, fits-end, fits-letter, letter-left, wanted-low, low-bytes}
 use Rattle.lookup.proofs.Tries.{Trying, Passed, try-start, try-done, next, try-found, try-next}
@@ -69,8 +69,8 @@ module _ (t : ℕ) where
   abbrev Start : Type 0
   Start = lts.Start (claims t) (seek-at t) seek.Post Inv-loop μ-loop
 
-  asked : (s : Start) → Seeking (s .args .lexicon .now) (s .args .vertices .now) (s .args .word .now) (s .args .marks .now)
-      (s .args .i) (s .args .vertex)
+  asked : (s : Start) →
+      let a = s .args in Seeking (a .lexicon .now) (a .vertices .now) (a .word .now) (a .marks .now) (a .i) (a .vertex)
   asked s = s .pre .1
 
   well-formed : (s : Start) → WellFormed (s .args .lexicon .now)
@@ -100,8 +100,7 @@ module _ (t : ℕ) where
   unfolding numberAt
   returns c =
       let r = c .before in
-      let s = start r in
-      (
+      let s = start r in (
         number-none _ (asked s .marks .tells (position s) (vertex s)
             (λ e. c .if1 .taken (r .number-at .ensures .0 ∙ e))),
         record { marks = asked s .marks; same = λ j w a b d. refl },
@@ -195,8 +194,7 @@ module _ (t : ℕ) where
       let s = begin (n .before) in
       let l = n .before .before in
       let by = fits-end _ (graphOf (s .args .lexicon .now)) (s .args .word .now) (s .args .i) _ (fits (c .before))
-          (low (n .before) (s .args .i)) (sym (wanted (n .before) .wanted-at .ensures) ∙ c .if3 .taken) in
-      (
+      (low (n .before) (s .args .i)) (sym (wanted (n .before) .wanted-at .ensures) ∙ c .if3 .taken) in (
         number-found _ (try-found (well-formed s) (asked s .vertex) (l .loop .inv) (n .before .loop-test .taken) by
             ∙ ap some (add-zero (l .loop .passed))),
         record {
@@ -243,7 +241,7 @@ module _ (t : ℕ) where
       let s = begin (turn c) in
       let w = wanted-low (s .args .word .now) (s .args .i) (letter c) (low (turn c) (s .args .i)) in
       let n = not-end (graphOf (s .args .lexicon .now)) (printsColumn (s .args .vertices .now)) (asked s .table .end)
-          (arc (turn c) .bounded) w (fits (c .before)) in
+      (arc (turn c) .bounded) w (fits (c .before)) in
       let e = led (c .before .before .before) in
       (omega (arith, e, arc (turn c) .rises), omega (arith, e, n))
 
@@ -252,8 +250,7 @@ module _ (t : ℕ) where
   seek-requires c κs =
       let f = c .before in
       let s = begin (turn f) in
-      let n = node f in
-      (
+      let n = node f in (
         omega (arith, s .pre .0, n .0, n .1),
         record {
           table = asked s .table;
@@ -313,22 +310,28 @@ module _ (t : ℕ) where
   unfolding sinkOf
   few c =
       let s = begin (c .before) in
-      omega (arith, asked s .table .countable .few {u = s .args .vertex} (omega (arith, asked s .vertex)),
-      counts-below (well-formed s) (asked s .vertex) (c .before .before .loop .inv .counts) (arc (c .before)))
+      omega (
+        arith,
+        asked s .table .countable .few {u = s .args .vertex} (omega (arith, asked s .vertex)),
+        counts-below (well-formed s) (asked s .vertex) (c .before .before .loop .inv .counts) (arc (c .before)),
+      )
 
   add-code : lts.Need-add-result (claims t) (seek-at t) seek.Post Inv-loop μ-loop
   add-code c =
       let f = fitting (sought c) in
       let n = f .before .before .before in
-      omega (arith, within f (sought c .seek .result) (found c), few n,
-      ap (pathCount (graphOf (begin (turn f) .args .lexicon .now))) (led n))
+      omega (
+        arith,
+        within f (sought c .seek .result) (found c),
+        few n,
+        ap (pathCount (graphOf (begin (turn f) .args .lexicon .now))) (led n),
+      )
 
   returns-3 : lts.Need-returns-3 (claims t) (seek-at t) seek.Post Inv-loop μ-loop
   returns-3 c =
       let f = fitting (sought c) in
       let s = begin (turn f) in
-      let l = turn f .before in
-      (
+      let l = turn f .before in (
         number-found _ (try-found (well-formed s) (asked s .vertex) (l .loop .inv) (turn f .loop-test .taken)
             (by-letter f ∙ found c)),
         record {
@@ -354,19 +357,19 @@ module _ (t : ℕ) where
       let s = begin (n .before) in
       let l = n .before .before in
       let Here : List ℕ → Type 0 = Passed (s .args .lexicon .now) (printsColumn (s .args .vertices .now))
-          (s .args .word .now) (l .loop .marks) (s .args .i) (s .args .vertex)
-          (u16 (s .args .lexicon .now) (l .loop .at)) in
+      (s .args .word .now) (l .loop .marks) (s .args .i) (s .args .vertex)
+      (u16 (s .args .lexicon .now) (l .loop .at)) in
       ⊎-elim
       (λ w.
-        let f : Fitting = record { before = record { before = c .before; if2 = w .0 }; if3 = w .1 } in
-        let a : After = record { before = record { before = f; seek-arg = w .2 }; seek = w .3 } in
-        let few : (code : ℕ) → _ ≡ some code → code ≤ 1048576 = λ code e.
-            omega (arith, within f code e, asked s .table .countable .few {u = onto f} (omega (arith, node f .1))) in
-        subst Here (sym (w .7)) (record {
-          nowhere = by-letter f ∙ none-number _ few (w .3 .ensures .0) (w .6 .left);
-          marks = w .3 .ensures .1 .marks;
-          same = same-here a;
-        }))
+      let f : Fitting = record { before = record { before = c .before; if2 = w .0 }; if3 = w .1 } in
+      let a : After = record { before = record { before = f; seek-arg = w .2 }; seek = w .3 } in
+      let few : (code : ℕ) → _ ≡ some code → code ≤ 1048576 = λ code e.
+      omega (arith, within f code e, asked s .table .countable .few {u = onto f} (omega (arith, node f .1))) in
+      subst Here (sym (w .7)) (record {
+        nowhere = by-letter f ∙ none-number _ few (w .3 .ensures .0) (w .6 .left);
+        marks = w .3 .ensures .1 .marks;
+        same = same-here a;
+      }))
       (λ w. subst Here (sym (w .1)) (record {
         nowhere = fits-not _ (graphOf (s .args .lexicon .now)) (s .args .word .now) (s .args .i) _
             (λ e. w .0 .left (sym (printed n) ∙ e ∙ sym (wanted (n .before) .wanted-at .ensures)));
@@ -391,7 +394,8 @@ module _ (t : ℕ) where
       let n = j .before .before in
       let s = begin (n .before) in
       rw (count n)
-      (try-next (well-formed s) (asked s .vertex) (n .before .before .loop .inv) (n .before .loop-test .taken) (passed j))
+      (try-next (well-formed s) (asked s .vertex) (n .before .before .loop .inv) (n .before .loop-test .taken)
+      (passed j))
 
   -- ---- no arc leads on
 
@@ -414,8 +418,7 @@ module _ (t : ℕ) where
       let d = c .before in
       let s = first d in
       let l = d .before .loop in
-      let r = c .before .before .before .before .before .before .before in
-      (
+      let r = c .before .before .before .before .before .before .before in (
         (l .inv .marks .long, l .inv .marks .chained),
         (
           omega arith,
@@ -430,11 +433,11 @@ module _ (t : ℕ) where
       let m = c .before .before in
       let d = m .before .before in
       let s = first d in
-      let l = d .before .loop in
-      (
+      let l = d .before .loop in (
         number-none _ (none-left d),
         record {
-          marks = marks-more (s .args .i) (s .args .vertex) (vertex s) (m .set-mark .ensures) (l .inv .marks) (none-left d);
+          marks = marks-more (s .args .i) (s .args .vertex) (vertex s) (m .set-mark .ensures) (l .inv .marks)
+              (none-left d);
           same = same-more (s .args .i) (s .args .vertex) (vertex s) (m .set-mark .ensures) (s .args .marks .now)
               (l .inv .same);
         },
@@ -469,13 +472,13 @@ pub +seek-spec : {M : Type 1} → statement M
     (led-low t)
     (λ c. search needs)
     (λ c. c .before .before .before .before .before .loop .inv .marks .long
-        ∙ sym (asked t (begin t (c .before .before .before .before)) .marks .long))
+    ∙ sym (asked t (begin t (c .before .before .before .before)) .marks .long))
     (returns-2 t)
     (λ c. omega (arith, letter t (c .before), asked t (begin t (turn t (c .before))) .short))
     (seek-requires t)
     (add-code t)
     (λ c. let q = sought t c in
-        q .seek .ensures .1 .marks .long ∙ sym (asked t (begin t (turn t (fitting t q))) .marks .long))
+    q .seek .ensures .1 .marks .long ∙ sym (asked t (begin t (turn t (fitting t q))) .marks .long))
     (returns-3 t)
     (λ c. omega (arith, led-low t (c .before .before)))
     (λ c. led-low t (c .before .before))
@@ -486,6 +489,6 @@ pub +seek-spec : {M : Type 1} → statement M
     (loop-again t)
     (set-mark-requires t)
     (λ c. let m = c .before .before in
-        m .set-mark .ensures .long ∙ m .before .before .before .loop .inv .marks .long
-        ∙ sym (asked t (first t (m .before .before)) .marks .long))
+    m .set-mark .ensures .long ∙ m .before .before .before .loop .inv .marks .long
+    ∙ sym (asked t (first t (m .before .before)) .marks .long))
     (returns-4 t))

@@ -1,5 +1,5 @@
--- `seeking::look_up` meets its contract: before the search no pair is marked, and after it the marks are cleared. Assumes
--- nothing.
+-- `seeking::look_up` meets its contract: before the search no pair is marked, and after it the marks are cleared.
+-- Assumes nothing.
 use Prim.Native.Nat.{ℕ, _≤_, _<_}
 use mathlib.Core.Path.{_≡_, ap, _∙_}
 use native.Mathlib.Omega.{arith}
@@ -56,22 +56,21 @@ short c = sought c .before .before .before .before .before .before .if1 .left
 -- the bytes of the word
 low : (c : Cleared) (j : ℕ) → getD (start c .args .word .now) j 0 < 256
 low c j =
-    omega (arith, sought c .before .before .before .before .before .before .before .before .shared-slice-known2 .given j)
+    let e = sought c .before .before .before .before .before .before in
+    omega (arith, e .before .before .shared-slice-known2 .given j)
 
 returns-2 : tie.Need-returns-2
 returns-2 c =
     let q = c .before in
     let s = start q in
-    let few = root-few (s .pre .0) (s .args .word .now) (low-bytes (s .args .word .now) (low q) 0) in
-    (
+    let few = root-few (s .pre .0) (s .args .word .now) (low-bytes (s .args .word .now) (low q) 0) in (
       sought-none _ _ _ (short q) (none-number _ few (sought q .seek .ensures .0) (c .if2 .taken)),
       q .before .before .clear-marks .ensures,
     )
 
 returns-3 : tie.Need-returns-3
 returns-3 c =
-    let q = c .before in
-    (
+    let q = c .before in (
       sought-found _ _ _ (short q) (found-number _ (sought q .seek .ensures .0) (c .if2 .left)),
       q .before .before .clear-marks .ensures,
     )

@@ -17,4 +17,10 @@ unfolding wantedAt
 returns-2 c = let a = c .before .args in rw (le-ltb (a .i) (length (a .word .now)) (c .if1 .left)) refl
 
 pub wanted-at-spec : {M : Type 1} → statement M
-wanted-at-spec = tie.close (tie.spec (λ c. search needs) (λ c. omega (arith, c .shared-slice-known .given (c .before .before .args .i))) returns returns-2)
+wanted-at-spec =
+    tie.close
+    (tie.spec
+    (λ c. search needs)
+    (λ c. omega (arith, c .shared-slice-known .given (c .before .before .args .i)))
+    returns
+    returns-2)
