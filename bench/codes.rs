@@ -1,5 +1,5 @@
-//! Times the product's word to code and code to word beside the plain ones: whole calls on the same words, call about call,
-//! and the plain lookups alone beside a marisa trie. Prints medians. bench/stock times lists of words.
+//! Times the product's word to code and code to word beside the plain ones: whole calls on the same words, call about
+//! call, and the plain lookups alone beside a marisa trie. Prints medians. bench/stock times lists of words.
 
 #[allow(dead_code)]
 mod calls;

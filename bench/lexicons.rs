@@ -9,6 +9,9 @@ use crate::sketch::{Sketch, ROOT, SINK};
 
 const MOST_WORDS: u64 = 1_048_576;
 
+/// How many of all are hard.
+pub const HARD: usize = 2;
+
 /// Those with the most words, and then the hard ones.
 pub fn all(random: &mut Random) -> Vec<Input> {
     let mut inputs = lexicons(random);
@@ -49,8 +52,8 @@ fn lexicons(random: &mut Random) -> Vec<Input> {
 /// Lexicons in which letters decide late, so that a search for a word goes many wrong ways to their ends and back. That
 /// has a limit: two paths from the root with the same letters do not meet again, or a word would be spelled twice, so a
 /// search looks at no more than an arc to each vertex for each letter of the word and for its end.
-fn hard(random: &mut Random) -> Vec<Input> {
-    vec![
+fn hard(random: &mut Random) -> [Input; HARD] {
+    [
         input("12 chains of one letter", &chains(12), random),
         input("183 ways behind one letter", &fan(183), random),
     ]
@@ -98,8 +101,8 @@ fn chain_from_all(sketch: &mut Sketch, letters: &[u8], count: usize) {
     }
 }
 
-/// Nodes in layers, and arcs at random from one layer to the next, now and then to a later one or to the sink, as many as
-/// arcs and words are permitted. No list has a letter twice, so no word is spelled twice.
+/// Nodes in layers, and arcs at random from one layer to the next, now and then to a later one or to the sink, as many
+/// as arcs and words are permitted. No list has a letter twice, so no word is spelled twice.
 fn grown(random: &mut Random, widths: &[usize], letters: usize, arcs: usize) -> Sketch {
     let mut sketch = Sketch::new();
     let mut layers = vec![vec![ROOT]];
