@@ -13,8 +13,8 @@ use Rattle.lexicon.specs.Lexicon.{nodeCount, nodeLetter, sinkOf, arcsAt, lexico
 use Rattle.graph.specs.Graph.{Graph, graphOf, pathCount}
 
 -- the row of vertex u: the offset of its successors' count, which their list follows (0 to N); its path count (0 to
--- N + 1); and 0 for its first slot in the token store and for the emission that enters it, which the search fills.
--- After the sink nothing but 0
+-- N + 1); and 0 in the two columns that later calls fill: the search for hits with a first slot in the token store and
+-- the emission that enters it, a lookup with what it prints. After the sink nothing but 0
 unfoldable pub vertexRow : List ℕ → ℕ → List ℕ
 vertexRow x u =
     cond (ltb u (sinkOf x)) (arcsAt x u) 0 ∷ cond (ltb u (suc (sinkOf x))) (pathCount (graphOf x) u) 0 ∷ 0 ∷ 0 ∷ []

@@ -38,7 +38,8 @@ pub const LETTERS: u16 = 32;
 const WORDS: u32 = 1048576;
 
 // The columns of a vertex's row: the offset of its successors' count, which their list follows; its path count; and its
-// first slot in the token store and the emission that enters it at a frame, which are the search's to fill.
+// first slot in the token store and the emission that enters it at a frame, which are the search's to fill. A lookup
+// puts what the vertex prints in the place of the slot.
 pub const ARCS_AT: usize = 0;
 
 pub const PATHS: usize = 1;

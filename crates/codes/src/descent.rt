@@ -14,9 +14,8 @@ use call::Refusal;
 use checking::ARCS_AT;
 use checking::PATHS;
 
-// The vertex that an arc leads to, and a code that goes with it: what is left of one behind the arc, or the arc's
-// increment.
-pub(crate) struct Step {
+// The vertex that an arc leads to, and what is left of a code behind the arc.
+struct Step {
     pub vertex: usize,
     pub code: u32,
 }
