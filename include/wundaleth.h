@@ -53,7 +53,7 @@ extern "C" {
 #define WUNDALETH_MOST_WORDS 1048576 /* W of an accepted lexicon, at most */
 #define WUNDALETH_MOST_LETTERS 32    /* of a word, each a print byte: room for any word */
 #define WUNDALETH_MOST_ITEMS 1000    /* of one list of words to look up */
-#define WUNDALETH_ITEM_BYTES 8       /* an item in the output of wundaleth_words_to_codes: refusal, then code */
+#define WUNDALETH_ANSWER_BYTES 8     /* an item's answer in the output of wundaleth_words_to_codes: refusal, code */
 #define WUNDALETH_MOST_FRAMES 1000   /* of one decoding */
 #define WUNDALETH_MOST_HITS 8        /* n of one decoding, and the codes of one packing or unpacking */
 #define WUNDALETH_HIT_BYTES 8        /* a hit in the output of decoding: score, then code */
@@ -94,10 +94,10 @@ int32_t wundaleth_word_to_code(const uint8_t *voice, size_t voice_length, const 
                                size_t work_length);
 
 /* The codes of a list of words, each answered as wundaleth_word_to_code answers for it alone. An item is a length byte
- * and so many bytes, any; items stand one after the other to the end of the list. Writes for each item, in order, 8
- * bytes, uint32_t refusal and uint32_t code, both little-endian: 0 and the code, or 13 and 0 where the item spells no
- * word here, the item of length 0 and items of more than 32 letters among them; wundaleth_item_at below reads one. The
- * output needs no alignment. A word that is not there does not stop the following ones. Answers the number of items, 0
+ * and so many bytes, any; items stand one after the other to the end of the list. Writes an answer for each item, in
+ * order, in 8 bytes, uint32_t refusal and uint32_t code, both little-endian: 0 and the code, or 13 and 0 where the item
+ * spells no word here, the item of length 0 and items of more than 32 letters among them; wundaleth_answer_at below
+ * reads one. The output needs no alignment. A word that is not there does not stop the following ones. Answers the number of items, 0
  * to 1,000, found or not, or refuses with 1 to 10, 19 or 16, tested in this order. */
 int32_t wundaleth_words_to_codes(const uint8_t *voice, size_t voice_length, const uint8_t *lexicon,
                                  size_t lexicon_length, const uint8_t *items, size_t items_length, uint8_t *work,
@@ -148,23 +148,24 @@ int32_t wundaleth_pack(uint32_t words, const uint32_t *codes, size_t codes_lengt
 int32_t wundaleth_unpack(uint32_t words, uint32_t n, const uint8_t *packed, size_t packed_length, uint8_t *out,
                          size_t out_length);
 
-/* What an item is answered: 0 and the word's code, or the number of its refusal and 0. */
-struct wundaleth_item {
+/* The answer to an item: 0 and the word's code, or the number of its refusal and 0. */
+struct wundaleth_answer {
     uint32_t refusal;
     uint32_t code;
 };
 
-/* Reads item i, from 0 and below the number that wundaleth_words_to_codes answered, in the output that it left. */
-static inline struct wundaleth_item wundaleth_item_at(const uint8_t *out, size_t i)
+/* Reads the answer to item i, from 0 and below the number that wundaleth_words_to_codes answered, in the output that it
+ * left. */
+static inline struct wundaleth_answer wundaleth_answer_at(const uint8_t *out, size_t i)
 {
-    const uint8_t *at = out + WUNDALETH_ITEM_BYTES * i;
+    const uint8_t *at = out + WUNDALETH_ANSWER_BYTES * i;
     const uint32_t r0 = at[0], r1 = at[1], r2 = at[2], r3 = at[3];
     const uint32_t c0 = at[4], c1 = at[5], c2 = at[6], c3 = at[7];
-    struct wundaleth_item item;
+    struct wundaleth_answer answer;
 
-    item.refusal = r3 << 24 | r2 << 16 | r1 << 8 | r0;
-    item.code = c3 << 24 | c2 << 16 | c1 << 8 | c0;
-    return item;
+    answer.refusal = r3 << 24 | r2 << 16 | r1 << 8 | r0;
+    answer.code = c3 << 24 | c2 << 16 | c1 << 8 | c0;
+    return answer;
 }
 
 /* A hit: a word's true score and its code. */

@@ -18,7 +18,7 @@ static const char *const stock[] = {"it", "nut", "an", "i"};
 enum { ITEMS = sizeof stock / sizeof *stock };
 
 static uint8_t work[WUNDALETH_WORK_BYTES];
-static uint8_t items[ITEMS * (1 + WUNDALETH_MOST_LETTERS)], answers[ITEMS * WUNDALETH_ITEM_BYTES];
+static uint8_t items[ITEMS * (1 + WUNDALETH_MOST_LETTERS)], answers[ITEMS * WUNDALETH_ANSWER_BYTES];
 
 int main(void)
 {
@@ -33,15 +33,17 @@ int main(void)
     }
     count = wundaleth_words_to_codes(voice, sizeof voice, lexicon, sizeof lexicon, items, length, work, sizeof work,
                                      answers, sizeof answers);
-    printf("%d items\n", (int)count);
-    if (count < 0) /* a refusal of the whole list, its number made negative */
+    if (count < 0) { /* a refusal of the whole list, its number made negative */
+        printf("refused: %d\n", (int)count);
         return 1;
+    }
+    printf("%d items\n", (int)count);
     for (i = 0; i < (size_t)count; i++) {
-        struct wundaleth_item item = wundaleth_item_at(answers, i);
-        if (item.refusal == 0)
-            printf("%s has code %u\n", stock[i], (unsigned)item.code);
+        struct wundaleth_answer answer = wundaleth_answer_at(answers, i);
+        if (answer.refusal == 0)
+            printf("%s has code %u\n", stock[i], (unsigned)answer.code);
         else /* of this item alone, and never another number than WUNDALETH_NO_WORD */
-            printf("%s: refusal %u\n", stock[i], (unsigned)item.refusal);
+            printf("%s: refusal %u\n", stock[i], (unsigned)answer.refusal);
     }
     count = wundaleth_words_to_codes(voice, sizeof voice, lexicon, sizeof lexicon, items, length - 1, work, sizeof work,
                                      answers, sizeof answers);

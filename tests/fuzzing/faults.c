@@ -65,9 +65,9 @@ static void spoil(const uint8_t *items, uint8_t *out, int32_t count)
     const uint8_t *last = items;
     bool is_stopped = false;
     for (int32_t k = 0; k < count; k++) {
-        struct wundaleth_item item = wundaleth_item_at(out, (size_t)k), before = item;
+        struct wundaleth_answer item = wundaleth_answer_at(out, (size_t)k), before = item;
         if (k > 0)
-            before = wundaleth_item_at(out, (size_t)k - 1);
+            before = wundaleth_answer_at(out, (size_t)k - 1);
         /* an item that is no word keeps the code of the item before */
         if (FAULT == 25 && item.refusal != 0)
             put_answer(out + 8 * k, item.refusal, before.code);

@@ -84,7 +84,7 @@ static int32_t read_items(const struct bytes *list)
 }
 
 /* True if an item is answered so, as word to code answers for a word. */
-static bool is_answered(struct wundaleth_item item, int32_t code)
+static bool is_answered(struct wundaleth_answer item, int32_t code)
 {
     return code < 0 ? item.refusal == (uint32_t)-code && item.code == 0
                     : item.refusal == 0 && item.code == (uint32_t)code;
@@ -95,7 +95,7 @@ static void test_items(const struct bytes *list, const uint8_t *answers, int32_t
 {
     static struct bytes word;
     for (int32_t k = 0; k < count; k++) {
-        struct wundaleth_item item = wundaleth_item_at(answers, (size_t)k);
+        struct wundaleth_answer item = wundaleth_answer_at(answers, (size_t)k);
         const uint8_t *at = list->at + begins[k];
         int32_t code = code_by_graph(at + 1, *at);
         must(is_answered(item, code), "an item has not the code of its path");

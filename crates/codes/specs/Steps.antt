@@ -1,5 +1,5 @@
--- The vocabulary of the contracts of the private functions that go along arcs, by a code or by the letters of a word. No public contract
--- cites it. Assumes nothing.
+-- The vocabulary of the contracts of the private functions that go along arcs: here by a code, in lookup by the letters
+-- of a word. No public contract cites it. Assumes nothing.
 use Prim.Native.Nat.{ℕ, suc, _+_, _*_, _≤_, _<_}
 use mathlib.Core.Path.{_≡_}
 use mathlib.Core.Bool.{false}

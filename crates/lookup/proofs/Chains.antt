@@ -18,23 +18,23 @@ use Rattle.lookup.specs.Marks.{Chain, ends, goes-on, Chained, PairMarked
 
 -- ---- the chain and its numbers
 
--- places that are not of the chain may change
+-- the numbers of other pairs may change
 chain-same : {m n : List ℕ} {p : ℕ} {ps : List ℕ} → Chain m p ps
     → ((q : ℕ) → List·Memᴰ q ps → numberAt n q ≡ numberAt m q) → Chain n p ps
 chain-same (ends e) same = ends e
 chain-same {m} {n} (goes-on {p} {ps} low high new c) same =
     goes-on low high new (rw (same p (here refl)) (chain-same c (λ q i. same q (there i))))
 
--- its places lie in the row, and their numbers are not 0
+-- its pairs lie in the row, and their numbers are not 0
 first-low : {m : List ℕ} {p : ℕ} {ps : List ℕ} → Chain m p ps → 1 ≤ p
 first-low (ends e) = omega arith
 first-low (goes-on low high new c) = low
 
-chain-places : {m : List ℕ} {p : ℕ} {ps : List ℕ} → Chain m p ps → (q : ℕ) → List·Memᴰ q ps
+chain-pairs : {m : List ℕ} {p : ℕ} {ps : List ℕ} → Chain m p ps → (q : ℕ) → List·Memᴰ q ps
     → (1 ≤ q) × (q ≤ 13266) × (1 ≤ numberAt m q)
-chain-places (ends e) q i = absurd (not-nil i)
-chain-places {m} (goes-on {p} {ps} low high new c) q i =
-    ⊎-elim (λ e. rw e (low, high, first-low c)) (chain-places c q) (cases i)
+chain-pairs (ends e) q i = absurd (not-nil i)
+chain-pairs {m} (goes-on {p} {ps} low high new c) q i =
+    ⊎-elim (λ e. rw e (low, high, first-low c)) (chain-pairs c q) (cases i)
 
 -- ---- one more pair
 
@@ -46,7 +46,7 @@ module _ {m n k : List ℕ} {p last : ℕ} (c : Chained m (numberAt m 0)) (low :
     ps = c .pairs
 
     new : ¬ List·Memᴰ p ps
-    new i = omega (arith, chain-places (c .chain) p i .2, free)
+    new i = omega (arith, chain-pairs (c .chain) p i .2, free)
 
     number-kept : (q : ℕ) → ¬ (q ≡ p) → 1 ≤ q → numberAt k q ≡ numberAt m q
     number-kept q d l = second .others q (λ e. omega arith) ∙ first .others q d
@@ -60,12 +60,13 @@ module _ {m n k : List ℕ} {p last : ℕ} (c : Chained m (numberAt m 0)) (low :
       chained = rw (second .here) (record {
         pairs = p ∷ ps;
         chain = goes-on low high new (rw of-pair (chain-same (c .chain)
-            (λ q i. number-kept q (λ e. new (rw e at i)) (chain-places (c .chain) q i .0))));
+            (λ q i. number-kept q (λ e. new (rw e at i)) (chain-pairs (c .chain) q i .0))));
         all = λ {p = q} l h d. elim (ℕ-discrete q p) [
           | yes e ↦ here e
           | no n ↦ there (c .all l h (λ z. d (number-kept q n l ∙ z)))
         ];
       });
+      here = λ z. omega (arith, of-pair, first-low (c .chain));
       others = number-kept;
     }
 

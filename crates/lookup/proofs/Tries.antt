@@ -18,7 +18,7 @@ use Rattle.checking.specs.Tables.{WellFormed}
 use Rattle.checking.proofs.Arcs.{ArcNext, arc-next, arcs-done}
 use Rattle.checking.proofs.Increments.{CountsPassed, counts-start, counts-next}
 use Rattle.lookup.specs.Seeking.{wantedAt, codeOr, firstCode, codeBy, codeAfter, codeNumber}
-use Rattle.lookup.specs.Marks.{placeOf, Marks, SameBelow, PairMarked}
+use Rattle.lookup.specs.Marks.{pairOf, Marks, SameBelow, PairMarked}
 
 -- ---- an arc that fits, and one that doesn't
 
@@ -135,24 +135,24 @@ module _ {x prints word : List ℕ} (w : WellFormed x) {i u : ℕ} (h : u ≤ no
 
 -- ---- none leads on: the pair is marked
 
-module _ (i u : ℕ) {m n : List ℕ} (low : u < 402) (put : PairMarked m (placeOf i u) n) where
+module _ (i u : ℕ) {m n : List ℕ} (low : u < 402) (put : PairMarked m (pairOf i u) n) where
   pub marks-more : {prints word : List ℕ} {g : Graph} → Marks prints g word m
       → codeAfter prints g u (drop i word) ≡ none → Marks prints g word n
   marks-more marks none-leads = record {
     long = put .long ∙ marks .long;
     chained = put .chained;
-    tells = λ {i = j} {u = v} a b d. elim (ℕ-discrete (placeOf j v) (placeOf i u)) [
+    tells = λ {i = j} {u = v} a b d. elim (ℕ-discrete (pairOf j v) (pairOf i u)) [
       | yes e ↦
           let p : j ≡ i = omega arith in
           let q : v ≡ u = omega arith in
           rw (p, q) none-leads
-      | no o ↦ marks .tells a b (λ z. d (put .others (placeOf j v) o (omega arith) ∙ z))
+      | no o ↦ marks .tells a b (λ z. d (put .others (pairOf j v) o (omega arith) ∙ z))
     ];
   }
 
   pub same-more : (m₀ : List ℕ) → SameBelow (suc u) m₀ m → SameBelow u m₀ n
   same-more m₀ same j v a b c =
-      put .others (placeOf j v) (λ e. omega arith) (omega arith) ∙ same j v a (omega arith) c
+      put .others (pairOf j v) (λ e. omega arith) (omega arith) ∙ same j v a (omega arith) c
 
 -- ---- what is answered
 

@@ -39,10 +39,10 @@ fn seek(
     ensures { λ r. ⌜ r ≡ codeNumber (codeAfter (printsColumn (now (vertices .entry))) (graphOf (now (lexicon .entry)))
         vertex (drop i (now (word .entry)))) ⌝ }
     ensures { λ _. ⌜ Sought (now (lexicon .entry)) (now (vertices .entry)) (now (word .entry)) (now (marks .entry))
-        (now (marks .exit)) vertex ⌝ }
+        (now (marks .exit)) i vertex ⌝ }
 {
-    let place = 1 + ROW * i + vertex;
-    if number_at(marks, 2 * place) != 0 {
+    let pair = 1 + ROW * i + vertex;
+    if number_at(marks, 2 * pair) != 0 {
         return NOWHERE;
     }
     let wanted = wanted_at(word, i);
@@ -64,7 +64,7 @@ fn seek(
         passed += vertices[next][PATHS];
         at += 2;
     }
-    set_mark(marks, place);
+    set_mark(marks, pair);
     NOWHERE
 }
 

@@ -12,10 +12,10 @@ use Rattle.lookup.proofs.marks.clear_marks.Statement.{statement}
 use Rattle.lookup.proofs.marks.clear_marks.Tie as tie
 
 abbrev Inv-loop : tie.InvT-loop
-Inv-loop marks₀ place₀ marks place = (length marks ≡ 26534) × Chained marks place
+Inv-loop marks₀ pair₀ marks pair = (length marks ≡ 26534) × Chained marks pair
 
 abbrev μ-loop : tie.MeasureT-loop
-μ-loop marks₀ place₀ marks place = counted marks 13267
+μ-loop marks₀ pair₀ marks pair = counted marks 13267
 
 loop-holds : tie.Need-loop-holds Inv-loop μ-loop
 unfolding numberAt
@@ -23,7 +23,7 @@ loop-holds c = let p = c .before .before .before .pre in (p .0, rw (c .number-at
 
 -- the first pair of the chain
 first : (c : tie.In-loop Inv-loop μ-loop) →
-    let l = c .before .loop in (1 ≤ l .place) × (l .place ≤ 13266) × (1 ≤ numberAt (l .marks) (l .place))
+    let l = c .before .loop in (1 ≤ l .pair) × (l .pair ≤ 13266) × (1 ≤ numberAt (l .marks) (l .pair))
 first c = first-off (c .before .loop .inv .1) (c .loop-test .taken)
 
 number-at-requires-2 : tie.Need-number-at-requires-2 Inv-loop μ-loop

@@ -1,4 +1,4 @@
--- `marks::set_mark` meets its contract: the pair has the place of the last one, and becomes the last one. Assumes
+-- `marks::set_mark` meets its contract: the pair's number names the last one, and it becomes the last one. Assumes
 -- nothing.
 use borrow.Author.Needs.{needs}
 use Rattle.endian.specs.Rows.{numberAt}

@@ -5,7 +5,7 @@ use Prim.Native.Nat.{ℕ, suc, _+_, _*_, _-_, _≤_, _<_}
 use mathlib.Core.Path.{_≡_, refl, sym, ap, subst, _∙_}
 use mathlib.Core.Logic.{⊎-elim}
 use mathlib.Core.List.{List, []}
-use mathlib.Core.Option.{none, some}
+use mathlib.Core.Option.{none, some, Option·none-ne-some}
 use native.Mathlib.Omega.{arith}
 use native.Mathlib.Nat.{add-zero}
 use borrow.Author.Needs.{needs}
@@ -59,11 +59,11 @@ claims t = (
 )
 
 abbrev Inv-loop : lts.InvT-loop
-Inv-loop lexicon vertices word marks₀ i vertex place wanted start end at₀ passed₀ marks at passed =
+Inv-loop lexicon vertices word marks₀ i vertex pair wanted start end at₀ passed₀ marks at passed =
     Trying lexicon (printsColumn vertices) word marks₀ marks i vertex at end passed
 
 abbrev μ-loop : lts.MeasureT-loop
-μ-loop lexicon vertices word marks₀ i vertex place wanted start end at₀ passed₀ marks at passed = end - at
+μ-loop lexicon vertices word marks₀ i vertex pair wanted start end at₀ passed₀ marks at passed = end - at
 
 module _ (t : ℕ) where
   abbrev Start : Type 0
@@ -103,7 +103,11 @@ module _ (t : ℕ) where
       let s = start r in (
         number-none _ (asked s .marks .tells (position s) (vertex s)
             (λ e. c .if1 .taken (r .number-at .ensures .0 ∙ e))),
-        record { marks = asked s .marks; same = λ j w a b d. refl },
+        record {
+          marks = asked s .marks;
+          same = λ j w a b d. refl;
+          marked = λ n e. c .if1 .taken (r .number-at .ensures .0 ∙ e);
+        },
       )
 
   -- ---- its list
@@ -194,12 +198,13 @@ module _ (t : ℕ) where
       let s = begin (n .before) in
       let l = n .before .before in
       let by = fits-end _ (graphOf (s .args .lexicon .now)) (s .args .word .now) (s .args .i) _ (fits (c .before))
-      (low (n .before) (s .args .i)) (sym (wanted (n .before) .wanted-at .ensures) ∙ c .if3 .taken) in (
-        number-found _ (try-found (well-formed s) (asked s .vertex) (l .loop .inv) (n .before .loop-test .taken) by
-            ∙ ap some (add-zero (l .loop .passed))),
+      (low (n .before) (s .args .i)) (sym (wanted (n .before) .wanted-at .ensures) ∙ c .if3 .taken) in
+      let way = try-found (well-formed s) (asked s .vertex) (l .loop .inv) (n .before .loop-test .taken) by in (
+        number-found _ (way ∙ ap some (add-zero (l .loop .passed))),
         record {
           marks = l .loop .inv .marks;
           same = λ j w a b d. l .loop .inv .same j w a (omega arith) d;
+          marked = λ none-leads. absurd (Option·none-ne-some _ (sym none-leads ∙ way));
         },
       )
 
@@ -331,13 +336,15 @@ module _ (t : ℕ) where
   returns-3 c =
       let f = fitting (sought c) in
       let s = begin (turn f) in
-      let l = turn f .before in (
-        number-found _ (try-found (well-formed s) (asked s .vertex) (l .loop .inv) (turn f .loop-test .taken)
-            (by-letter f ∙ found c)),
+      let l = turn f .before in
+      let way = try-found (well-formed s) (asked s .vertex) (l .loop .inv) (turn f .loop-test .taken)
+      (by-letter f ∙ found c) in (
+        number-found _ way,
         record {
           marks = sought c .seek .ensures .1 .marks;
           same = λ j w a b d.
               same-here (sought c) j w a (omega arith) d ∙ l .loop .inv .same j w a (omega arith) d;
+          marked = λ none-leads. absurd (Option·none-ne-some _ (sym none-leads ∙ way));
         },
       )
 
@@ -440,6 +447,7 @@ module _ (t : ℕ) where
               (none-left d);
           same = same-more (s .args .i) (s .args .vertex) (vertex s) (m .set-mark .ensures) (s .args .marks .now)
               (l .inv .same);
+          marked = λ none-leads. m .set-mark .ensures .here;
         },
       )
 
