@@ -97,8 +97,8 @@ int32_t wundaleth_word_to_code(const uint8_t *voice, size_t voice_length, const 
  * and so many bytes, any; items stand one after the other to the end of the list. Writes an answer for each item, in
  * order, in 8 bytes, uint32_t refusal and uint32_t code, both little-endian: 0 and the code, or 13 and 0 where the item
  * spells no word here, the item of length 0 and items of more than 32 letters among them; wundaleth_answer_at below
- * reads one. The output needs no alignment. A word that is not there does not stop the following ones. Answers the number of items, 0
- * to 1,000, found or not, or refuses with 1 to 10, 19 or 16, tested in this order. */
+ * reads one. The output needs no alignment. A word that is not there does not stop the following ones. Answers the
+ * number of items, 0 to 1,000, found or not, or refuses with 1 to 10, 19 or 16, tested in this order. */
 int32_t wundaleth_words_to_codes(const uint8_t *voice, size_t voice_length, const uint8_t *lexicon,
                                  size_t lexicon_length, const uint8_t *items, size_t items_length, uint8_t *work,
                                  size_t work_length, uint8_t *out, size_t out_length);

@@ -1,5 +1,5 @@
--- The vocabulary of the contracts of listing's private functions: the lines that a walk writes from a vertex on, and how
--- many bytes they are. `Countable` is what a lookup asks too. No public contract cites it. Assumes nothing.
+-- The vocabulary of the contracts of listing's private functions: the lines that a walk writes from a vertex on, and
+-- how many bytes they are. `Countable` is what a lookup asks too. No public contract cites it. Assumes nothing.
 use Prim.Native.Nat.{ℕ, _+_, _≤_}
 use mathlib.Core.Path.{_≡_}
 use mathlib.Core.List.{List, [], _∷_, _++_, map, flatMap, List·Memᴰ}

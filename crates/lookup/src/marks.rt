@@ -1,6 +1,6 @@
-// Marks of pairs of a letter position and a vertex, in a row of numbers, one for each pair: number 0 names the pair that
-// was marked last, and a marked pair's number the one that was marked before it. So they are cleared where they were
-// set.
+// Marks of pairs of a letter position and a vertex, in a row of numbers, one for each pair: number 0 names the pair
+// that was marked last, and a marked pair's number the one that was marked before it. So they are cleared where they
+// were set.
 ghost use mathlib.Core.Path.{_≡_};
 ghost use Prim.Native.Nat.{_≤_};
 ghost use lib.ListN.{length, replicate};
