@@ -11,7 +11,7 @@ use lib.ListN.{length, getD, replicate, length-replicate}
 use borrow.Author.Tests.{lt-ltb, le-ltb}
 use Rattle.endian.specs.Bytes.{Bytes, u16}
 use Rattle.endian.specs.Lists.{isNone}
-use Rattle.endian.specs.Rows.{numberAt, NumberPut}
+use Rattle.endian.specs.Rows.{numberAt}
 use Rattle.call.specs.declared.Refusal.{Refusal}
 use Rattle.call.specs.declared.Refusal.the-variants.{NoWord}
 use Rattle.call.specs.Table.{Answer, value, refused, on, unless}
@@ -45,20 +45,16 @@ zero-number : (n p : ℕ) → numberAt (replicate n 0) p ≡ 0
 unfolding numberAt u16
 zero-number n p = rw (zero-at n, zero-at n) refl
 
-pub marks-start : (prints : List ℕ) (g : Graph) (word : List ℕ) {m n : List ℕ} → m ≡ replicate 26534 0
-    → NumberPut m 0 13267 n → Marks prints g word n
-marks-start prints g word {m} {n} e put = record {
-  long = put .long ∙ ap length e ∙ length-replicate {A = ℕ} 26534 0;
-  chained = record {
-    pairs = [];
-    chain = ends (put .here);
-    all = λ {p = p} l h d. absurd (d (unmarked p l));
-  };
-  tells = λ {i} {u} a b d. absurd (d (unmarked _ (omega arith)));
-}
-  where
-    unmarked : (p : ℕ) → 1 ≤ p → numberAt n p ≡ 0
-    unmarked p l = put .others p (λ q. omega arith) ∙ ap (λ (b : List ℕ). numberAt b p) e ∙ zero-number 26534 p
+module _ {m : List ℕ} (e : m ≡ replicate 26534 0) where
+  pub unmarked : (p : ℕ) → numberAt m p ≡ 0
+  unmarked p = ap (λ (b : List ℕ). numberAt b p) e ∙ zero-number 26534 p
+
+  pub marks-start : (prints : List ℕ) (g : Graph) (word : List ℕ) → Marks prints g word m 13267
+  marks-start prints g word = record {
+    long = ap length e ∙ length-replicate {A = ℕ} 26534 0;
+    chained = record { pairs = []; chain = ends refl; all = λ {p = p} h d. absurd (d (unmarked p)) };
+    tells = λ {i} {u} a b d. absurd (d (unmarked _));
+  }
 
 -- ---- a word that is too long, and others
 

@@ -26,7 +26,7 @@ chain-same {m} {n} (goes-on {p} {ps} low high new c) same =
     goes-on low high new (rw (same p (here refl)) (chain-same c (λ q i. same q (there i))))
 
 -- its pairs lie in the row, and their numbers are not 0
-first-low : {m : List ℕ} {p : ℕ} {ps : List ℕ} → Chain m p ps → 1 ≤ p
+pub first-low : {m : List ℕ} {p : ℕ} {ps : List ℕ} → Chain m p ps → 1 ≤ p
 first-low (ends e) = omega arith
 first-low (goes-on low high new c) = low
 
@@ -38,9 +38,15 @@ chain-pairs {m} (goes-on {p} {ps} low high new c) q i =
 
 -- ---- one more pair
 
-module _ {m n k : List ℕ} {p last : ℕ} (c : Chained m (numberAt m 0)) (low : 1 ≤ p) (high : p ≤ 13266)
-    (free : numberAt m p ≡ 0) (is-last : last ≡ numberAt m 0) (first : NumberPut m p last n)
-    (second : NumberPut n 0 p k)
+pub last-low : {m : List ℕ} {last : ℕ} → Chained m last → last ≤ 13267
+last-low c = go (c .chain)
+  where
+    go : {m : List ℕ} {p : ℕ} {ps : List ℕ} → Chain m p ps → p ≤ 13267
+    go (ends e) = omega arith
+    go (goes-on low high new on) = omega arith
+
+module _ {m n : List ℕ} {p last : ℕ} (c : Chained m last) (low : 1 ≤ p) (high : p ≤ 13266) (free : numberAt m p ≡ 0)
+    (put : NumberPut m p last n)
   where
     abbrev ps : List ℕ
     ps = c .pairs
@@ -48,26 +54,20 @@ module _ {m n k : List ℕ} {p last : ℕ} (c : Chained m (numberAt m 0)) (low :
     new : ¬ List·Memᴰ p ps
     new i = omega (arith, chain-pairs (c .chain) p i .2, free)
 
-    number-kept : (q : ℕ) → ¬ (q ≡ p) → 1 ≤ q → numberAt k q ≡ numberAt m q
-    number-kept q d l = second .others q (λ e. omega arith) ∙ first .others q d
-
-    of-pair : numberAt k p ≡ numberAt m 0
-    of-pair = second .others p (λ e. omega arith) ∙ first .here ∙ is-last
-
-    pub pair-marked : PairMarked m p k
+    pub pair-marked : PairMarked m p n
     pair-marked = record {
-      long = second .long ∙ first .long;
-      chained = rw (second .here) (record {
+      long = put .long;
+      chained = record {
         pairs = p ∷ ps;
-        chain = goes-on low high new (rw of-pair (chain-same (c .chain)
-            (λ q i. number-kept q (λ e. new (rw e at i)) (chain-pairs (c .chain) q i .0))));
-        all = λ {p = q} l h d. elim (ℕ-discrete q p) [
+        chain = goes-on low high new (rw (put .here) (chain-same (c .chain)
+            (λ q i. put .others q (λ e. new (rw e at i)))));
+        all = λ {p = q} h d. elim (ℕ-discrete q p) [
           | yes e ↦ here e
-          | no n ↦ there (c .all l h (λ z. d (number-kept q n l ∙ z)))
+          | no n ↦ there (c .all h (λ z. d (put .others q n ∙ z)))
         ];
-      });
-      here = λ z. omega (arith, of-pair, first-low (c .chain));
-      others = number-kept;
+      };
+      here = λ z. omega (arith, put .here, first-low (c .chain));
+      others = put .others;
     }
 
 -- ---- the first pair taken off
@@ -107,19 +107,19 @@ module _ {m : List ℕ} {p : ℕ} (c : Chained m p) where
   rest-chained d {n} put = go (c .chain) (λ q. c .all)
     where
       go : {ps : List ℕ} → Chain m p ps
-          → ((q : ℕ) → 1 ≤ q → q ≤ 13266 → ¬ (numberAt m q ≡ 0) → List·Memᴰ q ps) → Chained n (numberAt m p)
+          → ((q : ℕ) → q ≤ 13266 → ¬ (numberAt m q ≡ 0) → List·Memᴰ q ps) → Chained n (numberAt m p)
       go (ends e) all = absurd (d e)
       go (goes-on {ps} low high new on) all = record {
         pairs = ps;
         chain = chain-same on (λ q i. put .others q (λ e. new (rw e at i)));
-        all = λ {p = q} l h z. ⊎-elim (λ e. absurd (z (ap (numberAt n) e ∙ put .here))) (λ i. i)
-            (cases (all q l h (λ w. z (put .others q (λ e. z (ap (numberAt n) e ∙ put .here)) ∙ w))));
+        all = λ {p = q} h z. ⊎-elim (λ e. absurd (z (ap (numberAt n) e ∙ put .here))) (λ i. i)
+            (cases (all q h (λ w. z (put .others q (λ e. z (ap (numberAt n) e ∙ put .here)) ∙ w))));
       }
 
-  pub none-marked : p ≡ 13267 → (q : ℕ) → 1 ≤ q → q ≤ 13266 → numberAt m q ≡ 0
-  none-marked e q l h = elim (ℕ-discrete (numberAt m q) 0) [
+  pub none-marked : p ≡ 13267 → (q : ℕ) → q ≤ 13266 → numberAt m q ≡ 0
+  none-marked e q h = elim (ℕ-discrete (numberAt m q) 0) [
     | yes z ↦ z
-    | no d ↦ absurd (none (c .chain) (c .all l h d))
+    | no d ↦ absurd (none (c .chain) (c .all h d))
   ]
     where
       none : {ps : List ℕ} → Chain m p ps → List·Memᴰ q ps → ⊥

@@ -2,6 +2,7 @@ pub mod Least
 pub mod Ways
 pub mod Chains
 pub mod Tries
+pub mod Paths
 pub mod Prints
 pub mod Answers
 pub mod Stock

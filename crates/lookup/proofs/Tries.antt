@@ -1,8 +1,8 @@
 -- The arcs of a vertex, tried one after the other: what the arcs that are left give, behind the path counts of those
 -- passed, is what all gave at the beginning. Assumes nothing.
-use Prim.Native.Nat.{ℕ, suc, _+_, _*_, _≤_, _<_}
+use Prim.Native.Nat.{ℕ, _+_, _*_, _≤_, _<_}
 use mathlib.Core.Path.{_≡_, refl, sym, ap, _∙_}
-use mathlib.Core.List.{List}
+use mathlib.Core.List.{List, _++_, map, map-append, append-nil, Memᴰ·append-right}
 use mathlib.Core.Option.{Option, none, some}
 use native.Mathlib.Omega.{arith}
 use native.Mathlib.Decide.{ℕ-discrete, decLt}
@@ -11,14 +11,18 @@ use lib.ListN.{length, getD, drop, drop-of-length-le}
 use lib.Seq.{drop-cons, getD-drop}
 use borrow.Author.Tests.{eq-eqb, ne-eqb, lt-ltb, le-ltb}
 use Rattle.endian.specs.Bytes.{Bytes, u16}
-use Rattle.endian.proofs.Lists.{index-of}
-use Rattle.lexicon.specs.Lexicon.{nodeCount, arcsAt}
-use Rattle.graph.specs.Graph.{Graph, graphOf, pathCount}
+use Rattle.endian.specs.Lists.{sum}
+use Rattle.endian.proofs.Lists.{index-of, sum-append}
+use Rattle.lexicon.specs.Lexicon.{nodeCount, sinkOf, arcsAt, arcCount, successors}
+use Rattle.lexicon.proofs.Shape.{arcs-next}
+use Rattle.graph.specs.Graph.{Graph, graphOf, sink, pathCount}
+use Rattle.graph.proofs.Codes.{pathCount-below}
 use Rattle.checking.specs.Tables.{WellFormed}
-use Rattle.checking.proofs.Arcs.{ArcNext, arc-next, arcs-done}
+use Rattle.checking.proofs.Arcs.{shape-of, sound-of, ArcNext, arc-next, arcs-done}
 use Rattle.checking.proofs.Increments.{CountsPassed, counts-start, counts-next}
 use Rattle.lookup.specs.Seeking.{wantedAt, codeOr, firstCode, codeBy, codeAfter, codeNumber}
-use Rattle.lookup.specs.Marks.{pairOf, Marks, SameBelow, PairMarked}
+use Rattle.lookup.specs.Marks.{pairOf, Marks, PairMarked}
+use Rattle.lookup.specs.Trying.{Tried}
 
 -- ---- an arc that fits, and one that doesn't
 
@@ -35,6 +39,12 @@ module _ (word : List ℕ) (i : ℕ) where
   letter-left d = elim (decLt i (length word)) [
     | yes h ↦ h
     | no n ↦ absurd (d (wanted-end (omega arith)))
+  ]
+
+  pub wanted-past : getD word i 0 < 256 → wantedAt word i ≡ 256 → length word ≤ i
+  wanted-past low e = elim (decLt i (length word)) [
+    | yes h ↦ absurd (omega (arith, wanted-letter h))
+    | no n ↦ omega arith
   ]
 
   pub wanted-low : i < length word → getD word i 0 < 256 → wantedAt word i < 256
@@ -77,82 +87,122 @@ low-bytes word low i x m =
 
 -- ---- while they are tried
 
-pub record Trying (x prints word m₀ m : List ℕ) (i u at stop passed : ℕ) : Type 0 where
-  pub counts : CountsPassed x u at stop passed
+pub record Trial (x prints word : List ℕ) (i u at stop c : ℕ) : Type 0 where
+  pub counts : CountsPassed x u at stop c
   pub left : codeAfter prints (graphOf x) u (drop i word)
-      ≡ firstCode (codeBy prints (graphOf x) (drop i word)) (pathCount (graphOf x)) (counts .later) passed
-  pub marks : Marks prints (graphOf x) word m
-  pub same : SameBelow (suc u) m₀ m
+      ≡ firstCode (codeBy prints (graphOf x) (drop i word)) (pathCount (graphOf x)) (counts .later) c
 
--- an arc that leads nowhere, to s, and the marks after it
-pub record Passed (x prints word m : List ℕ) (i u s : ℕ) (n : List ℕ) : Type 0 where
-  pub nowhere : codeBy prints (graphOf x) (drop i word) s ≡ none
-  pub marks : Marks prints (graphOf x) word n
-  pub same : SameBelow (suc u) m n
+stop-there : {x : List ℕ} → WellFormed x → {u : ℕ} → u ≤ nodeCount x → arcsAt x u + 2 + 2 * arcCount x u ≤ length x
+unfolding sinkOf
+stop-there {x} w {u} h = omega (arith, arcs-next x u, shape-of w .there {u = u} (omega arith))
 
 module _ {x prints word : List ℕ} (w : WellFormed x) {i u : ℕ} (h : u ≤ nodeCount x) where
-  pub try-start : {m : List ℕ} {at : ℕ} → at ≡ arcsAt x u → Marks prints (graphOf x) word m
-      → Trying x prints word m m i u (at + 2) (at + 2 + 2 * u16 x at) 0
-  unfolding codeAfter counts-start
-  try-start e marks = record { counts = counts-start w h e; left = refl; marks = marks; same = λ j v a b c. refl }
+  pub trial-of : {at c : ℕ} → Tried x prints word i u at c
+      → Trial x prints word i u at (arcsAt x u + 2 + 2 * arcCount x u) c
+  unfolding sinkOf sink
+  trial-of {at} {c} t = record {
+    counts = record {
+      earlier = t .earlier;
+      later = t .later;
+      arcs = record {
+        read = t .read;
+        size = sym (t .ends);
+        there = stop-there w h;
+        rise = λ m. sound-of w .rises (omega arith) (rw (t .split) (Memᴰ·append-right (t .earlier) m));
+      };
+      split = t .split;
+      total-is = t .passes;
+    };
+    left = t .left;
+  }
 
-  module _ {m₀ m : List ℕ} {at stop passed : ℕ} (t : Trying x prints word m₀ m i u at stop passed) where
+  pub tried-of : {at c : ℕ} → Trial x prints word i u at (arcsAt x u + 2 + 2 * arcCount x u) c
+      → Tried x prints word i u at c
+  tried-of t = record {
+    earlier = t .counts .earlier;
+    later = t .counts .later;
+    split = t .counts .split;
+    read = t .counts .arcs .read;
+    ends = sym (t .counts .arcs .size);
+    passes = t .counts .total-is;
+    left = t .left;
+  }
+
+  pub try-start : {at : ℕ} → at ≡ arcsAt x u → Tried x prints word i u (at + 2) 0
+  unfolding codeAfter counts-start arcCount
+  try-start {at} e = rw e (tried-of (record { counts = counts-start w h refl; left = refl }))
+
+  module _ {at stop c : ℕ} (t : Trial x prints word i u at stop c) where
     pub try-done : stop ≤ at → codeAfter prints (graphOf x) u (drop i word) ≡ none
     unfolding firstCode
     try-done k =
         t .left
-        ∙ ap (λ (l : List ℕ). firstCode (codeBy prints (graphOf x) (drop i word)) (pathCount (graphOf x)) l passed)
+        ∙ ap (λ (l : List ℕ). firstCode (codeBy prints (graphOf x) (drop i word)) (pathCount (graphOf x)) l c)
         (arcs-done (t .counts .arcs) k)
+
+    -- all paths of the vertex are passed then
+    pub all-passed : stop ≤ at → c ≡ pathCount (graphOf x) u
+    unfolding sink
+    all-passed k =
+        let e : successors x u ≡ t .counts .earlier =
+        t .counts .split ∙ ap (λ (l : List ℕ). t .counts .earlier ++ l) (arcs-done (t .counts .arcs) k)
+        ∙ append-nil (t .counts .earlier) in
+        t .counts .total-is ∙ ap (λ (l : List ℕ). sum (map (pathCount (graphOf x)) l)) (sym e)
+        ∙ sym (pathCount-below (sound-of w) (omega arith))
+
+    pub passed-few : c ≤ pathCount (graphOf x) u
+    unfolding sink
+    passed-few =
+        let counts = map (pathCount (graphOf x)) in
+        omega (
+          arith,
+          t .counts .total-is,
+          pathCount-below (sound-of w) {u = u} (omega arith),
+          ap (λ (l : List ℕ). sum (map (pathCount (graphOf x)) l)) (t .counts .split),
+          ap sum (map-append (pathCount (graphOf x)) (t .counts .earlier) (t .counts .later)),
+          sum-append (counts (t .counts .earlier)) (counts (t .counts .later)),
+        )
 
     module _ (k : at < stop) where
       pub next : ArcNext x u at stop (t .counts .later)
       next = arc-next (t .counts .arcs) k
 
       here-left : codeAfter prints (graphOf x) u (drop i word)
-          ≡ codeOr (codeBy prints (graphOf x) (drop i word) (u16 x at)) passed
+          ≡ codeOr (codeBy prints (graphOf x) (drop i word) (u16 x at)) c
           (firstCode (codeBy prints (graphOf x) (drop i word)) (pathCount (graphOf x)) (next .others)
-          (passed + pathCount (graphOf x) (u16 x at)))
+          (c + pathCount (graphOf x) (u16 x at)))
       unfolding firstCode
       here-left =
           t .left
-          ∙ ap (λ (l : List ℕ). firstCode (codeBy prints (graphOf x) (drop i word)) (pathCount (graphOf x)) l passed)
+          ∙ ap (λ (l : List ℕ). firstCode (codeBy prints (graphOf x) (drop i word)) (pathCount (graphOf x)) l c)
           (next .split)
 
       pub try-found : {code : ℕ} → codeBy prints (graphOf x) (drop i word) (u16 x at) ≡ some code
-          → codeAfter prints (graphOf x) u (drop i word) ≡ some (passed + code)
+          → codeAfter prints (graphOf x) u (drop i word) ≡ some (c + code)
       unfolding codeOr
       try-found e = here-left ∙ rw e refl
 
-      pub try-next : {n : List ℕ} → Passed x prints word m i u (u16 x at) n
-          → Trying x prints word m₀ n i u (at + 2) stop (passed + pathCount (graphOf x) (u16 x at))
+      pub try-next : codeBy prints (graphOf x) (drop i word) (u16 x at) ≡ none
+          → Trial x prints word i u (at + 2) stop (c + pathCount (graphOf x) (u16 x at))
       unfolding codeOr counts-next
-      try-next p = record {
-        counts = counts-next w h (t .counts) next;
-        left = here-left ∙ rw (p .nowhere) refl;
-        marks = p .marks;
-        same = λ j v a b c. p .same j v a b c ∙ t .same j v a b c;
-      }
+      try-next e = record { counts = counts-next w h (t .counts) next; left = here-left ∙ rw e refl }
 
 -- ---- none leads on: the pair is marked
 
-module _ (i u : ℕ) {m n : List ℕ} (low : u < 402) (put : PairMarked m (pairOf i u) n) where
-  pub marks-more : {prints word : List ℕ} {g : Graph} → Marks prints g word m
-      → codeAfter prints g u (drop i word) ≡ none → Marks prints g word n
-  marks-more marks none-leads = record {
-    long = put .long ∙ marks .long;
-    chained = put .chained;
-    tells = λ {i = j} {u = v} a b d. elim (ℕ-discrete (pairOf j v) (pairOf i u)) [
-      | yes e ↦
-          let p : j ≡ i = omega arith in
-          let q : v ≡ u = omega arith in
-          rw (p, q) none-leads
-      | no o ↦ marks .tells a b (λ z. d (put .others (pairOf j v) o (omega arith) ∙ z))
-    ];
-  }
-
-  pub same-more : (m₀ : List ℕ) → SameBelow (suc u) m₀ m → SameBelow u m₀ n
-  same-more m₀ same j v a b c =
-      put .others (pairOf j v) (λ e. omega arith) (omega arith) ∙ same j v a (omega arith) c
+pub marks-more : (i u : ℕ) {m n prints word : List ℕ} {g : Graph} {last : ℕ} → u < 402
+    → PairMarked m (pairOf i u) n → Marks prints g word m last → codeAfter prints g u (drop i word) ≡ none
+    → Marks prints g word n (pairOf i u)
+marks-more i u low put marks none-leads = record {
+  long = put .long ∙ marks .long;
+  chained = put .chained;
+  tells = λ {i = j} {u = v} a b d. elim (ℕ-discrete (pairOf j v) (pairOf i u)) [
+    | yes e ↦
+        let p : j ≡ i = omega arith in
+        let q : v ≡ u = omega arith in
+        rw (p, q) none-leads
+    | no o ↦ marks .tells a b (λ z. d (put .others (pairOf j v) o ∙ z))
+  ];
+}
 
 -- ---- what is answered
 

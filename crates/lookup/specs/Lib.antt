@@ -1,3 +1,4 @@
 pub mod Seeking
 pub mod Marks
+pub mod Trying
 pub mod Items

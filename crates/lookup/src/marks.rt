@@ -1,6 +1,5 @@
-// Marks of pairs of a letter position and a vertex, in a row of numbers, one for each pair: number 0 names the pair
-// that was marked last, and a marked pair's number the one that was marked before it. So they are cleared where they
-// were set.
+// Marks of pairs of a letter position and a vertex, in a row of numbers, one for each pair from 1 on: a marked pair's
+// number names the pair that was marked before it. So the marks are cleared where they were set, from the last one on.
 ghost use mathlib.Core.Path.{_≡_};
 ghost use Prim.Native.Nat.{_≤_};
 ghost use lib.ListN.{length, replicate};
@@ -12,33 +11,30 @@ use crate::image::put_number;
 // The pairs of a letter position, one for each vertex.
 pub(crate) const ROW: usize = 402;
 
-// The bytes of the row: number 0, and one for each vertex at 33 letter positions.
+// The bytes of the row: a number for each vertex at 33 letter positions, and number 0, which is no pair's.
 pub(crate) const MARKS: usize = 26534;
 
 // No pair: it ends the chain.
 pub(crate) const NONE: usize = 13267;
 
 // Marks a pair.
-pub(crate) fn set_mark(marks: &mut [u8], pair: usize)
-    requires { ⌜ (length (now marks) ≡ 26534) × Chained (now marks) (numberAt (now marks) 0) ⌝ }
+pub(crate) fn set_mark(marks: &mut [u8], pair: usize, last: usize)
+    requires { ⌜ (length (now marks) ≡ 26534) × Chained (now marks) last ⌝ }
     requires { ⌜ (1 ≤ pair) × (pair ≤ 13266) × (numberAt (now marks) pair ≡ 0) ⌝ }
     ensures { λ _. ⌜ PairMarked (now (marks .entry)) pair (now (marks .exit)) ⌝ }
 {
-    let last = number_at(marks, 0);
     put_number(marks, pair, last);
-    put_number(marks, 0, pair);
 }
 
-// Clears all marks.
-pub(crate) fn clear_marks(marks: &mut [u8])
-    requires { ⌜ (length (now marks) ≡ 26534) × Chained (now marks) (numberAt (now marks) 0) ⌝ }
+// Clears all marks, from the last one on.
+pub(crate) fn clear_marks(marks: &mut [u8], last: usize)
+    requires { ⌜ (length (now marks) ≡ 26534) × Chained (now marks) last ⌝ }
     ensures { λ _. ⌜ now (marks .exit) ≡ replicate 26534 0 ⌝ }
 {
-    let mut pair = number_at(marks, 0);
+    let mut pair = last;
     while pair != NONE {
         let before = number_at(marks, 2 * pair);
         put_number(marks, pair, 0);
         pair = before;
     }
-    put_number(marks, 0, 0);
 }

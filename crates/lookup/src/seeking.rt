@@ -2,16 +2,17 @@
 // is found is the first in code order. Where none leads on, the pair of letter position and vertex is marked, so that
 // it is not tried again.
 ghost use mathlib.Core.Path.{_≡_};
-ghost use lib.ListN.{drop, replicate};
+ghost use Prim.Native.Nat.{ℕ, _+_, _≤_};
+ghost use lib.ListN.{length, replicate};
 ghost use Rattle.call.specs.Table.{answerOf};
 ghost use Rattle.graph.specs.Graph.{graphOf};
 ghost use Rattle.lookup.specs.Seeking.{codeAfter, codeNumber, soughtAnswer, printsColumn};
 ghost use Rattle.lookup.specs.Seeking.{wantedAt, Seekable};
-ghost use Rattle.lookup.specs.Marks.{Seeking, Sought};
+ghost use Rattle.lookup.specs.Marks.{Chained};
+ghost use Rattle.lookup.specs.Trying.{Trying, Tried, LedOn, Seeking};
 use crate::image::END;
 use crate::image::PRINT;
 use crate::image::number_at;
-use crate::image::put_number;
 use crate::marks::NONE;
 use crate::marks::ROW;
 use crate::marks::clear_marks;
@@ -22,50 +23,99 @@ use checking::ARCS_AT;
 use checking::LETTERS;
 use checking::PATHS;
 
-// What a search answers that finds no way: no code is as great. It answers a number and no enum, since that goes
-// through a register.
+// What a search finds where there is no way: no code is as great.
 const NOWHERE: u32 = 4294967295;
 
-// The code of the bytes of the word from i on, counted from a vertex.
-fn seek(
+// The arc that a vertex's list goes on by: the vertex that it leads to, or 0 where none fits, where it stands, and the
+// path counts of the arcs that were passed.
+struct Arc {
+    pub next: usize,
+    pub at: usize,
+    pub passed: u32,
+}
+
+// From an arc of the vertex's list on, the first that fits.
+fn next_arc(
     lexicon: &[u8],
     vertices: &[[u32; 4]; 402],
     word: &[u8],
-    marks: &mut [u8],
     i: usize,
     vertex: usize,
-) -> u32
-    requires { ⌜ Seeking (now lexicon) (now vertices) (now word) (now marks) i vertex ⌝ }
-    ensures { λ r. ⌜ r ≡ codeNumber (codeAfter (printsColumn (now (vertices .entry))) (graphOf (now (lexicon .entry)))
-        vertex (drop i (now (word .entry)))) ⌝ }
-    ensures { λ _. ⌜ Sought (now (lexicon .entry)) (now (vertices .entry)) (now (word .entry)) (now (marks .entry))
-        (now (marks .exit)) i vertex ⌝ }
+    first: usize,
+) -> Arc
+    requires { ⌜ Trying (now lexicon) (now vertices) (now word) i vertex first ⌝ }
+    ensures { λ r. ⌜ ((c : ℕ) → Tried (now (lexicon .entry)) (printsColumn (now (vertices .entry)))
+        (now (word .entry)) i vertex first c → LedOn (now (lexicon .entry)) (printsColumn (now (vertices .entry)))
+        (now (word .entry)) i vertex (r .next) (r .at) (c + r .passed)) ⌝ }
+    ensures { λ r. ⌜ (first ≤ r .at) × (r .passed ≤ 1048576) ⌝ }
 {
-    let pair = 1 + ROW * i + vertex;
-    if number_at(marks, 2 * pair) != 0 {
-        return NOWHERE;
-    }
     let wanted = wanted_at(word, i);
     let start = vertices[vertex][ARCS_AT] as usize;
     let end = start + 2 + 2 * number_at(lexicon, start);
-    let mut at = start + 2;
+    let mut at = first;
     let mut passed = 0;
     while at < end {
         let next = number_at(lexicon, at);
         if vertices[next][PRINT] == wanted {
-            if wanted == END {
-                return passed;
-            }
-            let code = seek(lexicon, vertices, word, marks, i + 1, next);
-            if code != NOWHERE {
-                return passed + code;
-            }
+            return Arc { next, at, passed };
         }
         passed += vertices[next][PATHS];
         at += 2;
     }
-    set_mark(marks, pair);
-    NOWHERE
+    Arc {
+        next: 0,
+        at,
+        passed,
+    }
+}
+
+// What a search found: the code of the word, or NOWHERE, and the pair that it marked last.
+struct Sought {
+    pub code: u32,
+    pub last: usize,
+}
+
+// The code counts on while the search goes down and up again: behind a vertex that leads nowhere all its paths are
+// counted.
+fn seek(lexicon: &[u8], vertices: &[[u32; 4]; 402], word: &[u8], marks: &mut [u8]) -> Sought
+    requires { ⌜ Seeking (now lexicon) (now vertices) (now word) (now marks) ⌝ }
+    ensures { λ r. ⌜ r .code ≡ codeNumber (codeAfter (printsColumn (now (vertices .entry)))
+        (graphOf (now (lexicon .entry))) 0 (now (word .entry))) ⌝ }
+    ensures { λ r. ⌜ (length (now (marks .exit)) ≡ 26534) × Chained (now (marks .exit)) (r .last) ⌝ }
+{
+    let mut path = [[0u32; 2]; 33];
+    let mut i = 0;
+    let mut vertex = 0;
+    let mut at = vertices[0][ARCS_AT] as usize + 2;
+    let mut code = 0;
+    let mut last = NONE;
+    loop {
+        let arc = next_arc(lexicon, vertices, word, i, vertex, at);
+        let next = arc.next;
+        code += arc.passed;
+        if next == 0 {
+            let pair = 1 + ROW * i + vertex;
+            set_mark(marks, pair, last);
+            last = pair;
+            if i == 0 {
+                code = NOWHERE;
+                return Sought { code, last };
+            }
+            i -= 1;
+            vertex = path[i][0] as usize;
+            at = path[i][1] as usize + 2;
+        } else if i == word.len() {
+            return Sought { code, last };
+        } else if number_at(marks, 2 * (1 + ROW * (i + 1) + next)) != 0 {
+            code += vertices[next][PATHS];
+            at = arc.at + 2;
+        } else {
+            path[i] = [vertex as u32, arc.at as u32];
+            i += 1;
+            vertex = next;
+            at = vertices[vertex][ARCS_AT] as usize + 2;
+        }
+    }
 }
 
 // What the next vertex has to print.
@@ -93,11 +143,10 @@ pub(crate) fn look_up(
     if (LETTERS as usize) < word.len() {
         return Answer::Refused(Refusal::NoWord);
     }
-    put_number(marks, 0, NONE);
-    let code = seek(lexicon, vertices, word, marks, 0, 0);
-    clear_marks(marks);
-    if code == NOWHERE {
+    let found = seek(lexicon, vertices, word, marks);
+    clear_marks(marks, found.last);
+    if found.code == NOWHERE {
         return Answer::Refused(Refusal::NoWord);
     }
-    Answer::Value(code)
+    Answer::Value(found.code)
 }
