@@ -24,7 +24,9 @@ use inputs::Input;
 use random::Random;
 use std::time::Instant;
 
-const SAMPLES: usize = 301;
+const WORDS: usize = 64;
+/// Each word 25 times: with fewer the median over words that take unlike times jumps from run to run.
+const SAMPLES: usize = 25 * WORDS;
 /// Microseconds that word to code may take more than checking, even where the plain one takes less than half of that.
 const ALLOWED: f64 = 2.0;
 /// Lookups alone are timed in rows of so many.
@@ -132,7 +134,7 @@ fn whole_calls(input: &Input, words: &[Entry], random: &mut Random, work: &mut [
 /// The first and the last of these words and others between them.
 fn time_some(name: &str, input: &Input, words: &[&Entry], random: &mut Random, work: &mut [u8]) {
     let mut some = vec![words[0].clone(), words[words.len() - 1].clone()];
-    some.resize_with(64, || (*random.pick(words)).clone());
+    some.resize_with(WORDS, || (*random.pick(words)).clone());
     compare(input, &some, work);
     time_calls(name, input, &some, work);
 }
