@@ -25,61 +25,56 @@ returns c =
 abbrev Told : Type 0
 Told = tie.After-enum-told
 
+abbrev opened : Told → tie.After-open
+opened c = c .before .before .before .before
+
 abbrev start : Told → tie.Start
-start c = c .before .before .before .before .before .before .before .before .before .before .before
+start c = opened c .before .before .before .before .before .before .before
+
+abbrev work : Told → List ℕ
+work c = opened c .«open» .last .1 .1 .0
 
 -- checking has answered W
 passes : (c : Told) →
     let a = start c .args in Passed (a .voice .now) (a .lexicon .now) (a .work .now) (c .enum-told .given .0 .0)
-passes c =
-    let o = c .before .before .before .before in
-    passed _ _ _ (sym (o .«open» .ensures .0) ∙ ap answerOf (c .enum-told .given .1))
+passes c = passed _ _ _ (sym (opened c .«open» .ensures .0) ∙ ap answerOf (c .enum-told .given .1))
+
+work-is : (c : Told) → work c ≡ cleared (start c .args .work .now)
+work-is c = opened c .«open» .ensures .1 .0
 
 -- the bytes of the word
 low : (c : Told) (j : ℕ) → getD (start c .args .word .now) j 0 < 256
-low c j =
-    omega (arith, c .before .before .before .before .before .before .before .before .shared-slice-known3 .given j)
+low c j = omega (arith, opened c .before .before .before .before .shared-slice-known3 .given j)
 
 put-prints-requires : tie.Need-put-prints-requires
 put-prints-requires c κs =
-    let t = c .before in
-    let o = t .before .before .before .before in (
+    let t = c .before in (
       passes t .images,
-      opened-table (passes t) _ (ap answerOf (t .enum-told .given .1)) (o .«open» .ensures .1 .1),
+      opened-table (passes t) _ (ap answerOf (t .enum-told .given .1)) (opened t .«open» .ensures .1 .1),
     )
 
 abbrev told : tie.After-vertices3 → Told
 told c = c .before .before .before
 
 -- the part that is lent on
-room : (c : tie.After-vertices3) → 26534 ≤ length (told c .before .before .before .before .«open» .last .1 .1 .0)
+room : (c : tie.After-vertices3) → 26534 ≤ length (work (told c))
 room c =
-    let o = told c .before .before .before .before in
-    omega (
-      arith,
-      ap length (o .«open» .ensures .1 .0),
-      cleared-length (start (told c) .args .work .now),
-      passes (told c) .room,
-    )
+    let t = told c in
+    omega (arith, ap length (work-is t), cleared-length (start t .args .work .now), passes t .room)
 
 look-up-requires : tie.Need-look-up-requires
 look-up-requires c κs =
-    let t = told (c .before) in
-    let o = t .before .before .before .before in (
+    let t = told (c .before) in (
       seekable (c .before .before .put-prints .ensures),
-      ap (take 26534) (o .«open» .ensures .1 .0)
-          ∙ cleared-front 26534 (start t .args .work .now) (omega arith) (passes t .room),
+      ap (take 26534) (work-is t) ∙ cleared-front 26534 (start t .args .work .now) (omega arith) (passes t .room),
     )
 
 work-cleared : (c : tie.After-look-up) →
     let t = told (c .before .before) in
-    let o = t .before .before .before .before in
-    c .look-up .last .1 .1 .1 .0 ++ drop 26534 (o .«open» .last .1 .1 .0)
-    ≡ cleared (start t .args .work .now)
+    c .look-up .last .1 .1 .1 .0 ++ drop 26534 (work t) ≡ cleared (start t .args .work .now)
 work-cleared c =
     let t = told (c .before .before) in
-    let o = t .before .before .before .before in
-    ap (λ (w : List ℕ). c .look-up .last .1 .1 .1 .0 ++ drop 26534 w) (o .«open» .ensures .1 .0)
+    ap (λ (w : List ℕ). c .look-up .last .1 .1 .1 .0 ++ drop 26534 w) (work-is t)
     ∙ cleared-back 26534 (start t .args .work .now) (omega arith) (passes t .room) (c .look-up .ensures .1)
 
 same-length-2 : tie.Need-same-length-2

@@ -32,26 +32,25 @@ returns c =
 abbrev Told : Type 0
 Told = tie.After-enum-told
 
+abbrev opened : Told → tie.After-open
+opened c = c .before .before .before .before
+
 abbrev start : Told → tie.Start
-start c = c .before .before .before .before .before .before .before .before .before .before .before .before
+start c = opened c .before .before .before .before .before .before .before .before
 
 abbrev work : Told → List ℕ
-work c = c .before .before .before .before .«open» .last .1 .1 .0
+work c = opened c .«open» .last .1 .1 .0
 
 passes : (c : Told) →
     let a = start c .args in Passed (a .voice .now) (a .lexicon .now) (a .work .now) (c .enum-told .given .0 .0)
-passes c =
-    let o = c .before .before .before .before in
-    passed _ _ _ (sym (o .«open» .ensures .0) ∙ ap answerOf (c .enum-told .given .1))
+passes c = passed _ _ _ (sym (opened c .«open» .ensures .0) ∙ ap answerOf (c .enum-told .given .1))
 
 work-is : (c : Told) → work c ≡ cleared (start c .args .work .now)
-work-is c = c .before .before .before .before .«open» .ensures .1 .0
+work-is c = opened c .«open» .ensures .1 .0
 
 -- the bytes of the items
 low : (c : Told) (j : ℕ) → getD (start c .args .items .now) j 0 < 256
-low c j =
-    let o = c .before .before .before .before in
-    omega (arith, o .before .before .before .before .before .shared-slice-known3 .given j)
+low c j = omega (arith, opened c .before .before .before .before .before .shared-slice-known3 .given j)
 
 returns-2 : tie.Need-returns-2
 returns-2 c =
@@ -85,8 +84,7 @@ put-prints-requires : tie.Need-put-prints-requires
 put-prints-requires c κs =
     let t = told (c .before .before) in (
       passes t .images,
-      opened-table (passes t) _ (ap answerOf (t .enum-told .given .1))
-          (t .before .before .before .before .«open» .ensures .1 .1),
+      opened-table (passes t) _ (ap answerOf (t .enum-told .given .1)) (opened t .«open» .ensures .1 .1),
     )
 
 -- ---- and answered

@@ -169,8 +169,11 @@ Marked = tie.After-set-mark Inv-loop μ-loop
 abbrev back : Marked → Back
 back c = c .before .before
 
+abbrev marking : Marked → Turn
+marking c = turn (from (back c))
+
 pair-put : (c : Marked) →
-    let t = turn (from (back c)) in
+    let t = marking c in
     PairMarked (t .loop .marks) (pairOf (t .loop .i) (t .loop .vertex)) (c .set-mark .last .0)
 pair-put c = c .set-mark .ensures
 
@@ -178,7 +181,7 @@ pair-put c = c .set-mark .ensures
 returns : tie.Need-returns Inv-loop μ-loop
 returns c =
     let m = c .before .before .before in
-    let t = turn (from (back m)) in
+    let t = marking m in
     let s = begin t in (
       number-none _ (going-nowhere (well-formed s) (asked s .short) (going t) (c .if2 .taken) (none-leads (back m) .0)),
       (pair-put m .long ∙ going t .marks .long, pair-put m .chained),
@@ -190,22 +193,25 @@ Higher = tie.Else2 Inv-loop μ-loop
 abbrev marked : Higher → Marked
 marked c = c .before .before .before
 
+abbrev left : Higher → Turn
+left c = marking (marked c)
+
 up : (c : Higher) →
-    let t = turn (from (back (marked c))) in
+    let t = left c in
     let a = begin t .args in
     Up (a .lexicon .now) (printsColumn (a .vertices .now)) (a .word .now) (t .loop .marks) (t .loop .path)
     (t .loop .i - 1) (t .loop .vertex) (going t .base)
 up c =
-    let t = turn (from (back (marked c))) in
+    let t = left c in
     let s = begin t in
     came-from (well-formed s) (asked s .short) (t .loop .i) (going t) (c .if2 .left)
 
 row-small : (c : Higher) →
-    let t = turn (from (back (marked c))) in
+    let t = left c in
     let row = getD (t .loop .path) (t .loop .i - 1) [] in (getD row 0 0 < 402) × (getD row 1 0 + 2 ≤ 9206)
 unfolding sinkOf
 row-small c =
-    let t = turn (from (back (marked c))) in
+    let t = left c in
     let s = begin t in
     let u = up c in
     rw (u .row) (
@@ -216,7 +222,7 @@ row-small c =
 loop-less : tie.Need-loop-less Inv-loop μ-loop
 loop-less c =
     let m = marked (c .before .before) in
-    let t = turn (from (back m)) in
+    let t = marking m in
     let s = begin t in
     less-up (t .loop .i) (t .loop .at) _ (pair-put m) (pair-low t)
     (free-of (well-formed s) (asked s .short) (going t))
@@ -327,6 +333,9 @@ Deeper = tie.Else4 Inv-loop μ-loop
 abbrev by : Deeper → Down
 by c = fitting (c .before)
 
+abbrev deeper : Deeper → Turn
+deeper c = turn (down (by c))
+
 next-list : (c : Down) →
     let l = down c in
     let a = begin (turn l) .args in
@@ -370,16 +379,16 @@ seek-spec =
     (λ c. omega (arith, pair-low (turn (from c))))
     (λ c. omega (arith, pair-low (turn (from c))))
     set-mark-requires
-    (λ c. let m = c .before .before .before in let t = turn (from (back m)) in
+    (λ c. let m = c .before .before .before in let t = marking m in
     pair-put m .long ∙ going t .marks .long ∙ sym (long t))
     returns
     (λ c. omega (arith, c .if2 .left))
-    (λ c. omega (arith, position (turn (from (back (marked c))))))
-    (λ c. omega (arith, position (turn (from (back (marked c))))))
+    (λ c. omega (arith, position (left c)))
+    (λ c. omega (arith, position (left c)))
     (λ c. search needs)
     (λ c. omega (arith, row-small (c .before) .0))
-    (λ c. omega (arith, position (turn (from (back (marked (c .before)))))))
-    (λ c. omega (arith, position (turn (from (back (marked (c .before)))))))
+    (λ c. omega (arith, position (left (c .before))))
+    (λ c. omega (arith, position (left (c .before))))
     (λ c. search needs)
     (λ c. omega (arith, row-small (c .before .before) .1))
     (λ c. omega (arith, row-small (c .before .before) .1))
@@ -402,16 +411,16 @@ seek-spec =
     less-on (t .loop .marks) (t .loop .i) (t .loop .at) (down d .next-arc .ensures .1 .0)
     (omega (arith, arc-small d)))
     loop-again-2
-    (λ c. omega (arith, low (turn (down (by c)))))
+    (λ c. omega (arith, low (deeper c)))
     (λ c. omega (arith, arc-small (by (c .before))))
-    (λ c. omega (arith, position (turn (down (by (c .before))))))
-    (λ c. omega (arith, position (turn (down (by (c .before))))))
-    (λ c. omega (arith, position (turn (down (by (c .before))))))
+    (λ c. omega (arith, position (deeper (c .before))))
+    (λ c. omega (arith, position (deeper (c .before))))
+    (λ c. omega (arith, position (deeper (c .before))))
     (λ c. omega (arith, next-low (by (c .before))))
     (λ c. next-low (by (c .before)))
     (λ c. search needs)
     (λ c. omega (arith, next-small (by (c .before .before))))
     (λ c. omega (arith, next-small (by (c .before .before))))
-    (λ c. let t = turn (down (by (c .before .before))) in
+    (λ c. let t = deeper (c .before .before) in
     less-down (t .loop .marks) (t .loop .i) (t .loop .at) _ (position t) (at-low t))
     loop-again-3)
