@@ -1,6 +1,6 @@
 -- The items of a stock list, read one after the other, and that reading undoes writing. Assumes nothing.
 use Prim.Native.Nat.{ℕ, zero, suc, _≤_}
-use mathlib.Core.Path.{_≡_, refl, ap}
+use mathlib.Core.Path.{_≡_, refl, sym, ap, _∙_}
 use mathlib.Core.Bool.{false, _||_}
 use mathlib.Core.Logic.{⊎-elim}
 use mathlib.Core.List.{List, [], _∷_, List·Memᴰ, List·Memᴰ·tail as there}
@@ -15,55 +15,53 @@ use Rattle.codes.specs.Items.{itemsWithin, pastWithin, itemsOf, runsPast
 
 -- ---- one after the other
 
--- a greater allowance of items changes nothing
-within-enough : (n m : ℕ) (bytes : List ℕ) → length bytes ≤ n → length bytes ≤ m
-    → itemsWithin n bytes ≡ itemsWithin m bytes
-unfolding itemsWithin
-within-enough zero zero [] h k = refl
-within-enough zero (suc m) [] h k = refl
-within-enough (suc n) zero [] h k = refl
-within-enough (suc n) (suc m) [] h k = refl
-within-enough zero m (b ∷ bytes) h k = absurd (omega arith)
-within-enough (suc n) zero (b ∷ bytes) h k = absurd (omega arith)
-within-enough (suc n) (suc m) (b ∷ bytes) h k =
-    let l = length-drop b bytes in
-    ap (λ r. take b bytes ∷ r) (within-enough n m (drop b bytes) (omega arith) (omega arith))
+-- What is read item by item, as the items are and whether one runs past the end: a greater allowance of items changes
+-- nothing.
+module _ {A : Type 0} (f : ℕ → List ℕ → A) (none : A) (one : ℕ → List ℕ → A → A) (ends : (n : ℕ) → f n [] ≡ none)
+    (goes-on : (n k : ℕ) (bytes : List ℕ) → f (suc n) (k ∷ bytes) ≡ one k bytes (f n (drop k bytes))) where
+  enough : (n m : ℕ) (bytes : List ℕ) → length bytes ≤ n → length bytes ≤ m → f n bytes ≡ f m bytes
+  enough zero m [] h k = ends zero ∙ sym (ends m)
+  enough zero m (b ∷ bytes) h k = absurd (omega arith)
+  enough (suc n) m [] h k = ends (suc n) ∙ sym (ends m)
+  enough (suc n) zero (b ∷ bytes) h k = absurd (omega arith)
+  enough (suc n) (suc m) (b ∷ bytes) h k =
+      let l = length-drop b bytes in
+      goes-on n b bytes ∙ ap (one b bytes) (enough n m (drop b bytes) (omega arith) (omega arith))
+      ∙ sym (goes-on m b bytes)
 
-past-enough : (n m : ℕ) (bytes : List ℕ) → length bytes ≤ n → length bytes ≤ m
-    → pastWithin n bytes ≡ pastWithin m bytes
+  next : (k : ℕ) (bytes : List ℕ)
+      → f (suc (length bytes)) (k ∷ bytes) ≡ one k bytes (f (length (drop k bytes)) (drop k bytes))
+  next k bytes =
+      let l = length-drop k bytes in
+      goes-on (length bytes) k bytes
+      ∙ ap (one k bytes) (enough (length bytes) (length (drop k bytes)) (drop k bytes) (omega arith) (omega arith))
+
+items-end : (n : ℕ) → itemsWithin n [] ≡ []
+unfolding itemsWithin
+items-end zero = refl
+items-end (suc n) = refl
+
+past-end : (n : ℕ) → pastWithin n [] ≡ false
 unfolding pastWithin
-past-enough zero zero [] h k = refl
-past-enough zero (suc m) [] h k = refl
-past-enough (suc n) zero [] h k = refl
-past-enough (suc n) (suc m) [] h k = refl
-past-enough zero m (b ∷ bytes) h k = absurd (omega arith)
-past-enough (suc n) zero (b ∷ bytes) h k = absurd (omega arith)
-past-enough (suc n) (suc m) (b ∷ bytes) h k =
-    let l = length-drop b bytes in
-    ap (λ r. ltb (length bytes) b || r) (past-enough n m (drop b bytes) (omega arith) (omega arith))
+past-end zero = refl
+past-end (suc n) = refl
 
 pub items-none : itemsOf [] ≡ []
-unfolding itemsOf itemsWithin
-items-none = refl
+unfolding itemsOf
+items-none = items-end 0
 
 pub past-none : runsPast [] ≡ false
-unfolding runsPast pastWithin
-past-none = refl
+unfolding runsPast
+past-none = past-end 0
 
 module _ (k : ℕ) (bytes : List ℕ) where
   pub items-next : itemsOf (k ∷ bytes) ≡ take k bytes ∷ itemsOf (drop k bytes)
   unfolding itemsOf itemsWithin
-  items-next =
-      let l = length-drop k bytes in
-      ap (λ r. take k bytes ∷ r)
-      (within-enough (length bytes) (length (drop k bytes)) (drop k bytes) (omega arith) (omega arith))
+  items-next = next itemsWithin [] (λ k b later. take k b ∷ later) items-end (λ n k b. refl) k bytes
 
   pub past-next : runsPast (k ∷ bytes) ≡ (ltb (length bytes) k || runsPast (drop k bytes))
   unfolding runsPast pastWithin
-  past-next =
-      let l = length-drop k bytes in
-      ap (λ r. ltb (length bytes) k || r)
-      (past-enough (length bytes) (length (drop k bytes)) (drop k bytes) (omega arith) (omega arith))
+  past-next = next pastWithin false (λ k b later. ltb (length b) k || later) past-end (λ n k b. refl) k bytes
 
 -- ---- the bytes of an item are bytes of the list
 

@@ -12,6 +12,7 @@ use borrow.Author.Tests.{le-ltb, ltb-false}
 use Rattle.endian.specs.Bytes.{u32, u32Bytes}
 use Rattle.endian.proofs.Booleans.{or-none}
 use Rattle.endian.proofs.Bytes.{u32-written}
+use Rattle.endian.proofs.Lists.{length-pieces}
 use Rattle.call.specs.Table.{value, noneApplies}
 use Rattle.call.specs.Buffers.{spaceRows, written}
 use Rattle.call.proofs.Table.{none-join, none-parts, none-says, passed-none, unless-past, unless-value, value-passed}
@@ -144,13 +145,6 @@ piece f eight d (a ∷ l) (suc i) rest h =
         let e : 8 * suc j ≡ length (f a) + 8 * j = omega (arith, eight a) in
         ap₂ drop e (append-assoc (f a) (flatMap f l) rest) ∙ drop-append-add (f a) (flatMap f l ++ rest) (8 * j)
 
-length-pieces : {A : Type 0} (f : A → List ℕ) → ((a : A) → length (f a) ≡ 8) → (l : List A)
-    → length (flatMap f l) ≡ 8 * length l
-unfolding flatMap
-length-pieces f eight [] = refl
-length-pieces f eight (a ∷ l) =
-    length-append (f a) (flatMap f l) ∙ omega (arith, eight a, length-pieces f eight l)
-
 -- two numbers in eight bytes
 module _ (left : List ℕ) {at : ℕ} (a b : ℕ) (after : List ℕ) (inside : at ≤ length left)
     (e : drop at left ≡ u32Bytes a ++ u32Bytes b ++ after) where
@@ -187,13 +181,16 @@ module _ (v x items work out : List ℕ) (words : List (List ℕ)) (a : StockAns
   eight : (word : List ℕ) → length (answer word) ≡ 8
   eight word = length-answer (wordToCodeAnswer v x word work)
 
+  answers-long : length (flatMap answer words) ≡ 8 * length words
+  answers-long = omega (arith, length-pieces answer 8 eight words)
+
   left-is : left ≡ flatMap answer words ++ drop (8 * length words) out
   unfolding wordsToCodesOut itemAnswers written
   left-is =
       rw (
         stock-value v x items work out words a,
         items-read items .read words (a .list) .1,
-        length-pieces answer eight words,
+        answers-long,
       ) refl
 
   passed : noneApplies (firstRows v x work) ≡ true
@@ -202,7 +199,7 @@ module _ (v x items work out : List ℕ) (words : List (List ℕ)) (a : StockAns
   left-long : length left ≡ length out
   left-long =
       ap length left-is ∙ length-append (flatMap answer words) (drop (8 * length words) out)
-      ∙ omega (arith, length-pieces answer eight words, length-drop (8 * length words) out, a .room)
+      ∙ omega (arith, answers-long, length-drop (8 * length words) out, a .room)
 
   module _ (i : ℕ) (h : i < length words) where
     abbrev word : List ℕ
@@ -253,8 +250,7 @@ module _ (v x items work out : List ℕ) (words : List (List ℕ)) (a : StockAns
     found = found;
     missing = missing;
     behind = ap (drop (8 * length words)) left-is
-        ∙ drop-at (flatMap answer words) (drop (8 * length words) out) (8 * length words)
-        (length-pieces answer eight words);
+        ∙ drop-at (flatMap answer words) (drop (8 * length words) out) (8 * length words) answers-long;
     long = left-long;
   }
 

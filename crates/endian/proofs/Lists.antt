@@ -5,8 +5,8 @@ use mathlib.Core.Logic.{_⊎_, inl, inr, ⊎-elim}
 use mathlib.Core.Bool.{Bool, true, false, cond, false≢true}
 use mathlib.Core.List.{List, [], _∷_, _++_, map, flatMap, append-assoc, List·Memᴰ, List·Memᴰ·head, List·Memᴰ·tail, Memᴰ·cast, Memᴰ·append-left, Memᴰ·append-right, List·Memᴰ·append-cases, List·Memᴰ·cases-cons, List·Memᴰ·not-nil}
 use mathlib.Core.Option.{none, some}
-use Prim.Native.Nat.{ℕ, zero, suc, _+_, _≤_, _<_}
-use native.Mathlib.Nat.{add-assoc, zero-add, add-zero, suc-add, add-suc}
+use Prim.Native.Nat.{ℕ, zero, suc, _+_, _*_, _≤_, _<_}
+use native.Mathlib.Nat.{add-assoc, zero-add, add-zero, suc-add, add-suc, suc-mul}
 use native.Mathlib.Decide.{ℕ-discrete}
 use native.Mathlib.Omega.{arith}
 use lib.ListN.{length, getD, take, drop, replicate, length-append, take-append-drop}
@@ -133,6 +133,15 @@ module _ {A B : Type 0} where
   unfolding flatMap sum
   length-flatMap f [] = refl
   length-flatMap f (a ∷ l) = length-append (f a) (flatMap f l) ∙ rw (length-flatMap f l)
+
+  -- of pieces of one length
+  pub length-pieces : (f : A → List B) (n : ℕ) → ((a : A) → length (f a) ≡ n) → (l : List A)
+      → length (flatMap f l) ≡ length l * n
+  unfolding flatMap
+  length-pieces f n each [] = omega arith
+  length-pieces f n each (a ∷ l) =
+      length-append (f a) (flatMap f l)
+      ∙ rw (each a, length-pieces f n each l) (omega (arith, suc-mul (length l) n))
 
 -- over equal functions, and over a list that is made from another
 pub flatMap-cong : {A B : Type 0} (f g : A → List B) (l : List A) → ((a : A) → List·Memᴰ a l → f a ≡ g a) → flatMap f l ≡ flatMap g l

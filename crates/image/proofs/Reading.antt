@@ -11,7 +11,7 @@ use lib.ListN.{length, getD, length-append, length-map, List·getD-append}
 use lib.Seq.{getD-append-add}
 use Rattle.endian.specs.Lists.{from}
 use Rattle.endian.specs.Bytes.{u8, u16, u16s}
-use Rattle.endian.proofs.Lists.{flatMap-append, from-add}
+use Rattle.endian.proofs.Lists.{flatMap-append, from-add, length-pieces}
 use Rattle.lexicon.specs.Lexicon.{nodeCount, sinkOf, nodeLetter, arcsAt, arcCount, successors, reserveAt}
 use Rattle.graph.specs.Graph.{Graph, sink}
 use Rattle.endian.specs.Bytes.{u16Bytes}
@@ -40,9 +40,7 @@ unfolding u16Bytes
 length-u16 n = refl
 
 pub length-u16s : (l : List ℕ) → length (flatMap u16Bytes l) ≡ 2 * length l
-unfolding flatMap
-length-u16s [] = refl
-length-u16s (s ∷ l) = omega (arith, length-append (u16Bytes s) (flatMap u16Bytes l), length-u16 s, length-u16s l)
+length-u16s l = omega (arith, length-pieces u16Bytes 2 length-u16 l)
 
 pub length-list : (l : List ℕ) → length (listBytes l) ≡ 2 + 2 * length l
 unfolding listBytes

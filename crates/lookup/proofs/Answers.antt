@@ -1,17 +1,18 @@
 -- What a search answers is what word to code answers where checking passes: the first way in code order that spells the
 -- word is the first full path that does, and where there is none the bytes spell no word. Assumes nothing.
-use Prim.Native.Nat.{ℕ, zero, suc, _≤_, _<_}
+use Prim.Native.Nat.{ℕ, _+_, _*_, _≤_, _<_}
 use mathlib.Core.Path.{_≡_, refl, sym, ap, _∙_}
 use mathlib.Core.Bool.{Bool, true, false}
 use mathlib.Core.List.{List, [], _∷_}
 use mathlib.Core.Option.{Option, none, some}
 use native.Mathlib.Omega.{arith}
 use native.Mathlib.Decide.{decLt}
-use lib.ListN.{length, getD, replicate, length-replicate}
+use lib.ListN.{length, replicate, length-replicate}
 use borrow.Author.Tests.{lt-ltb, le-ltb}
 use Rattle.endian.specs.Bytes.{Bytes, u16}
 use Rattle.endian.specs.Lists.{isNone}
 use Rattle.endian.specs.Rows.{numberAt}
+use Rattle.endian.proofs.Lists.{getD-copies}
 use Rattle.call.specs.declared.Refusal.{Refusal}
 use Rattle.call.specs.declared.Refusal.the-variants.{NoWord}
 use Rattle.call.specs.Table.{Answer, value, refused, on, unless}
@@ -35,15 +36,9 @@ use Rattle.lookup.proofs.Ways.{WayAfter, Printing, found-way, no-way, a
 
 -- ---- before a search no pair is marked
 
-zero-at : (n k : ℕ) → getD {A = ℕ} (replicate n 0) k 0 ≡ 0
-zero-at zero zero = refl
-zero-at zero (suc k) = refl
-zero-at (suc n) zero = refl
-zero-at (suc n) (suc k) = zero-at n k
-
 zero-number : (n p : ℕ) → numberAt (replicate n 0) p ≡ 0
 unfolding numberAt u16
-zero-number n p = rw (zero-at n, zero-at n) refl
+zero-number n p = rw (getD-copies {A = ℕ} n (2 * p) 0, getD-copies {A = ℕ} n (2 * p + 1) 0) refl
 
 module _ {m : List ℕ} (e : m ≡ replicate 26534 0) where
   pub unmarked : (p : ℕ) → numberAt m p ≡ 0

@@ -77,23 +77,26 @@ unfoldable pub counted : List ℕ → ℕ → ℕ
 counted m zero = 0
 counted m (suc k) = cond (eqb (numberAt m k) 0) 0 1 + counted m k
 
-counted-same : {m n : List ℕ} {p : ℕ} → NumberPut m p 0 n → (k : ℕ) → k ≤ p → counted n k ≡ counted m k
-unfolding counted
-counted-same put zero h = refl
-counted-same put (suc k) h = rw (put .others k (λ e. omega arith), counted-same put k (omega arith)) refl
+-- where p is marked in one row and not in the other, and the others are alike
+module _ (m n : List ℕ) (p : ℕ) (others : (q : ℕ) → ¬ (q ≡ p) → numberAt n q ≡ numberAt m q)
+    (free : numberAt m p ≡ 0) (marked : ¬ (numberAt n p ≡ 0)) where
+  counted-same : (k : ℕ) → k ≤ p → counted n k ≡ counted m k
+  unfolding counted
+  counted-same zero h = refl
+  counted-same (suc k) h = rw (others k (λ e. omega arith), counted-same k (omega arith)) refl
+
+  pub counted-more : (k : ℕ) → p < k → counted n k ≡ suc (counted m k)
+  unfolding counted
+  counted-more zero h = absurd (omega arith)
+  counted-more (suc k) h = elim (ℕ-discrete k p) [
+    | yes e ↦ rw (e, free, ne-eqb (numberAt n p) 0 marked, counted-same p (omega arith)) (omega arith)
+    | no d ↦ rw (others k d, counted-more k (omega arith)) (omega arith)
+  ]
 
 pub counted-falls : {m n : List ℕ} {p : ℕ} → NumberPut m p 0 n → 1 ≤ numberAt m p → (k : ℕ) → p < k
     → counted n k < counted m k
-unfolding counted
-counted-falls put marked zero h = absurd (omega arith)
-counted-falls {m} {n} {p} put marked (suc k) h = elim (ℕ-discrete p k) [
-  | yes e ↦ rw (
-    ap (numberAt n) (sym e) ∙ put .here,
-    counted-same put k (omega arith),
-    ne-eqb (numberAt m k) 0 (λ z. omega (arith, ap (numberAt m) e)),
-  ) (omega arith)
-  | no d ↦ rw (put .others k (λ e. d (sym e))) (omega (arith, counted-falls put marked k (omega arith)))
-]
+counted-falls {m} {n} {p} put marked k h =
+    omega (arith, counted-more n m p (λ q d. sym (put .others q d)) (put .here) (λ z. omega arith) k h)
 
 module _ {m : List ℕ} {p : ℕ} (c : Chained m p) where
   pub first-off : ¬ (p ≡ 13267) → (1 ≤ p) × (p ≤ 13266) × (1 ≤ numberAt m p)

@@ -9,11 +9,9 @@ use mathlib.Core.Option.{none, some}
 use native.Mathlib.Nat.{zero-add, add-assoc}
 use native.Mathlib.Omega.{arith}
 use native.Mathlib.Numerals.{add-one}
-use native.Mathlib.Decide.{ℕ-discrete}
 use lib.ListN.{length, getD, drop, set}
 use lib.Seq.{getD-set-same, getD-set-other}
 use lib.Dec.{eqb}
-use borrow.Author.Tests.{ne-eqb}
 use Rattle.endian.specs.Bytes.{u16}
 use Rattle.endian.specs.Rows.{numberAt}
 use Rattle.lexicon.specs.Lexicon.{nodeCount, arcsAt}
@@ -24,7 +22,7 @@ use Rattle.checking.proofs.Increments.{counts-below}
 use Rattle.lookup.specs.Seeking.{codeAfter}
 use Rattle.lookup.specs.Marks.{pairOf, Marks, PairMarked}
 use Rattle.lookup.specs.Trying.{Tried, Onward, LedOn, nowhere, ended, onward}
-use Rattle.lookup.proofs.Chains.{counted}
+use Rattle.lookup.proofs.Chains.{counted, counted-more}
 use Rattle.lookup.proofs.Tries.{trial-of, tried-of, try-start, try-found, try-next, next, passed-few}
 use Rattle.lookup.proofs.Tries.{marks-more}
 
@@ -126,20 +124,6 @@ counted-most m (suc k) = go (eqb (numberAt m k) 0) (counted-most m k)
     go : (b : Bool) → counted m k ≤ k → cond b 0 1 + counted m k ≤ suc k
     go true h = omega arith
     go false h = omega arith
-
-module _ {m n : List ℕ} {p : ℕ} (put : PairMarked m p n) (free : numberAt m p ≡ 0) where
-  same-count : (k : ℕ) → k ≤ p → counted n k ≡ counted m k
-  unfolding counted
-  same-count zero h = refl
-  same-count (suc k) h = rw (put .others k (λ e. omega arith), same-count k (omega arith)) refl
-
-  pub counted-more : (k : ℕ) → p < k → counted n k ≡ suc (counted m k)
-  unfolding counted
-  counted-more zero h = absurd (omega arith)
-  counted-more (suc k) h = elim (ℕ-discrete k p) [
-    | yes e ↦ rw (e, free, ne-eqb (numberAt n p) 0 (put .here), same-count p (omega arith)) (omega arith)
-    | no d ↦ rw (put .others k d, counted-more k (omega arith)) (omega arith)
-  ]
 
 -- ---- the search, from letter to letter
 
@@ -269,8 +253,8 @@ less-down m i at at′ h l = omega arith
 pub less-up : {m n : List ℕ} (i at at′ : ℕ) {p : ℕ} → PairMarked m p n → p ≤ 13266 → numberAt m p ≡ 0
     → stepsLeft n (i - 1) at′ < stepsLeft m i at
 unfolding stepsLeft
-less-up {m} {n} i at at′ put high free =
-    let more = counted-more put free 13267 (omega arith) in
+less-up {m} {n} i at at′ {p} put high free =
+    let more = counted-more m n p (put .others) free (put .here) 13267 (omega arith) in
     let one : 13267 - counted m 13267 ≡ suc (13267 - counted n 13267) = omega (arith, more, counted-most n 13267) in
     rw one (within (13267 - counted n 13267) (33 - (i - 1)) (33 - i) (10000 - at′) (10000 - at)
     (most 33 (i - 1)) (most 10000 at′))

@@ -10,7 +10,7 @@ use lib.Seq.{sets, sets-eq, length-sets, drop-cons, drop-append-add, take-append
 use lib.Dec.{ltb}
 use borrow.Author.Tests.{lt-ltb, le-ltb, ltb-false}
 use Rattle.endian.proofs.Booleans.{or-none}
-use Rattle.endian.proofs.Lists.{flatMap-append}
+use Rattle.endian.proofs.Lists.{flatMap-append, length-pieces}
 use Rattle.call.specs.declared.Refusal.the-variants.{Items}
 use Rattle.call.specs.Table.{value, refused, on, unless}
 use Rattle.graph.specs.Graph.{Graph}
@@ -130,11 +130,10 @@ module _ (prints : List ℕ) (g : Graph) where
   sought-one word = append-nil (answerBytes (soughtAnswer prints g word))
 
   pub length-sought : (words : List (List ℕ)) → length (soughtBytes prints g words) ≡ 8 * length words
-  unfolding soughtBytes flatMap
-  length-sought [] = refl
-  length-sought (word ∷ words) =
-      length-append (answerBytes (soughtAnswer prints g word)) (soughtBytes prints g words)
-      ∙ omega (arith, length-answer (soughtAnswer prints g word), length-sought words)
+  unfolding soughtBytes
+  length-sought words =
+      let answer : List ℕ → List ℕ = λ word. answerBytes (soughtAnswer prints g word) in
+      omega (arith, length-pieces answer 8 (λ word. length-answer (soughtAnswer prints g word)) words)
 
 -- the items before an offset are answered
 pub record Answering (prints : List ℕ) (g : Graph) (items out₀ out : List ℕ) (at answered : ℕ) : Type 0 where

@@ -6,12 +6,13 @@ use native.Mathlib.Omega.{arith}
 use lib.ListN.{length, drop}
 use Rattle.endian.specs.Bytes.{u32Bytes}
 use Rattle.call.specs.Table.{numbers}
+use Rattle.endian.proofs.Lists.{length-pieces}
 use Rattle.packing.specs.Width.{givenRows}
 use Rattle.packing.specs.Packing.{packRows, unpackRows}
 use Rattle.packing.specs.Theorems.{WidthIsLeast, PackingIsUndone, CodesComeBack, BytesComeBack}
 use Rattle.packing.specs.Offsets.{overlay}
 use Rattle.packing.proofs.Laws.Width.{width-enough, width-least}
-use Rattle.packing.proofs.Laws.Stretches.{below-members, length-flat}
+use Rattle.packing.proofs.Laws.Stretches.{below-members}
 use Rattle.packing.proofs.Laws.Packing.{unpack-pack, pack-unpack, code-begins, code-begins-in, length-packed, packed-padded}
 use Rattle.packing.proofs.Laws.Calls.{unpack-packed, unpack-packed-out, pack-again}
 
@@ -37,7 +38,7 @@ from-start xs l m e = let z : 0 + length xs ≡ m = omega arith in rw z
 pub codes-come-back : CodesComeBack
 unfolding u32Bytes
 codes-come-back W k codes out room answer enough =
-    let four = length-flat u32Bytes 4 (λ v. refl) codes in (
+    let four = length-pieces u32Bytes 4 (λ v. refl) codes in (
       unpack-packed W codes out k answer room enough,
       unpack-packed-out W codes out k answer room enough
           ∙ from-start (flatMap u32Bytes codes) room (4 * length codes) (omega arith),

@@ -11,8 +11,9 @@ use lib.Arith.{digits-lt}
 use lib.Pow.{mod-pow-add, shr-shr, field, mod-mod-pow, high, low}
 use lib.ListN.{length, take, drop, getD, replicate, length-append, length-take, length-drop, replicate-append-replicate, take-append-drop, drop-of-length-le}
 use lib.Seq.{take-append-add, take-at, drop-at, take-append-le}
-use Rattle.endian.proofs.Lists.{flatMap-append}
-use Rattle.packing.proofs.Laws.Stretches.{length-flat, flat-take, flat-drop, flat-at, Below, below-append, below-take, below-drop, below-replicate, below-flat}
+use Rattle.endian.proofs.Lists.{flatMap-append, length-pieces}
+use Rattle.packing.proofs.Laws.Stretches.{flat-take, flat-drop, flat-at, Below, below-append, below-take}
+use Rattle.packing.proofs.Laws.Stretches.{below-drop, below-replicate, below-flat}
 use Rattle.packing.specs.Packing.{bits, numberAfter, numberOf, toBytes, toBits}
 
 -- ---- bits
@@ -132,7 +133,7 @@ bits-number (d ∷ ds) u =
 
 pub length-toBits : (bytes : List ℕ) → length (toBits bytes) ≡ length bytes * 8
 unfolding toBits
-length-toBits bytes = length-flat (bits 8) 8 (length-bits 8) bytes
+length-toBits bytes = length-pieces (bits 8) 8 (length-bits 8) bytes
 
 pub below-toBits : (bytes : List ℕ) → Below 2 (toBits bytes)
 unfolding toBits

@@ -17,13 +17,14 @@ use Rattle.endian.proofs.Ranges.{bounds}
 use Rattle.call.specs.declared.Refusal.{Refusal}
 use Rattle.call.specs.Table.{Answer, value, refused, unless}
 use Rattle.call.proofs.Table.{same-value}
+use Rattle.endian.proofs.Lists.{length-pieces}
 use Rattle.packing.specs.Width.{width, givenRows, badWordCount}
 use Rattle.call.specs.Buffers.{written}
 use Rattle.call.specs.Limits.{badCount, badCode}
 use Rattle.packing.specs.Packing.{packedSize, packed, unpacked, badPacked, paddedWithZeros, packAnswer, packOut, unpackAnswer, unpackOut, packRows, unpackRows}
 use Rattle.packing.specs.Offsets.{overlay}
 use Rattle.packing.proofs.Laws.Width.{width-enough, width-limit}
-use Rattle.packing.proofs.Laws.Stretches.{Below, length-flat, flat-at}
+use Rattle.packing.proofs.Laws.Stretches.{Below, flat-at}
 use Rattle.packing.proofs.Laws.Packing.{length-packed, packed-padded, unpack-pack, pack-unpack, length-unpacked, unpacked-at}
 use Rattle.packing.proofs.Laws.Chunks.{read-below}
 
@@ -239,7 +240,7 @@ u32-out codes out i h small =
     let all = flatMap u32Bytes codes in
     let rest = drop (0 + length all) out in
     let next : suc i ≤ length codes = h in
-    let long : length all ≡ length codes * 4 = length-flat u32Bytes 4 (λ v. refl) codes in
+    let long : length all ≡ length codes * 4 = length-pieces u32Bytes 4 (λ v. refl) codes in
     let four : take 4 (drop (i * 4) (all ++ rest)) ≡ u32Bytes (getD codes i 0) =
     ap (take 4) (drop-append-le (i * 4) all rest (omega arith))
     ∙ take-append-le 4 (drop (i * 4) all) rest (rw length-drop (omega arith))

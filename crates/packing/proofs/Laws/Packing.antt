@@ -12,9 +12,11 @@ use lib.Dec.{eqb, eqb·suc-zero}
 use lib.Pow.{pow-pos}
 use borrow.Author.Tests.{ne-eqb}
 use Rattle.endian.specs.Lists.{all}
+use Rattle.endian.proofs.Lists.{length-pieces}
 use Rattle.packing.specs.Packing.{bits, numberOf, toBits, packedSize, packed, unpackedFrom, unpacked, paddedWithZeros}
 use Rattle.packing.specs.Offsets.{overlay, RightSize, CodeInBytes}
-use Rattle.packing.proofs.Laws.Stretches.{below-append, drop-zeros, Below, below-take, below-drop, below-flat, length-flat, flat-at}
+use Rattle.packing.proofs.Laws.Stretches.{below-append, drop-zeros, Below, below-take, below-drop, below-flat}
+use Rattle.packing.proofs.Laws.Stretches.{flat-at}
 use Rattle.packing.proofs.Laws.Bits.{toBits-drop, number-of-none, number-of-cons, toBits-append, toBits-zeros, toBits-injective, length-bits, below-bits, number-bits, bits-number, toBits-toBytes, length-toBytes, length-toBits, below-toBits, below-toBytes}
 
 -- ---- the bits of packed codes
@@ -29,7 +31,7 @@ unpack-bits b (c ∷ cs) rest u =
     (rw (number-bits b c (u .0), unpack-bits b cs rest (u .1))))
 
 pub length-codes : (b : ℕ) (codes : List ℕ) → length (flatMap (bits b) codes) ≡ length codes * b
-length-codes b codes = length-flat (bits b) b (length-bits b) codes
+length-codes b codes = length-pieces (bits b) b (length-bits b) codes
 
 pub below-codes : (b : ℕ) (codes : List ℕ) → Below 2 (flatMap (bits b) codes)
 below-codes b codes = below-flat 2 (bits b) codes (below-bits b)

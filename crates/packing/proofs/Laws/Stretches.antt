@@ -8,7 +8,7 @@ use native.Mathlib.Numerals.{add-one}
 use native.Mathlib.Omega.{arith}
 use lib.ListN.{length, take, drop, getD, replicate, length-append, length-take, length-drop, take-append-drop}
 use lib.Seq.{sets, sets-eq, take-suc, take-nil, drop-nil, length-take-le, take-at, take-take, drop-drop, take-add, drop-append-le, take-append-add, drop-append-add}
-use Rattle.endian.proofs.Lists.{flatMap-append}
+use Rattle.endian.proofs.Lists.{flatMap-append, length-pieces}
 use Rattle.packing.specs.Offsets.{overlay}
 
 -- ---- lists of numbers below k
@@ -117,11 +117,6 @@ module _ (f : ℕ → List ℕ) (b : ℕ) (each : (x : ℕ) → length (f x) ≡
   next : (i x : ℕ) → suc i * b ≡ length (f x) + i * b
   next i x = omega (arith, suc-mul i b, each x)
 
-  pub length-flat : (xs : List ℕ) → length (flatMap f xs) ≡ length xs * b
-  unfolding flatMap
-  length-flat [] = omega arith
-  length-flat (x ∷ xs) = length-append (f x) (flatMap f xs) ∙ rw (each x, length-flat xs) (omega (arith, suc-mul (length xs) b))
-
   pub flat-drop : (i : ℕ) (xs : List ℕ) → flatMap f (drop i xs) ≡ drop (i * b) (flatMap f xs)
   unfolding flatMap
   flat-drop zero xs = rw zero-mul
@@ -148,7 +143,8 @@ module _ (f : ℕ → List ℕ) (b : ℕ) (each : (x : ℕ) → length (f x) ≡
       let done = flatMap f (take i xs) in
       let next = f (getD xs i 0) in
       let n : i * b ≡ 0 + length done =
-      sym (zero-add (length done) ∙ length-flat (take i xs) ∙ ap (λ (k : ℕ). k * b) (length-take-le i xs (omega arith))) in
+      sym (zero-add (length done) ∙ length-pieces f b each (take i xs)
+      ∙ ap (λ (k : ℕ). k * b) (length-take-le i xs (omega arith))) in
       let e : flatMap f (take (i + 1) xs) ≡ done ++ next =
       ap (λ (k : ℕ). flatMap f (take k xs)) (add-one i) ∙ ap (flatMap f) (take-suc xs i 0 h)
       ∙ flatMap-append f (take i xs) (getD xs i 0 ∷ []) ∙ ap (λ (t : List ℕ). done ++ t) (append-nil next) in
