@@ -6,7 +6,7 @@ ghost use Rattle.registering.specs.Register.{Words, Shared, Group as WordGroup, 
 
 // The words with the first depth letters of the word in slot first, which is the first of them, the letters of the
 // longest continuation, and the mark of the continuations.
-#[derive(Drop)]
+#[derive(Clone, Copy)]
 pub(crate) struct Group {
     pub first: usize,
     pub many: usize,

@@ -11,7 +11,7 @@ pub const BIAS: u32 = 134217728;
 // The score of the voice model that means impossible.
 pub const STORED_IMPOSSIBLE: i16 = -32768;
 
-#[derive(Drop)]
+#[derive(Clone, Copy)]
 pub struct Score(pub u32);
 
 impl Score {

@@ -13,7 +13,7 @@ pub const UNIT: u64 = 4294967296;
 // off again; a move that adds it and takes it off scores 0.
 pub const LIFT: u64 = 576460752303423488;
 
-#[derive(Drop)]
+#[derive(Clone, Copy)]
 pub struct Token(pub u64);
 
 impl Token {

@@ -11,7 +11,7 @@ use crate::turns::{enter_nodes, take_turn};
 use endian::u16_at;
 
 // The numbers of a call: hits wanted, nodes, the offset of the section Symbols, and letters in use.
-#[derive(Drop)]
+#[derive(Clone, Copy)]
 pub(crate) struct Numbers {
     pub n: usize,
     pub nodes: usize,
