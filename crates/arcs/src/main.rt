@@ -1,6 +1,8 @@
 // The program arcs: reads a lexicon image from standard input, and writes to standard output what crates/report says.
 //
 // Input is read up to 65,535 bytes, as hits reads an image; the longest lexicon has 9,206.
+#![tactic(auto)]
+
 use report::arcs_page;
 
 // Room for an image.

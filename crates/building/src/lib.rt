@@ -1,5 +1,7 @@
 // The nodes of a table of words in dictionary order, their numbers and their arcs, and the call that writes the
 // canonical image that they make: definitions in canonical/specs.
+#![tactic(auto)]
+
 ghost use Rattle.std.specs.Prelude.{◌≡◌, ◌≤◌, length, take, replicate};
 ghost use Rattle.call.specs.Table.{answer_of};
 ghost use Rattle.call.specs.Buffers.{zeroed};

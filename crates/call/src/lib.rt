@@ -1,4 +1,6 @@
 // What every call has: the refusals, the answer, the test of a limit, and the work space.
+#![tactic(auto)]
+
 ghost use Rattle.std.specs.Prelude.{◌≡◌, length, replicate};
 ghost use Rattle.endian.specs.Lists.{within};
 ghost use Rattle.call.specs.Table.{number};

@@ -9,7 +9,7 @@ use lib.Dec.{eqb, ltb, leb}
 use borrow.Author.Tests.{ltb-true, leb-true}
 use Rattle.endian.specs.Lists.{select}
 use Rattle.endian.proofs.Booleans.{and-out, cond_else}
-use Rattle.endian.proofs.Lists.{flat_map_cong, map_cong}
+use Rattle.endian.proofs.Lists.{flat_map_cong, map_cong, select_out}
 use Rattle.graph.specs.Graph.{Graph, sink, ways, full_paths, is_node, path_letters}
 use Rattle.graph.proofs.Sound.{Sound, below-sink}
 use Rattle.graph.specs.Words.{letter_words}
@@ -20,22 +20,21 @@ module _ {g h : Graph} (a : Agree g h) where
   unfolding sink
   same-sink = ap suc a.nodes
 
+  -- the same vertices are nodes
+  same-nodes : is_node h ≡ is_node g
+  unfolding is_node
+  same-nodes = ap (λ (m : ℕ). λ (u : ℕ). ltb 0 u && leb u m) a.nodes
+
+  node-limits : (u : ℕ) → is_node g u ≡ true → (0 < u) × (u ≤ g.nodes)
+  unfolding is_node
+  node-limits u e = let b = and-out (ltb 0 u) (leb u g.nodes) e in (ltb-true 0 u b.0, leb-true u g.nodes b.1)
+
   pub same-letters : (p : List ℕ) → path_letters h p ≡ path_letters g p
-  unfolding path_letters select is_node
-  same-letters [] = refl
-  same-letters (n ∷ p) = rw a.nodes (go (ltb 0 n && leb n g.nodes) refl (rw a.nodes at (same-letters p)))
-    where
-      go : (t : Bool) → ltb 0 n && leb n g.nodes ≡ t
-          → map h.letter (select (λ u. ltb 0 u && leb u g.nodes) p)
-          ≡ map g.letter (select (λ u. ltb 0 u && leb u g.nodes) p)
-          → map h.letter
-          (cond t (n ∷ select (λ u. ltb 0 u && leb u g.nodes) p) (select (λ u. ltb 0 u && leb u g.nodes) p))
-          ≡ map g.letter
-          (cond t (n ∷ select (λ u. ltb 0 u && leb u g.nodes) p) (select (λ u. ltb 0 u && leb u g.nodes) p))
-      go true e ih =
-          let b = and-out (ltb 0 n) (leb n g.nodes) e in
-          rw (a.letters (ltb-true 0 n b.0) (leb-true n g.nodes b.1), ih)
-      go false e ih = ih
+  unfolding path_letters
+  same-letters p =
+      ap (λ (q : ℕ → Bool). map h.letter (select q p)) same-nodes
+      ∙ map_cong h.letter g.letter (select (is_node g) p)
+      (λ u m. let b = node-limits u (select_out (is_node g) p m).1 in a.letters b.0 b.1)
 
   module _ (ok : Sound g) where
     same-ways : (d u : ℕ) → u ≤ sink g → ways h d u ≡ ways g d u

@@ -132,7 +132,7 @@ fresh-new {q} y (w ∷ ws) (next r (next o p)) m = ⊎_elim
         absurd (true≢false
         (sym (between q y w t.0 (r w (here refl)) (o t.0 t.1) e (prefix_begins t.0 t.2)) ∙ n))
 
-fresh_in : (a : ℕ) (q y : List ℕ) {w : List ℕ} {ws : List (List ℕ)} → In w ws → In (a ∷ q) (prefixes_of w)
+fresh_in : (a : ℕ) (q : List ℕ) {w : List ℕ} (y : List ℕ) {ws : List (List ℕ)} → In w ws → In (a ∷ q) (prefixes_of w)
     → begins (a ∷ q) y ≡ false → In (a ∷ q) (fresh_from y ws)
 unfolding fresh_from
 fresh_in a q y (here {x = v} {xs = ws} e) m n =

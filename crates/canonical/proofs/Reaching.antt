@@ -110,6 +110,7 @@ module _ {L : ℕ} {ws : List (List ℕ)} (ok : WordList L ws) where
   -- a full path through a node begins at the root
   from_start : (q r : List ℕ) (i : ℕ) → FullPath g (q ++ suc i ∷ r)
       → (l : List ℕ) × (q ≡ 0 ∷ l) × ArcPath g 0 (l ++ suc i ∷ r)
+  from_start [] r i w = elim w [ ]
   from_start (u ∷ l) r i (from_root w) = (l, refl, w)
 
   reached_by : {p : List ℕ} {i : ℕ} → i < length (nodes ws) → Reaches g p (suc i) → Through 0 (suc i) p

@@ -34,6 +34,7 @@ module _ {A : Type 0} {R : A → A → Type 0} where
 
   -- what stands behind an element
   pub pairs-behind : (l : List A) (s : A) (m : List A) → Pairs R (l ++ s ∷ m) → (a : A) → In a l → R a s
+  pairs-behind [] s m p a i = elim i [ ]
   pairs-behind (b ∷ l) s m (next r p) a (here e) = rw e (r s (Memᴰ.append_right l (here refl)))
   pairs-behind (b ∷ l) s m (next r p) a (there i) = pairs-behind l s m p a i
 

@@ -1,5 +1,7 @@
 // Checking: the conditions 6 to 10 of document 01's refusal table, and the calls that test 1 to 10: `open`, which
 // leaves a table for the work that follows, and `check`.
+#![tactic(auto)]
+
 ghost use Rattle.std.specs.Prelude.{◌≡◌};
 ghost use Rattle.call.specs.Table.{answer_of};
 ghost use Rattle.voice.specs.Fields.{well_formed};

@@ -1,4 +1,6 @@
 // Code to word, listing, and gathering: definitions in specs/. Word to code is the crate lookup's.
+#![tactic(auto)]
+
 ghost use Rattle.std.specs.Prelude.{◌≡◌};
 ghost use Rattle.call.specs.Table.{answer_of};
 ghost use Rattle.codes.specs.Lookup.{list_answer, list_out, list_work};

@@ -55,7 +55,7 @@ unfolding highest
 highest-member [] e = absurd (some≢none e refl)
 highest-member (b ∷ l) e = elim (higher-one b (highest l) e) [ inl f ↦ here f | inr f ↦ there (highest-member l f) ]
 
-highest-bound : {l : List ℤ} {a : ℤ} → Memᴰ a l → UpTo (highest l) a
+highest-bound : {a : ℤ} {l : List ℤ} → Memᴰ a l → UpTo (highest l) a
 unfolding highest
 highest-bound (here {x} {xs} e) = rw e (higher-left x (highest xs))
 highest-bound (there {x} {xs} m) = higher-right x (highest xs) (highest-bound m)

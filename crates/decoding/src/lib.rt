@@ -1,4 +1,6 @@
 // Decoding: the call that lists the hits. The search finds them as tokens, and each is written as a hit.
+#![tactic(auto)]
+
 ghost use Rattle.std.specs.Prelude.{◌≡◌};
 ghost use Rattle.call.specs.Table.{answer_of};
 ghost use Rattle.decoder.specs.Decoding.{decode_answer, decode_out, decode_work};

@@ -114,6 +114,7 @@ module _ {A B : Type 0} where
 
   pub of_flat_map : (f : A → List B) {b : B} (l : List A) → Memᴰ b (flat_map f l) → (a : A) × Memᴰ a l × Memᴰ b (f a)
   unfolding flat_map
+  of_flat_map f {b = b} [] m = elim m [ ]
   of_flat_map f {b} (c ∷ l) m = go (mathlib.Core.List.Memᴰ.append_cases (f c) m) (of_flat_map f l)
     where
       go : Memᴰ b (f c) ⊎ Memᴰ b (flat_map f l) → (Memᴰ b (flat_map f l) → (a : A) × Memᴰ a l × Memᴰ b (f a)) → (a : A) × Memᴰ a (c ∷ l) × Memᴰ b (f a)

@@ -1,4 +1,6 @@
 // Numbers stored in bytes: little-endian, signed ones in two's complement. Each function takes any arguments.
+#![tactic(auto)]
+
 ghost use Rattle.std.specs.Prelude.{◌≡◌, [], ◌∷◌};
 ghost use Rattle.endian.specs.Bytes.{u16, u32, i16, i32, u32_bytes, i32_bytes};
 

@@ -45,6 +45,7 @@ module _ (x : List ℕ) (u : ℕ) where
     arcs_from : (at : ℕ) (earlier l : List ℕ) → AllGood len (successor_fields x u at earlier l) → {s : ℕ}
         → Memᴰ s l → GoodArc x u s
     unfolding successor_fields
+    arcs_from at earlier [] g {s = s} m = elim m [ ]
     arcs_from at earlier (y ∷ l) g (Memᴰ.head e) = rw e (allowed-says earlier y (g _ (Memᴰ.head refl)).in_range).0
     arcs_from at earlier (y ∷ l) g (Memᴰ.tail m) = arcs_from (at + 2) (y ∷ earlier) l (λ f i. g f (Memᴰ.tail i)) m
 

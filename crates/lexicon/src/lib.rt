@@ -1,4 +1,6 @@
 // The lexicon image: the verdict on its fields, and where the successors of a vertex stand.
+#![tactic(auto)]
+
 ghost use Rattle.std.specs.Prelude.{◌≡◌, ◌+◌, ◌*◌, ◌≤◌, min, length};
 ghost use Rattle.endian.specs.Bytes.{u16};
 ghost use Rattle.voice.specs.Fields.{verdict_of};

@@ -79,6 +79,7 @@ module _ (code : ℕ → Option ℕ) (count : ℕ → ℕ) where
   pub first_none : (l : List ℕ) (passed : ℕ) → first_code code count l passed ≡ none → {t : ℕ} → Memᴰ t l
       → code t ≡ none
   unfolding first_code code_or
+  first_none [] passed e {t = t} m = elim m [ ]
   first_none (s ∷ l) passed e {t} m = go (code s) refl m (λ h. first_none l (passed + count s) h)
     where
       go : (o : Option ℕ) → code s ≡ o → Memᴰ t (s ∷ l)

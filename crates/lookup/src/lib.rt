@@ -1,4 +1,6 @@
 // Word to code, of one word and of a stock list in one call: definitions in codes/specs.
+#![tactic(auto)]
+
 ghost use Rattle.std.specs.Prelude.{◌≡◌};
 ghost use Rattle.call.specs.Table.{answer_of};
 ghost use Rattle.codes.specs.Lookup.{word_to_code_answer, word_to_code_work};

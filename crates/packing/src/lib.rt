@@ -1,4 +1,6 @@
 // Packed codes: their width, packing and unpacking (document 01, Lexicon; rows 9, 12 and 14 to 16 of its table).
+#![tactic(auto)]
+
 ghost use Rattle.std.specs.Prelude.{◌≡◌, ℕ, ◌+◌, ◌*◌, ◌≤◌, length, take};
 ghost use mathlib.Core.List.{flat_map};
 ghost use Rattle.endian.specs.Lists.{any};

@@ -82,7 +82,7 @@ unfolding ranked
 ranked-out [] m = m
 ranked-out (x ∷ l) m = ⊎_elim here (λ k. there (ranked-out l k)) (cases (insert-out x (ranked l) m))
 
-pub ranked_in : {l : List Hit} {h : Hit} → Memᴰ h l → Memᴰ h (ranked l)
+pub ranked_in : {h : Hit} {l : List Hit} → Memᴰ h l → Memᴰ h (ranked l)
 unfolding ranked
 ranked_in (here {x} {xs} e) = insert_in x (ranked xs) (here e)
 ranked_in (there {x} {xs} m) = insert_in x (ranked xs) (there (ranked_in m))

@@ -1,4 +1,6 @@
 // Hits: the mean of a score. Their order and their bytes are defined in specs/.
+#![tactic(auto)]
+
 ghost use Rattle.std.specs.Prelude.{◌≡◌, ◌≤◌, nat_abs};
 ghost use Rattle.ranking.specs.Mean.{with_sign, mean_of, mean_answer};
 

@@ -53,7 +53,7 @@ i32-range b at = go (ltb (u32 b at) (2 ^ 31)) refl
 
 -- so it is what its own bits say
 pub i32-again : (z : ℤ) (b : List ℕ) (at : ℕ) → z ≡ i32 b at → to_z w32 (of_z w32 z) ≡ i32 b at
-i32-again z b at e = rw e (to_z-of_z (record { sfits = i32-range b at }))
+i32-again z b at e = rw e (to_z-of_z {w = w32} (record { sfits = i32-range b at }))
 
 -- ---- the hits, one by one
 
@@ -86,7 +86,7 @@ lines_more line b i =
 -- ---- how long a line is
 
 pub mean-again : (z score : ℤ) (T : ℕ) → SFits w32 score → z ≡ mean score T → to_z w32 (of_z w32 z) ≡ mean score T
-mean-again z score T f e = rw e (to_z-of_z (record { sfits = omega (arith, mean-range score T, f.sfits) }))
+mean-again z score T f e = rw e (to_z-of_z {w = w32} (record { sfits = omega (arith, mean-range score T, f.sfits) }))
 
 pub line-short : (v x : List ℕ) (T : ℕ) (h : Hit) → Accepted v x → h.code < word_count (graph_of x) → mag h.score < 2 ^ 31
     → length (hit_line v (graph_of x) T h) ≤ 68

@@ -1,4 +1,6 @@
 // The programs hits and arcs as functions on slices: what they read, and the bytes that they print.
+#![tactic(auto)]
+
 ghost use Rattle.std.specs.Prelude.{◌≡◌, ◌≤◌, length};
 ghost use mathlib.Core.List.{◌++◌, flat_map};
 ghost use Rattle.call.specs.Limits.{work_space};

@@ -3,6 +3,8 @@
 // What is read of the images in more than one place (docs/FORMAT.md): voice[2 + 2 * letter] is a letter's number of
 // states, 1 to 4, and lexicon[1 + node] the letter of a node; nodes have the numbers from 1 on. A table of vertices has
 // 402 rows: for 400 nodes, the root, which is 0, and the sink, which comes after the last node.
+#![tactic(auto)]
+
 ghost use Rattle.std.specs.Prelude.{◌≡◌};
 ghost use Rattle.call.specs.Table.{answer_of};
 ghost use Rattle.decoder.specs.Decoding.{decode_work};

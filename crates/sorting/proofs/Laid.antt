@@ -53,8 +53,8 @@ order-known l w i = order_same (l ++ w ∷ []) l (λ y. (
 pub row_out : (t r : List ℕ) {w : List ℕ} (k : ℕ) → In w (row_words t r k) → (p : ℕ) × (p < k) × (w ≡ word_of t r p)
 unfolding row_words
 row_out t r zero m = absurd (not-nil m)
-row_out t r (suc k) m = ⊎_elim
-    (λ i. let u = row_out t r k i in (u.0, omega (arith, u.1), u.2))
+row_out t r {w} (suc k) m = ⊎_elim
+    (λ i. let u = row_out t r {w = w} k i in (u.0, omega (arith, u.1), u.2))
     (λ i. ⊎_elim (λ e. (k, omega arith, e)) (λ n. absurd (not-nil n)) (cases i))
     (append_cases (row_words t r k) m)
 

@@ -37,7 +37,7 @@ unfolding words_from
 words-out t i zero m = absurd (not-nil m)
 words-out t {w} i (suc n) m = ⊎_elim
     (λ e. (i, omega arith, omega arith, e))
-    (λ k. let r = words-out t (suc i) n k in (r.0, omega (arith, r.1), omega (arith, r.2), r.3))
+    (λ k. let r = words-out t {w = w} (suc i) n k in (r.0, omega (arith, r.1), omega (arith, r.2), r.3))
     (cases m)
 
 pub words-split : (t : List ℕ) (i m n : ℕ) → words_from t i (m + n) ≡ words_from t i m ++ words_from t (i + m) n

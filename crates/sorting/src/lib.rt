@@ -1,4 +1,6 @@
 // The words of a lexicon in dictionary order, in a table: definitions in specs/.
+#![tactic(auto)]
+
 ghost use Rattle.std.specs.Prelude.{◌≡◌};
 ghost use Rattle.call.specs.Table.{answer_of};
 ghost use Rattle.sorting.specs.Listing.{word_table_answer, word_table_work, word_table_further};

@@ -1,4 +1,6 @@
 // The voice model of document 01: how its bytes are judged, field by field. Its definitions are in specs/.
+#![tactic(auto)]
+
 ghost use Rattle.std.specs.Prelude.{◌≡◌, ◌&&◌, ◌||◌, ◌<◌, eqb, length};
 ghost use Rattle.endian.specs.Lists.{within};
 ghost use Rattle.endian.specs.Bytes.{u8};

@@ -1,4 +1,6 @@
 // The C interface (include/wundaleth.h): a slice is a pointer and a length, and a call answers its value, or a refusal's number made negative.
+#![tactic(auto)]
+
 ghost use Rattle.std.specs.Prelude.{ℕ, ◌≡◌, pos};
 ghost use Rattle.call.specs.Table.{answer_of, signed_answer};
 ghost use Rattle.graph.specs.Checking.{check_answer, check_work};

@@ -1,0 +1,13 @@
+use Prim.Native.Nat.{◌+◌, ◌*◌, ◌-◌, ◌≤◌, ◌<◌}
+use mathlib.Core.Logic.{⊎_elim}
+use native.Mathlib.Omega.{arith}
+use lib.ListN.{length}
+use Rattle.registering.specs.Numbering.{numbers_in}
+use Rattle.registering.proofs.Partings.{Putting, put-start, part_room, put_here, put_past, put_done}
+use Rattle.building.proofs.lists.put_arcs.Given as goal
+
+abbrev pub invariant-loop-i : goal.invariant-loop-i
+invariant-loop-i l = Putting l.shared l.links (numbers_in l.rows) l.row l.at l.initial.out l.out l.arcs l.i
+
+abbrev pub decreases-loop-i : goal.decreases-loop-i
+decreases-loop-i l = l.stop - l.i

@@ -1,0 +1,12 @@
+use Prim.Native.Nat.{◌-◌, ◌≤◌, ◌<◌}
+use native.Mathlib.Omega.{arith}
+use borrow.Author.Rules.{rules}
+use Rattle.lexicon.specs.Lexicon.{sink_of, arc_count}
+use Rattle.codes.proofs.Totals.{Added, nodes, head, added_none, added_next, added_most, added_all}
+use Rattle.codes.proofs.listing.arcs_on_ways.Given as goal
+
+abbrev pub invariant-loop-arc : goal.invariant-loop-arc
+invariant-loop-arc l = Added l.lexicon l.vertex l.arc l.total
+
+abbrev pub decreases-loop-arc : goal.decreases-loop-arc
+decreases-loop-arc l = l.arcs - l.arc

@@ -1,0 +1,14 @@
+use mathlib.Core.Path.{◌≡◌}
+use Prim.Native.Nat.{min, ◌≤◌, ◌-◌}
+use lib.ListN.{length}
+use native.Mathlib.Omega.{arith}
+use borrow.Author.Rules.{rules}
+use Rattle.lexicon.specs.Lexicon.{arcs_at, node_count}
+use Rattle.lexicon.proofs.Arcs.{arcs-step}
+use Rattle.lexicon.proofs.arcs_at.Given as goal
+
+abbrev pub invariant-loop-u : goal.invariant-loop-u
+invariant-loop-u l = (l.at ≡ min (arcs_at l.lexicon l.u) (length l.lexicon)) × (l.u ≤ l.vertex)
+
+abbrev pub decreases-loop-u : goal.decreases-loop-u
+decreases-loop-u l = l.vertex - l.u

@@ -1,0 +1,49 @@
+-- `fields::arcs` meets its contract: before each vertex its list and those above it are left, and the verdict is that on them and on what
+-- comes later. The measure is the vertices left. Assumes nothing.
+use Prim.Native.Nat.{◌+◌, ◌-◌}
+use mathlib.Core.Path.{◌≡◌}
+use native.Mathlib.Omega.{arith}
+use borrow.Author.Rules.{rules}
+use Rattle.lexicon.specs.Lexicon.{node_count}
+use Rattle.lexicon.proofs.Sections.Successors.{blank}
+use Rattle.lexicon.proofs.Sections.Lists.{ListsLeft, arcs-start, arcs_fail, arcs-next, arcs_whole}
+use Rattle.lexicon.proofs.fields.arcs.Goals as goal
+
+pub loop-vertex-init : goal.loop-vertex-init
+loop-vertex-init c =
+    let p = c.requires in
+    let e : 2 + c.args.nodes ≡ 2 + node_count c.args.lexicon.now = omega (arith, p.0) in
+    rw e (arcs-start _ _ blank (rw e at p.2))
+
+pub list-found-requires : goal.list-found-requires
+list-found-requires c =
+    let l = c.loop-vertex.invariant in
+    let p = c.requires in
+    record { start = l.place; there = l.there; number = p.0; few = p.1; vertex = c.loop-vertex-test.true; room = l.room; table = l.table }
+
+pub returns-in_default : goal.returns-in_default
+returns-in_default c =
+    let p = c.requires in
+    let e = c.enum_told-1.given.1 in
+    rw e (arcs_fail _ _ _ _ _ c.loop-vertex.invariant c.enum_told-1.given.0.0 (omega (arith, p.0)) (rw e at c.list-found.ensures))
+
+pub loop-vertex-preserved : goal.loop-vertex-preserved
+loop-vertex-preserved c =
+    let f = c.before.before in
+    let p = f.requires in
+    arcs-next _ _ _ _ _ f.loop-vertex.invariant _ _ (omega (arith, p.0)) (rw f.found-1.given.1 at f.list-found.ensures)
+
+pub overflow_add-at-in-loop-vertex-2 : goal.overflow_add-at-in-loop-vertex-2
+overflow_add-at-in-loop-vertex-2 c = omega (arith, (loop-vertex-preserved c.before).there)
+
+pub overflow_add-total : goal.overflow_add-total
+overflow_add-total c = omega (arith, (loop-vertex-preserved c.before).room)
+
+pub returns : goal.returns
+returns c = arcs_whole _ _ _ _ _ c.loop-vertex.invariant (omega (arith, c.requires.0))
+
+pub overflow_mul-at : goal.overflow_mul-at
+overflow_mul-at c = let h = (loop-vertex-preserved c.before).room in search rules
+
+pub overflow_add-at-in-loop-vertex : goal.overflow_add-at-in-loop-vertex
+overflow_add-at-in-loop-vertex c = let h = (loop-vertex-preserved c.before).room in search rules

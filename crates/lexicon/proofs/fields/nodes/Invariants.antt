@@ -1,0 +1,13 @@
+use Prim.Native.Nat.{◌+◌, ◌-◌}
+use mathlib.Core.Path.{sym, ◌∙◌}
+use native.Mathlib.Omega.{arith}
+use borrow.Author.Rules.{rules}
+use Rattle.lexicon.proofs.Sections.Nodes.{NodeLettersLeft, nodes_fail, nodes-start, letter_missing, letter_out}
+use Rattle.lexicon.proofs.Sections.Nodes.{letter_good, nodes_whole}
+use Rattle.lexicon.proofs.fields.nodes.Given as goal
+
+abbrev pub invariant-loop-node : goal.invariant-loop-node
+invariant-loop-node l = NodeLettersLeft l.letters l.lexicon l.n l.node
+
+abbrev pub decreases-loop-node : goal.decreases-loop-node
+decreases-loop-node l = l.n + 1 - l.node

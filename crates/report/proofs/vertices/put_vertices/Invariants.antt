@@ -1,0 +1,12 @@
+use Prim.Native.Nat.{◌+◌, ◌-◌, ◌≤◌, ◌<◌}
+use native.Mathlib.Omega.{arith}
+use borrow.Author.Rules.{rules}
+use Rattle.lexicon.specs.Lexicon.{node_count}
+use Rattle.report.proofs.Arcs.{VerticesPut, vertices-start, line-room, vertices-next, vertices-end}
+use Rattle.report.proofs.vertices.put_vertices.Given as goal
+
+abbrev pub invariant-loop-vertex : goal.invariant-loop-vertex
+invariant-loop-vertex l = VerticesPut l.lexicon l.initial.out l.out l.end l.vertex
+
+abbrev pub decreases-loop-vertex : goal.decreases-loop-vertex
+decreases-loop-vertex l = l.nodes + 1 - l.vertex

@@ -1,0 +1,34 @@
+-- `put_token` puts one byte of the number after the other. The measure is what is left of them. Assumes nothing.
+use Prim.Native.Nat.{◌-◌, ◌*◌}
+use native.Mathlib.Omega.{arith}
+use borrow.Author.Rules.{rules}
+use Rattle.storing.proofs.Putting.{PutLeft, put-long, put-start, put_next, put_done}
+use Rattle.search.proofs.tokens.put_token.Goals as goal
+
+pub bounds-part-at : goal.bounds-part-at
+bounds-part-at c =
+    omega (arith, put-long c.loop-i.invariant, c.loop-i-test.true, c.requires)
+
+pub loop-i-preserved : goal.loop-i-preserved
+loop-i-preserved c =
+    let l = c.before in
+    let o = l.before in
+    put_next l.loop-i.invariant _ o.bytes.ensures c.loop-i-test.true
+
+pub returns : goal.returns
+returns c =
+    let l = c.before in
+    let o = l.before in
+    put_done l.loop-i.invariant c.loop-i-test.false _ o.bytes.ensures (omega arith) o.requires
+
+pub loop-i-init : goal.loop-i-init
+loop-i-init c = put-start _ _ _
+
+pub bounds-bytes-i : goal.bounds-bytes-i
+bounds-bytes-i c = c.loop-i-test.true
+
+pub loop-i-smaller : goal.loop-i-smaller
+loop-i-smaller c = omega (arith, c.loop-i-test.true)
+
+pub shape_of-part : goal.shape_of-part
+shape_of-part c = put-long c.loop-i.invariant

@@ -1,0 +1,13 @@
+use Prim.Native.Nat.{◌≤◌, ◌-◌}
+use mathlib.Core.Path.{◌≡◌, subst}
+use native.Mathlib.Omega.{arith}
+use Rattle.sorting.specs.Rows.{Numbered}
+use Rattle.sorting.proofs.Numbering.{numbered-start, numbered_more}
+use borrow.Author.Rules.{rules}
+use Rattle.sorting.proofs.laying.number_slots.Given as goal
+
+abbrev pub invariant-loop-k : goal.invariant-loop-k
+invariant-loop-k l = (l.k ≤ l.n) × Numbered l.initial.rows l.k l.rows
+
+abbrev pub decreases-loop-k : goal.decreases-loop-k
+decreases-loop-k l = l.n - l.k
