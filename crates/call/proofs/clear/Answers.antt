@@ -4,7 +4,6 @@ use mathlib.Core.Path.{sym, ap, ◌∙◌}
 use mathlib.Core.List.{List, ◌++◌}
 use native.Mathlib.Omega.{arith}
 use lib.ListN.{length, drop}
-use borrow.Author.Rules.{rules}
 use Rattle.call.proofs.Buffers.{cleared-short, cleared-long, zeroed-part}
 use Rattle.call.proofs.clear.Goals as goal
 

@@ -4,7 +4,6 @@ use mathlib.Core.Path.{ap, ◌∙◌}
 use native.Mathlib.Omega.{arith}
 use mir.Syntax.{w16}
 use mir.Val.{to_z}
-use borrow.Author.Rules.{rules}
 use Rattle.endian.specs.Bytes.{i16}
 use Rattle.endian.proofs.Signed.{below-fits, below-is}
 use Rattle.endian.proofs.i16_of.Goals as goal

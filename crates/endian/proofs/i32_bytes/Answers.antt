@@ -6,7 +6,6 @@ use lib.Signed.{mag}
 use mir.Syntax.{w32}
 use mir.Val.{to_z, of_z}
 use mir.Facts.{to_z-of_z}
-use borrow.Author.Rules.{rules}
 use Rattle.endian.specs.Bytes.{u32_bytes, i32_bytes}
 use Rattle.endian.proofs.Signed.{flip_fits, flip_is, is_neg, is_pos}
 use Rattle.endian.proofs.i32_bytes.Goals as goal

@@ -4,7 +4,6 @@ use mathlib.Core.Path.{ap, ◌∙◌}
 use native.Mathlib.Omega.{arith}
 use mir.Syntax.{w32}
 use mir.Val.{to_z}
-use borrow.Author.Rules.{rules}
 use Rattle.endian.specs.Bytes.{i32}
 use Rattle.endian.proofs.Signed.{below-fits, below-is}
 use Rattle.endian.proofs.i32_of.Goals as goal

@@ -2,7 +2,6 @@
 use Prim.Native.Nat.{◌+◌}
 use native.Mathlib.Omega.{arith}
 use lib.ListN.{get_or-eq_default}
-use borrow.Author.Rules.{rules}
 use Rattle.endian.specs.Bytes.{u16}
 use Rattle.endian.proofs.u16_at.Goals as goal
 

@@ -1,6 +1,5 @@
 -- `endian::u32_bytes` meets its contract: the four bytes are the definition's. Assumes nothing.
 use mathlib.Core.Path.{refl}
-use borrow.Author.Rules.{rules}
 use Rattle.endian.specs.Bytes.{u32_bytes}
 use Rattle.endian.proofs.u32_bytes.Goals as goal
 
