@@ -1,11 +1,8 @@
 -- `has_bad_code` finds a code that is not below W: no code passed is one, so some code is where one of those left is.
 -- The measure is what is left of the codes. Assumes nothing.
-use Prim.Native.Nat.{◌-◌, ◌≤◌}
-use mathlib.Core.Path.{◌≡◌, refl, sym, ◌∙◌}
+use mathlib.Core.Path.{refl, sym, ◌∙◌}
 use borrow.Author.Rules.{rules}
 use borrow.Author.Tests.{le-leb, lt-leb}
-use lib.ListN.{length, drop}
-use Rattle.endian.specs.Lists.{any}
 use Rattle.call.specs.Limits.{bad_code}
 use Rattle.endian.proofs.Search.{any_found, any_next, any_none}
 use Rattle.packing.proofs.has_bad_code.Goals as goal

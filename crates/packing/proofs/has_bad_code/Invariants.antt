@@ -1,11 +1,8 @@
 use Prim.Native.Nat.{◌-◌, ◌≤◌}
-use mathlib.Core.Path.{◌≡◌, refl, sym, ◌∙◌}
-use borrow.Author.Rules.{rules}
-use borrow.Author.Tests.{le-leb, lt-leb}
+use mathlib.Core.Path.{◌≡◌}
 use lib.ListN.{length, drop}
 use Rattle.endian.specs.Lists.{any}
 use Rattle.call.specs.Limits.{bad_code}
-use Rattle.endian.proofs.Search.{any_found, any_next, any_none}
 use Rattle.packing.proofs.has_bad_code.Given as goal
 
 abbrev pub invariant-loop-i : goal.invariant-loop-i

@@ -1,7 +1,6 @@
 -- `judge_pack` goes through the rows in the table's order: each test is the row's condition. Assumes nothing.
 use mathlib.Core.Path.{◌≡◌, sym, ◌∙◌}
 use native.Mathlib.Omega.{arith}
-use borrow.Author.Rules.{rules}
 use borrow.Author.Tests.{lt-ltb, le-ltb}
 use Rattle.call.specs.Table.{unless}
 use Rattle.packing.specs.Width.{width, given_rows, bad_word_count}

@@ -1,10 +1,10 @@
 -- `put_numbers` writes the numbers: before each of them those passed stand at the output's start. The measure is what
 -- is left of them. Assumes nothing.
-use Prim.Native.Nat.{ℕ, ◌-◌, ◌*◌, ◌≤◌}
+use Prim.Native.Nat.{ℕ, ◌*◌}
 use mathlib.Core.Path.{◌≡◌, refl, sym, ap, ◌∙◌}
 use mathlib.Core.List.{List, flat_map}
 use borrow.Author.Rules.{rules}
-use lib.ListN.{length, get_or, take}
+use lib.ListN.{get_or, take}
 use lib.Seq.{take_all}
 use Rattle.endian.specs.Bytes.{u32_bytes}
 use Rattle.packing.specs.Offsets.{overlay}

@@ -1,7 +1,6 @@
 -- `width` meets its contract: 9 outside 1 to 1,048,576, and the width inside. Assumes nothing.
 use mathlib.Core.Path.{◌≡◌, ap}
 use mathlib.Core.Bool.{false}
-use borrow.Author.Rules.{rules}
 use Rattle.call.specs.Table.{value, unless}
 use Rattle.packing.specs.Width.{width_answer, given_rows, bad_word_count}
 use Rattle.packing.proofs.Laws.Calls.{inside}

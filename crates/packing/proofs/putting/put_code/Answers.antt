@@ -1,7 +1,6 @@
 -- `put_code` puts what the code fills: each byte leaves eight bits less behind it, so after three of them fewer than 8
 -- of at most 27 are left, and the place is b bits further on. Assumes nothing.
 use native.Mathlib.Omega.{arith}
-use borrow.Author.Rules.{rules}
 use Rattle.packing.proofs.Laws.Held.{fewer, three_put}
 use Rattle.packing.proofs.putting.put_code.Goals as goal
 

@@ -7,16 +7,13 @@ use native.Mathlib.Nat.{zero-mul, mul-le-mul_right, add-mul}
 use native.Mathlib.Omega.{arith}
 use borrow.Author.Rules.{rules}
 use lib.Seq.{take_all}
-use lib.ListN.{length, take, drop, replicate}
+use lib.ListN.{length, take, replicate}
 use Rattle.packing.specs.Packing.{bits, to_bits, packed_size}
 use Rattle.packing.specs.Offsets.{CodeOffset, bits_before}
 use Rattle.packing.proofs.Laws.Stretches.{below_each}
 use Rattle.packing.proofs.Laws.Packing.{size-enough}
 use Rattle.packing.proofs.Laws.Held.{offset-place, offsets_rise, codes-next, rest-on, size_same, size-from, put-all-codes}
 use Rattle.packing.proofs.putting.put_codes.Goals as goal
-use Rattle.packing.proofs.putting.put_codes.Tie as tie
-use Rattle.packing.proofs.putting.put_codes.Lts as lts
-use Rattle.packing.proofs.putting.put_codes.Reads as reads
 
 pub loop-i-init : goal.loop-i-init
 unfolding flat_map bits_before bits to_bits
@@ -64,11 +61,6 @@ loop-i-preserved c =
       put.ensures.untouched ∙ rest-on l.at.byte put.result.byte l.out a.out.now rise l.invariant.5,
     )
 
--- all codes are passed
-ended : (c : lts.After-loop tie.the-claims reads.Pre reads.Post goal.the-invariant-loop-i goal.the-decreases-loop-i)
-    → c.loop-i.i ≡ length c.args.codes.now
-ended c = search rules
-
 pub put_rest-requires : goal.put_rest-requires
 put_rest-requires c =
     let a = c.args in
@@ -84,19 +76,20 @@ put_rest-requires c =
 
 pub returns : goal.returns
 returns c =
-    let d = c.before.before.before.before.before in
-    let a = d.args in
-    let h = d.requires in
-    let l = d.loop-i in
+    let a = c.args in
+    let h = c.requires in
+    let l = c.loop-i in
     let put = c.put_rest in
     let codes = a.codes.now in
     let n = length codes in
-    let o : CodeOffset n a.b l.at.byte l.at.bit = rw (← ended d) l.invariant.3 in
+    let e : l.i ≡ n = search rules in
+    let o : CodeOffset n a.b l.at.byte l.at.bit = rw (← e) l.invariant.3 in
     let all : take l.i codes ≡ codes = take_all l.i codes (search rules) in
     let size = packed_size a.b n in
-    let p = rw (size_same o, (offset-place o).0) at put.ensures in
+    let p = rw (size_same o) at put.ensures in
+    let padded = rw (offset-place o).0 at p.padded in
     put-all-codes a.b codes put.new.out a.out.now
-    (below_each 256 put.new.out (λ i. (c.slice_known-2-1.given i).fits))
+    (below_each 256 put.new.out (λ i. (c.type_inv.out i).fits))
     (omega (arith, put.auto.out, l.invariant.2, h.fits))
-    (p.padded ∙ ap (λ (t : List ℕ). t ++ replicate (size * 8 - n * a.b) 0) (l.invariant.4 ∙ ap (flat_map (bits a.b)) all))
+    (padded ∙ ap (λ (t : List ℕ). t ++ replicate (size * 8 - n * a.b) 0) (l.invariant.4 ∙ ap (flat_map (bits a.b)) all))
     (p.untouched ∙ rest-on l.at.byte size l.out a.out.now (size-from o) l.invariant.5)

@@ -1,16 +1,9 @@
-use Prim.Native.Nat.{ℕ, ◌+◌, ◌-◌, ◌*◌, ◌≤◌, ◌<◌}
-use mathlib.Core.Path.{◌≡◌, refl, ap, ◌∙◌}
-use mathlib.Core.List.{List, ◌++◌, flat_map}
-use native.Mathlib.Nat.{zero-mul, mul-le-mul_right, add-mul}
-use native.Mathlib.Omega.{arith}
-use borrow.Author.Rules.{rules}
-use lib.Seq.{take_all}
-use lib.ListN.{length, take, drop, replicate}
-use Rattle.packing.specs.Packing.{bits, to_bits, packed_size}
+use Prim.Native.Nat.{◌-◌, ◌≤◌, ◌<◌}
+use mathlib.Core.Path.{◌≡◌}
+use mathlib.Core.List.{flat_map}
+use lib.ListN.{length, take, drop}
+use Rattle.packing.specs.Packing.{bits}
 use Rattle.packing.specs.Offsets.{CodeOffset, bits_before}
-use Rattle.packing.proofs.Laws.Stretches.{below_each}
-use Rattle.packing.proofs.Laws.Packing.{size-enough}
-use Rattle.packing.proofs.Laws.Held.{offset-place, offsets_rise, codes-next, rest-on, size_same, size-from, put-all-codes}
 use Rattle.packing.proofs.putting.put_codes.Given as goal
 
 abbrev pub invariant-loop-i : goal.invariant-loop-i

@@ -1,13 +1,8 @@
-use Prim.Native.Nat.{◌-◌, ◌≤◌, ◌<◌}
-use mathlib.Core.Path.{◌≡◌, refl, ◌∙◌}
-use native.Mathlib.Omega.{arith}
-use borrow.Author.Rules.{rules}
-use lib.Pow.{pow_pos}
-use lib.ListN.{length, length-set, take}
-use lib.Seq.{take_all}
+use Prim.Native.Nat.{◌-◌, ◌≤◌}
+use mathlib.Core.Path.{◌≡◌}
+use lib.ListN.{length, take}
 use Rattle.packing.specs.Packing.{unpacked}
-use Rattle.packing.proofs.Laws.Packing.{length-unpacked}
-use Rattle.packing.proofs.Laws.Held.{HeldAt, held_first, can_take, held_next, codes-read, held-last}
+use Rattle.packing.proofs.Laws.Held.{HeldAt}
 use Rattle.packing.proofs.taking.read_codes.Given as goal
 
 abbrev pub invariant-loop-i : goal.invariant-loop-i

@@ -1,11 +1,6 @@
 use Prim.Native.Nat.{◌+◌, ◌-◌, ◌*◌, ◌^◌, ◌≤◌, ◌<◌}
-use mathlib.Core.Path.{◌≡◌, refl, ◌∙◌}
-use native.Mathlib.Omega.{arith}
-use borrow.Author.Rules.{rules}
-use lib.Pow.{pow_mono}
-use lib.ListN.{length, get_or}
+use mathlib.Core.Path.{◌≡◌}
 use Rattle.packing.specs.Offsets.{bits_after}
-use Rattle.packing.proofs.Laws.Held.{byte-taken, held_below}
 use Rattle.packing.proofs.taking.take_bytes.Given as goal
 
 abbrev pub invariant-loop-bits : goal.invariant-loop-bits
