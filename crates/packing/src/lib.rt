@@ -1,21 +1,23 @@
-// Packed codes: their width, packing and unpacking (document 01, Lexicon; rows 9, 12 and 14 to 16 of its table).
+// Packed codes: their width, packing and unpacking (document 01, Lexicon; rows 9, 12 and 14 to 16 of its refusal table).
 #![tactic(auto)]
 
-ghost use Rattle.std.specs.Prelude.{◌≡◌, ℕ, ◌+◌, ◌*◌, ◌≤◌, length, take};
-ghost use mathlib.Core.List.{flat_map};
+ghost use Rattle.std.specs.Prelude.{◌≡◌, ◌+◌, ◌*◌, ◌≤◌, ◌<◌, length, take, drop};
+ghost use mathlib.Core.List.{◌++◌, flat_map};
 ghost use Rattle.endian.specs.Lists.{any};
 ghost use Rattle.endian.specs.Bytes.{u32_bytes};
-ghost use Rattle.call.specs.Table.{answer_of, value};
+ghost use Rattle.call.specs.Table.{answer_of};
 ghost use Rattle.call.specs.Limits.{bad_code};
-ghost use Rattle.packing.specs.Packing.{packed_size, unpacked, pack_answer, pack_out, unpack_answer, unpack_out};
+ghost use Rattle.call.specs.Buffers.{zeroed};
+ghost use Rattle.packing.specs.Packing.{number_of, to_bits, packed, packed_size, unpacked, bad_packed, pack_answer, pack_out, unpack_answer, unpack_out};
 ghost use Rattle.packing.specs.Width.{width, width_answer};
-ghost use Rattle.packing.specs.Offsets.{overlay, CodeLimits, PackedJudged};
+ghost use Rattle.packing.specs.Offsets.{overlay, CodeOffset, CodeLimits, PackedFits, RightSize, CodeInBytes};
 
-use crate::putting::put_codes;
-use crate::taking::read_codes;
-use call::{Answer, Refusal, inside};
+use crate::bits::{code_at, put_code};
+use call::{Answer, Refusal, inside, zero};
 use endian::u32_bytes;
 
+mod bits;
+// The walks of request 5 (docs/PORT.md): proved, and not yet what packing and unpacking go by.
 mod putting;
 mod taking;
 
@@ -25,8 +27,7 @@ const WORDS: usize = 1048576;
 // The most codes that are packed together (row 12).
 const CODES: usize = 8;
 
-// The bits of a code below a number of words: none where there is one word, else the length of the greatest code in
-// binary.
+// The bits of a code below a number of words: none where there is one word, else the length of the greatest code in binary.
 fn width_of(words: u32) -> u32
     requires { 1 ≤ words }
     ensures { result ≡ width words }
@@ -45,6 +46,25 @@ pub fn width(words: u32) -> Answer
         return Answer::Refused(Refusal::WordCount);
     }
     Answer::Value(width_of(words))
+}
+
+// Where a code begins.
+#[derive(Drop)]
+struct BitOffset {
+    byte: usize,
+    bit: u32,
+}
+
+// Code i begins at bit i × b, in byte i × b / 8; nothing else here knows where codes begin.
+fn offset_of(i: usize, b: u32) -> BitOffset
+    requires { CodeLimits i b }
+    ensures { CodeOffset i b result.byte result.bit }
+{
+    let at = i * (b as usize);
+    BitOffset {
+        byte: at / 8,
+        bit: (at % 8) as u32,
+    }
 }
 
 // n codes take n × b / 8 bytes, rounded up.
@@ -89,6 +109,28 @@ fn judge_pack(words: u32, codes: &[u32], out: &[u8]) -> Answer
     Answer::Value(size as u32)
 }
 
+// Makes the first n bytes zero, so that the padding is.
+fn zero_first(out: &mut [u8], n: usize)
+    requires { n ≤ length out.old }
+    ensures { out.new ≡ zeroed n out.old }
+{
+    zero(&mut out[0..n]);
+}
+
+// Packs codes that were judged.
+fn put_codes(out: &mut [u8], b: u32, codes: &[u32])
+    requires { PackedFits b (length codes.now) out.old }
+    ensures { out.new ≡ packed b codes.now ++ drop (packed_size b (length codes.now)) out.old }
+{
+    zero_first(out, packed_size(codes.len(), b));
+    let mut i = 0;
+    while i < codes.len() {
+        let at = offset_of(i, b);
+        put_code(out, at.byte, at.bit, b, codes[i]);
+        i += 1;
+    }
+}
+
 // Packs the codes and answers the bytes written.
 pub fn pack(words: u32, codes: &[u32], out: &mut [u8]) -> Answer
     ensures result_value { answer_of result ≡ pack_answer words codes.now out.old }
@@ -104,23 +146,46 @@ pub fn pack(words: u32, codes: &[u32], out: &mut [u8]) -> Answer
     }
 }
 
-// Reads the codes, and says whether row 14 applies: the padding behind them is 0 where all its bits are.
-fn read_packed(n: usize, packed: &[u8], b: u32, codes: &mut [u32]) -> bool
-    requires { CodeLimits n b × (n ≤ length codes.old) }
-    ensures { PackedJudged b n result packed.now codes.new }
+// Row 14. The padding, from where code n would begin, is read as one number: it is 0 where all its bits are.
+fn is_bad_packed(n: usize, packed: &[u8], b: u32) -> bool
+    requires { CodeLimits n b }
+    ensures { result ≡ bad_packed b n packed.now }
 {
     if packed.len() != packed_size(n, b) {
         return true;
     }
-    read_codes(packed, n, b, codes) != 0
+    let end = offset_of(n, b);
+    let padding = (packed.len() - end.byte) as u32 * 8 - end.bit;
+    code_at(packed, end.byte, end.bit, padding) != 0
 }
 
-// The rows of unpacking in the table's order, all judged before a byte is written, or n, with the codes.
-fn judge_unpack(words: u32, n: u32, packed: &[u8], out: &[u8], codes: &mut [u32]) -> Answer
-    requires { 8 ≤ length codes.old }
-    ensures result_value { answer_of result ≡ unpack_answer words n packed.now out.now }
-    ensures by_index { (k : ℕ) → answer_of result ≡ value k
-        → take n codes.new ≡ unpacked (width words) n packed.now }
+// Code i of those that the bytes hold.
+fn unpacked_code(packed: &[u8], i: usize, b: u32) -> u32
+    requires { CodeInBytes i b packed.now }
+    ensures { result ≡ number_of (take b (drop (i * b) (to_bits packed.now))) }
+{
+    let at = offset_of(i, b);
+    code_at(packed, at.byte, at.bit, b)
+}
+
+// Row 15, for codes that are still packed, since nothing may be written yet.
+fn has_bad_unpacked(words: u32, n: usize, packed: &[u8], b: u32) -> bool
+    requires { RightSize b n packed.now }
+    ensures { result ≡ any (bad_code words) (unpacked b n packed.now) }
+{
+    let mut i = 0;
+    while i < n {
+        if words <= unpacked_code(packed, i, b) {
+            return true;
+        }
+        i += 1;
+    }
+    false
+}
+
+// The rows of unpacking in the table's order, all judged before a byte is written, or n.
+fn judge_unpack(words: u32, n: u32, packed: &[u8], out: &[u8]) -> Answer
+    ensures { answer_of result ≡ unpack_answer words n packed.now out.now }
 {
     let count = n as usize;
     if !inside(words as usize, 1, WORDS) {
@@ -130,10 +195,10 @@ fn judge_unpack(words: u32, n: u32, packed: &[u8], out: &[u8], codes: &mut [u32]
         return Answer::Refused(Refusal::Count);
     }
     let b = width_of(words);
-    if read_packed(count, packed, b, codes) {
+    if is_bad_packed(count, packed, b) {
         return Answer::Refused(Refusal::Packed);
     }
-    if has_bad_code(words, &codes[..count]) {
+    if has_bad_unpacked(words, count, packed, b) {
         return Answer::Refused(Refusal::Code);
     }
     if out.len() < 4 * count {
@@ -154,14 +219,14 @@ fn put_u32(out: &mut [u8], at: usize, v: u32)
     out[at + 3] = bytes[3];
 }
 
-// Puts numbers, each as u32, at the front of the output.
-fn put_numbers(out: &mut [u8], numbers: &[u32])
-    requires { length numbers.now * 4 ≤ length out.old }
-    ensures { out.new ≡ overlay 0 (flat_map u32_bytes numbers.now) out.old }
+// Unpacks codes that were judged.
+fn put_unpacked(out: &mut [u8], n: usize, packed: &[u8], b: u32)
+    requires { RightSize b n packed.now × (n * 4 ≤ length out.old) }
+    ensures { out.new ≡ overlay 0 (flat_map u32_bytes (unpacked b n packed.now)) out.old }
 {
     let mut i = 0;
-    while i < numbers.len() {
-        put_u32(out, i * 4, numbers[i]);
+    while i < n {
+        put_u32(out, i * 4, unpacked_code(packed, i, b));
         i += 1;
     }
 }
@@ -171,11 +236,10 @@ pub fn unpack(words: u32, n: u32, packed: &[u8], out: &mut [u8]) -> Answer
     ensures result_value { answer_of result ≡ unpack_answer words n packed.now out.old }
     ensures out_after { out.new ≡ unpack_out words n packed.now out.old }
 {
-    let mut codes = [0; CODES];
-    let answer = judge_unpack(words, n, packed, &out[..], &mut codes);
+    let answer = judge_unpack(words, n, packed, &out[..]);
     match answer {
         Answer::Value(_) => {
-            put_numbers(out, &codes[..n as usize]);
+            put_unpacked(out, n as usize, packed, width_of(words));
             answer
         }
         Answer::Refused(_) => answer,

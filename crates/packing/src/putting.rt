@@ -2,7 +2,7 @@
 // Byte and bit are carried along, so that no division finds where a code begins (document 02, 5/13).
 ghost use Rattle.std.specs.Prelude.{◌≡◌, ◌++◌, ◌+◌, ◌*◌, ◌^◌, ◌≤◌, ◌<◌, length, drop};
 ghost use Rattle.packing.specs.Packing.{packed, packed_size};
-ghost use Rattle.packing.specs.Offsets.{Packable, BitsFit, BytePut, CodeFits, CodePut, RestFits, RestPut};
+ghost use Rattle.packing.specs.Walks.{Packable, BitsFit, BytePut, CodeFits, CodePut, RestFits, RestPut};
 
 // So many bytes are put, and so many bits behind them are in no byte yet: fewer than 8 where a code begins.
 #[derive(Drop)]

@@ -2,7 +2,7 @@
 // to code, and no division finds where a code begins. It is a walk of its own: packing puts a byte when its last bit is
 // there, and unpacking takes one as soon as its first is needed.
 ghost use Rattle.std.specs.Prelude.{◌≡◌, ◌-◌, ◌%◌, ◌^◌, ◌≤◌, ◌<◌, length};
-ghost use Rattle.packing.specs.Offsets.{RightSize, CanTake, BytesTaken, CodesRead};
+ghost use Rattle.packing.specs.Walks.{PackedLength, CanTake, BytesTaken, CodesRead};
 
 // So many bytes are taken, and of their bits so many are held, as the number that they make.
 #[derive(Drop)]
@@ -55,7 +55,7 @@ fn pass_code(at: Taken, b: u32) -> Taken
 
 // Reads n codes, and answers the padding: the number that the bits behind them make.
 pub(crate) fn read_codes(packed: &[u8], n: usize, b: u32, codes: &mut [u32]) -> u32
-    requires { RightSize b n packed.now × (n ≤ length codes.old) }
+    requires { PackedLength b n packed.now × (n ≤ length codes.old) }
     ensures { CodesRead b n result packed.now codes.new }
 {
     let mut at = Taken {

@@ -4,17 +4,15 @@ use Prim.Native.Nat.{ℕ, zero, suc, ◌+◌, ◌-◌, ◌*◌, ◌/◌, ◌%◌
 use mathlib.Core.Path.{◌≡◌, refl, sym, ap, ap₂, ◌∙◌}
 use mathlib.Core.List.{List, [], ◌∷◌, ◌++◌, flat_map, append_assoc, append-nil}
 use native.Mathlib.Nat.{pow-succ', add-suc, add-zero, mul_assoc, mul_left_comm, add-mul, div-one, mod-eq_of_lt}
-use native.Mathlib.Nat.{lt_of_lt_of_le}
 use native.Mathlib.Numerals.{add-one}
 use native.Mathlib.Decide.{dec_le}
 use native.Mathlib.Omega.{arith}
 use lib.Arith.{digits_lt}
-use lib.Pow.{pow_mono, mod-pow-add, shr-shr, field, mod-mod-pow, high, low}
-use lib.ListN.{length, take, drop, replicate, length-append, length-take, length-drop}
-use lib.ListN.{replicate-append-replicate, take-append-drop, drop_of_length-le}
+use lib.Pow.{mod-pow-add, shr-shr, field, mod-mod-pow, high, low}
+use lib.ListN.{length, take, drop, get_or, replicate, length-append, length-take, length-drop, replicate-append-replicate, take-append-drop, drop_of_length-le}
 use lib.Seq.{take-append-add, take_at, drop_at, take-append-le}
 use Rattle.endian.proofs.Lists.{flat_map_append, length_pieces}
-use Rattle.packing.proofs.Laws.Stretches.{flat_drop, Below, below-append, below-take}
+use Rattle.packing.proofs.Laws.Stretches.{flat_take, flat_drop, flat_at, Below, below-append, below-take}
 use Rattle.packing.proofs.Laws.Stretches.{below-drop, below-replicate, below_flat}
 use Rattle.packing.specs.Packing.{bits, number_after, number_of, to_bytes, to_bits}
 
@@ -149,9 +147,26 @@ pub to_bits_append : (xs ys : List ℕ) → to_bits (xs ++ ys) ≡ to_bits xs ++
 unfolding to_bits
 to_bits_append xs ys = flat_map_append (bits 8) xs ys
 
+-- zero bytes have zero bits
+pub to_bits_zeros : (n : ℕ) → to_bits (replicate n 0) ≡ replicate (n * 8) 0
+unfolding to_bits flat_map bits
+to_bits_zeros zero = refl
+to_bits_zeros (suc n) =
+    let e : 8 + n * 8 ≡ suc n * 8 = omega arith in
+    ap (λ (t : List ℕ). replicate 8 0 ++ t) (to_bits_zeros n) ∙ replicate-append-replicate 8 (n * 8) 0 ∙ ap (λ (k : ℕ). replicate k 0) e
+
+pub to_bits_take : (i : ℕ) (bytes : List ℕ) → to_bits (take i bytes) ≡ take (i * 8) (to_bits bytes)
+unfolding to_bits
+to_bits_take i bytes = flat_take (bits 8) 8 (length-bits 8) i bytes
+
 pub to_bits_drop : (i : ℕ) (bytes : List ℕ) → to_bits (drop i bytes) ≡ drop (i * 8) (to_bits bytes)
 unfolding to_bits
 to_bits_drop i bytes = flat_drop (bits 8) 8 (length-bits 8) i bytes
+
+-- byte i has the bits from 8 × i on
+pub to_bits_at : (i : ℕ) (bytes : List ℕ) → i < length bytes → take 8 (drop (i * 8) (to_bits bytes)) ≡ bits 8 (get_or bytes i 0)
+unfolding to_bits
+to_bits_at i bytes h = flat_at (bits 8) 8 (length-bits 8) i bytes h
 
 pub length_to_bytes : (n : ℕ) (ds : List ℕ) → length (to_bytes n ds) ≡ n
 unfolding to_bytes
@@ -222,12 +237,3 @@ to_bits_to_bytes (suc n) ds u h =
 -- bytes are told apart by their bits
 pub to_bits_injective : (xs ys : List ℕ) → Below 256 xs → Below 256 ys → length xs ≡ length ys → to_bits xs ≡ to_bits ys → xs ≡ ys
 to_bits_injective xs ys u v n e = sym (to_bytes_to_bits xs u) ∙ ap₂ to_bytes n e ∙ to_bytes_to_bits ys v
-
--- what n of the bits make is below 2 ^ n
-pub read_below : (n p : ℕ) (bytes : List ℕ) → number_of (take n (drop p (to_bits bytes))) < 2 ^ n
-read_below n p bytes =
-    let ds = take n (drop p (to_bits bytes)) in
-    let short : length ds ≤ n = rw length-take (omega arith) in
-    let rest = drop p (to_bits bytes) in
-    let low : Below 2 ds = below-take 2 n rest (below-drop 2 p (to_bits bytes) (below_to_bits bytes)) in
-    lt_of_lt_of_le (number-below ds low) (pow_mono short)

@@ -16,7 +16,7 @@ use Rattle.endian.proofs.Booleans.{and-out, or-none}
 use Rattle.endian.proofs.Ranges.{bounds}
 use Rattle.call.specs.declared.Refusal.{Refusal}
 use Rattle.call.specs.Table.{Answer, value, refused, unless}
-use Rattle.call.proofs.Table.{same-value, refused-no-value}
+use Rattle.call.proofs.Table.{same-value}
 use Rattle.endian.proofs.Lists.{length_pieces}
 use Rattle.packing.specs.Width.{width, given_rows, bad_word_count}
 use Rattle.call.specs.Buffers.{written}
@@ -26,14 +26,14 @@ use Rattle.packing.specs.Offsets.{overlay}
 use Rattle.packing.proofs.Laws.Width.{width-enough, width-limit}
 use Rattle.packing.proofs.Laws.Stretches.{Below, flat_at}
 use Rattle.packing.proofs.Laws.Packing.{length-packed, packed-padded, unpack_pack, pack_unpack, length-unpacked, unpacked-at}
-use Rattle.packing.proofs.Laws.Bits.{read_below}
+use Rattle.packing.proofs.Laws.Chunks.{read_below}
 
 pub inside : (lo hi x : ℕ) → not (within lo hi x) ≡ false → (lo ≤ x) × (x ≤ hi)
 inside lo hi x e = bounds lo hi x (not-false (within lo hi x) e)
 
 -- a row that does not apply, and the rows after it
 passed : (t : Bool) (r : Refusal) (k : ℕ) (x : Answer ℕ) → cond t (refused r) x ≡ value k → (t ≡ false) × (x ≡ value k)
-passed true r k x e = absurd (refused-no-value e)
+passed true r k x e = absurd (let z : ◌≡◌ {A = ℕ} 0 1 = cc in omega arith)
 passed false r k x e = (refl, e)
 
 -- packing that answers k: no row applies, and k is the size
@@ -149,7 +149,7 @@ unpack_answers W n bytes out k h =
     (ap value h.all)
 
 -- codes below W take no more than b bits
-pub below-width : (W : ℕ) (codes : List ℕ) → any (bad_code W) codes ≡ false → Below (2 ^ width W) codes
+below-width : (W : ℕ) (codes : List ℕ) → any (bad_code W) codes ≡ false → Below (2 ^ width W) codes
 unfolding any bad_code
 below-width W [] e = tt
 below-width W (c ∷ cs) e =

@@ -13,8 +13,8 @@ use lib.ListN.{length, take, drop, set, get_or, replicate}
 use lib.ListN.{replicate-append-replicate, take-append-drop, drop_of_length-le}
 use lib.Seq.{take-suc, take-suc-set, drop-cons, drop-drop, take-append-le, drop-append-le, length-take-le}
 use Rattle.packing.specs.Packing.{bits, number_of, to_bits, packed_size, packed, unpacked}
-use Rattle.packing.specs.Offsets.{CodeOffset, bits_before, BytePut, CodePut}
-use Rattle.packing.specs.Offsets.{bits_after, RightSize, CanTake, BytesTaken}
+use Rattle.packing.specs.Walks.{CodeStart, bits_before, BytePut, CodePut}
+use Rattle.packing.specs.Walks.{bits_after, PackedLength, CanTake, BytesTaken}
 use Rattle.packing.proofs.Laws.Stretches.{Below, below-take, flat_next}
 use Rattle.packing.proofs.Laws.Bits.{length-bits, bits-mod, bits-add, bits-low, take-bits, drop_bits}
 use Rattle.packing.proofs.Laws.Bits.{number-bits, to_bits_cons, to_bits_append, to_bits_injective}
@@ -41,18 +41,18 @@ bits-zero (suc d) =
 
 -- ---- where a code begins
 
-pub offset-place : {i b byte bit : ℕ} → CodeOffset i b byte bit → (byte * 8 + bit ≡ i * b) × (bit < 8)
+pub offset-place : {i b byte bit : ℕ} → CodeStart i b byte bit → (byte * 8 + bit ≡ i * b) × (bit < 8)
 offset-place {i} {b} {byte} {bit} o = (omega (arith, o.quotient, o.remainder), omega (arith, o.remainder))
 
 -- from code to code: b bits further on, and fewer than 8 of them behind the byte
 pub next-offset : (i b byte bit byte' bit' : ℕ) → byte' * 8 + bit' ≡ byte * 8 + bit + b → bit' < 8
-    → CodeOffset i b byte bit → CodeOffset (i + 1) b byte' bit'
+    → CodeStart i b byte bit → CodeStart (i + 1) b byte' bit'
 next-offset i b byte bit byte' bit' e h o =
     let p = offset-place o in
     let n : (i + 1) * b ≡ byte' * 8 + bit' = omega (arith, add-mul i 1 b, p.0) in
     record { quotient = rw n (omega arith); remainder = rw n (omega arith) }
 
-pub offsets_rise : {i b byte bit byte' bit' : ℕ} → CodeOffset i b byte bit → CodeOffset (i + 1) b byte' bit'
+pub offsets_rise : {i b byte bit byte' bit' : ℕ} → CodeStart i b byte bit → CodeStart (i + 1) b byte' bit'
     → byte ≤ byte'
 offsets_rise {i} {b} o next = omega (arith, o.quotient, next.quotient, add-mul i 1 b)
 
@@ -144,11 +144,11 @@ codes-next {b} {joined} {byte} {bit} {byte'} {bit'} {out} {after} i held codes h
     ∙ ap (λ (t : List ℕ). t ++ bits b (get_or codes i 0)) done ∙ sym (flat_next (bits b) b (length-bits b) i codes h)
 
 -- the bytes that n codes take are those that their bits take
-pub size_same : {n b byte bit : ℕ} → CodeOffset n b byte bit → packed_size 1 (byte * 8 + bit) ≡ packed_size b n
+pub size_same : {n b byte bit : ℕ} → CodeStart n b byte bit → packed_size 1 (byte * 8 + bit) ≡ packed_size b n
 unfolding packed_size
 size_same o = omega (arith, (offset-place o).0)
 
-pub size-from : {n b byte bit : ℕ} → CodeOffset n b byte bit → byte ≤ packed_size b n
+pub size-from : {n b byte bit : ℕ} → CodeStart n b byte bit → byte ≤ packed_size b n
 unfolding packed_size
 size-from o = omega (arith, o.quotient)
 
@@ -263,7 +263,7 @@ held_first b packed = record {
   same = rw (zero-mul b);
 }
 
-pub can_take : {b n i taken d held : ℕ} {packed : List ℕ} → RightSize b n packed → i < n
+pub can_take : {b n i taken d held : ℕ} {packed : List ℕ} → PackedLength b n packed → i < n
     → HeldAt b i taken d held packed → CanTake b taken d held packed
 can_take {b} {n} {i} p h at =
     let next : i + 1 ≤ n = omega arith in
@@ -301,7 +301,7 @@ codes-read {b} {n} {i} {taken' = taken'} {d' = d'} {held' = held'} {packed = pac
     )
 
 -- behind the last code all bytes are taken, and what is held is the padding
-pub held-last : {b n taken d held : ℕ} {packed : List ℕ} → RightSize b n packed → HeldAt b n taken d held packed
+pub held-last : {b n taken d held : ℕ} {packed : List ℕ} → PackedLength b n packed → HeldAt b n taken d held packed
     → held ≡ number_of (drop (n * b) (to_bits packed))
 unfolding packed_size bits_after to_bits flat_map
 held-last {b} {n} {taken} {d} {held} {packed} p at =

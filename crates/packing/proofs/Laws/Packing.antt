@@ -4,21 +4,20 @@ use Prim.Native.Nat.{ℕ, zero, suc, ◌+◌, ◌-◌, ◌*◌, ◌/◌, ◌%◌
 use mathlib.Core.Path.{◌≡◌, refl, sym, ap, ap₂, ◌∙◌}
 use mathlib.Core.Bool.{true, false≢true}
 use mathlib.Core.List.{List, [], ◌∷◌, ◌++◌, flat_map, append_assoc}
-use native.Mathlib.Nat.{zero-mul, suc-mul, mul-le-mul_right}
+use native.Mathlib.Nat.{zero-add, zero-mul, suc-mul, mul-le-mul_right}
 use native.Mathlib.Omega.{arith}
-use lib.ListN.{length, take, drop, get_or, replicate, length-drop, take-append-drop}
-use lib.Seq.{take-add, drop-drop, take_at, drop_at, take-append-le, drop-append-le, length-take-le}
+use lib.ListN.{length, take, drop, get_or, replicate, length-append, length-drop, take-append-drop}
+use lib.Seq.{take-add, take_all, drop-drop, take_at, drop_at, take-append-le, drop-append-le, length-take-le}
 use lib.Dec.{eqb, eqb-suc-zero}
 use lib.Pow.{pow_pos}
 use borrow.Author.Tests.{ne_eqb}
 use Rattle.endian.specs.Lists.{all}
 use Rattle.endian.proofs.Lists.{length_pieces}
 use Rattle.packing.specs.Packing.{bits, number_of, to_bits, packed_size, packed, unpacked_from, unpacked, padded_with_zeros}
-use Rattle.packing.proofs.Laws.Stretches.{Below, below-take, below-drop, below_flat}
+use Rattle.packing.specs.Offsets.{overlay, RightSize, CodeInBytes}
+use Rattle.packing.proofs.Laws.Stretches.{below-append, drop-zeros, Below, below-take, below-drop, below_flat}
 use Rattle.packing.proofs.Laws.Stretches.{flat_at}
-use Rattle.packing.proofs.Laws.Bits.{to_bits_drop, number_of_none, number_of_cons, to_bits_injective, length-bits}
-use Rattle.packing.proofs.Laws.Bits.{below-bits, number-bits, bits-number, to_bits_to_bytes, length_to_bytes}
-use Rattle.packing.proofs.Laws.Bits.{length_to_bits, below_to_bits, below_to_bytes}
+use Rattle.packing.proofs.Laws.Bits.{to_bits_drop, number_of_none, number_of_cons, to_bits_append, to_bits_zeros, to_bits_injective, length-bits, below-bits, number-bits, bits-number, to_bits_to_bytes, length_to_bytes, length_to_bits, below_to_bits, below_to_bytes}
 
 -- ---- the bits of packed codes
 
@@ -95,6 +94,19 @@ zero_number (suc d ∷ ds) =
     let some : number_of (suc d ∷ ds) ≡ 0 → ⊥ = λ e. omega (arith, number_of_cons (suc d) ds, suc-mul d (2 ^ length ds), pow_pos (length ds)) in
     rw (ne_eqb _ 0 some, eqb-suc-zero d)
 
+-- m bits reach from the codes to the end
+pub padding-zero : (b n m : ℕ) (bytes : List ℕ) → length bytes * 8 ≤ n * b + m
+    → padded_with_zeros b n bytes ≡ eqb (number_of (take m (drop (n * b) (to_bits bytes)))) 0
+unfolding padded_with_zeros
+padding-zero b n m bytes h =
+    zero_number (drop (n * b) (to_bits bytes))
+    ∙ ap (λ (t : List ℕ). eqb (number_of t) 0) (sym (take_all m (drop (n * b) (to_bits bytes)) (rw (length-drop, length_to_bits) (omega arith))))
+
+-- fewer than 8 bits of padding
+pub size-least : (b n : ℕ) → packed_size b n * 8 ≤ n * b + 7
+unfolding packed_size
+size-least b n = omega arith
+
 -- ---- the laws of packing
 
 -- packed codes unpack to themselves
@@ -167,3 +179,39 @@ pub code-begins_in : (b i : ℕ) (codes : List ℕ) → i < length codes
 code-begins_in b i codes h =
     let e : i * b / 8 * 8 + i * b % 8 ≡ i * b = omega arith in
     rw (to_bits_drop, drop-drop, e) (code-begins b i codes h)
+
+-- ---- what the loops of the code use
+
+module _ (b : ℕ) (codes : List ℕ) where
+  -- the bits of the codes over cleared bytes are those of the packed codes
+  pub put-over : (rest : List ℕ) → overlay 0 (flat_map (bits b) codes) (to_bits (replicate (packed_size b (length codes)) 0 ++ rest)) ≡ to_bits (packed b codes ++ rest)
+  unfolding overlay
+  put-over rest =
+      let size = packed_size b (length codes) in
+      let n : 0 + length (flat_map (bits b) codes) ≡ length codes * b = zero-add (length (flat_map (bits b) codes)) ∙ length-codes b codes in
+      ap (λ (t : List ℕ). flat_map (bits b) codes ++ t)
+      (ap₂ drop n (to_bits_append (replicate size 0) rest ∙ ap (λ (t : List ℕ). t ++ to_bits rest) (to_bits_zeros size))
+      ∙ drop-zeros (length codes * b) (size * 8) (to_bits rest) (size-enough b (length codes)))
+      ∙ sym (to_bits_append (packed b codes) rest ∙ ap (λ (t : List ℕ). t ++ to_bits rest) (packed-bits b codes)
+      ∙ append_assoc (flat_map (bits b) codes) (replicate (size * 8 - length codes * b) 0) (to_bits rest))
+
+  -- so bytes with these bits are the packed codes and the rest
+  pub put-all-codes : (out before : List ℕ) → Below 256 out → Below 256 before → length out ≡ length before → packed_size b (length codes) ≤ length before
+      → to_bits out ≡ overlay 0 (flat_map (bits b) codes) (to_bits (replicate (packed_size b (length codes)) 0 ++ drop (packed_size b (length codes)) before))
+      → out ≡ packed b codes ++ drop (packed_size b (length codes)) before
+  put-all-codes out before u v n h e =
+      let size = packed_size b (length codes) in
+      let long : length (packed b codes ++ drop size before) ≡ length before =
+      length-append (packed b codes) (drop size before) ∙ rw (length-packed b codes, length-drop) (omega arith) in
+      to_bits_injective out (packed b codes ++ drop size before) u
+      (below-append 256 (packed b codes) (drop size before) (below-packed b codes) (below-drop 256 size before v))
+      (n ∙ sym long) (e ∙ put-over (drop size before))
+
+-- a code that is one of n lies in the bytes
+pub held : (b n i : ℕ) (bytes : List ℕ) → RightSize b n bytes → i < n → CodeInBytes i b bytes
+held b n i bytes p h =
+    let next : suc i ≤ n = h in
+    record {
+      small = record { few = omega arith; short = p.small.short };
+      room = omega (arith, p.size, size-enough b n, mul-le-mul_right b next, suc-mul i b);
+    }

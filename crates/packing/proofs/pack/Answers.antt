@@ -6,8 +6,7 @@ use lib.ListN.{length, drop}
 use Rattle.call.specs.Table.{value}
 use Rattle.packing.specs.Packing.{packed, packed_size, pack_answer}
 use Rattle.packing.proofs.Laws.Width.{width-limit}
-use Rattle.packing.proofs.Laws.Stretches.{below_at}
-use Rattle.packing.proofs.Laws.Calls.{Packs, packs, below-width, pack_written, pack_refused}
+use Rattle.packing.proofs.Laws.Calls.{Packs, packs, pack_written, pack_refused}
 use Rattle.packing.proofs.pack.Goals as goal
 
 accepted : (words k : ℕ) (codes out : List ℕ) → value k ≡ pack_answer words codes out → Packs words codes out k
@@ -15,14 +14,8 @@ accepted words k codes out e = packs words codes out k (sym e)
 
 pub put_codes-requires : goal.put_codes-requires
 put_codes-requires c =
-    let codes = c.args.codes.now in
-    let h = accepted c.args.words c.in-Value.field-0 codes c.args.out.now c.in-Value.ensures in
-    rw c.width_of.ensures
-    (record {
-      short = width-limit _ h.words.1;
-      low = below_at _ codes (below-width _ codes h.low);
-      fits = h.room;
-    })
+    let h = accepted c.args.words c.in-Value.field-0 c.args.codes.now c.args.out.now c.in-Value.ensures in
+    rw c.width_of.ensures (record { small = record { few = h.count.1; short = width-limit _ h.words.1 }; fits = h.room })
 
 pub returns-in-Value : goal.returns-in-Value
 returns-in-Value c =

@@ -9,7 +9,7 @@ use borrow.Author.Rules.{rules}
 use lib.Seq.{take_all}
 use lib.ListN.{length, take, replicate}
 use Rattle.packing.specs.Packing.{bits, to_bits, packed_size}
-use Rattle.packing.specs.Offsets.{CodeOffset, bits_before}
+use Rattle.packing.specs.Walks.{CodeStart, bits_before}
 use Rattle.packing.proofs.Laws.Stretches.{below_each}
 use Rattle.packing.proofs.Laws.Packing.{size-enough}
 use Rattle.packing.proofs.Laws.Held.{offset-place, offsets_rise, codes-next, rest-on, size_same, size-from, put-all-codes}
@@ -83,7 +83,7 @@ returns c =
     let codes = a.codes.now in
     let n = length codes in
     let e : l.i ≡ n = search rules in
-    let o : CodeOffset n a.b l.at.byte l.at.bit = rw (← e) l.invariant.3 in
+    let o : CodeStart n a.b l.at.byte l.at.bit = rw (← e) l.invariant.3 in
     let all : take l.i codes ≡ codes = take_all l.i codes (search rules) in
     let size = packed_size a.b n in
     let p = rw (size_same o) at put.ensures in

@@ -1,6 +1,6 @@
 use Prim.Native.Nat.{◌+◌, ◌-◌, ◌*◌, ◌^◌, ◌≤◌, ◌<◌}
 use mathlib.Core.Path.{◌≡◌}
-use Rattle.packing.specs.Offsets.{bits_after}
+use Rattle.packing.specs.Walks.{bits_after}
 use Rattle.packing.proofs.taking.take_bytes.Given as goal
 
 abbrev pub invariant-loop-bits : goal.invariant-loop-bits
