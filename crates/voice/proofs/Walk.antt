@@ -3,7 +3,6 @@
 -- one, since they end before it. Assumes nothing.
 use Prim.Native.Nat.{ℕ, zero, suc, ◌+◌, ◌-◌, ◌*◌, ◌≤◌, ◌<◌}
 use mathlib.Core.Path.{◌≡◌, refl, sym, ap, ◌∙◌}
-use mathlib.Core.Logic.{⊎_elim}
 use mathlib.Core.Bool.{Bool, true, false, cond}
 use mathlib.Core.List.Memᴰ
 use mathlib.Core.List.Memᴰ.{head as here}
@@ -13,8 +12,6 @@ use native.Mathlib.Nat.{sub-zero}
 use native.Mathlib.Omega.{arith}
 use native.Mathlib.Numerals.{add-one}
 use borrow.Author.Tests.{leb-true, leb-false, lt-ltb, ne_eqb}
-use types.Run.{OneOf}
-use denote.Enum.Declared.{tag_of}
 use lib.Dec.{eqb, leb, ltb}
 use lib.ListN.{length}
 use Rattle.endian.specs.Lists.{within, from}
@@ -28,19 +25,18 @@ use Rattle.voice.specs.Voice.{voice_verdict}
 use Rattle.voice.specs.Sections.{field_verdict, and_then, first_bad, letters_part, states_part, last_part}
 use Rattle.voice.specs.declared.Verdict as declared
 use Rattle.voice.specs.declared.Verdict.TheVariants.{WellFormed, WrongLength, OutOfRange}
-use Rattle.voice.specs.contracts.Verdict.{the_type}
 use Rattle.voice.proofs.Fields.{Good, AllGood}
 
 -- ---- one verdict and then another
 
 -- what a `match` tells of a verdict that is not WellFormed
 abbrev pub Bad : declared.Verdict → Type 0
-Bad w = OneOf (1 ∷ 2 ∷ []) (tag_of the_type w)
+Bad w = w ≡ WellFormed → ⊥
 
 -- a bad verdict is the whole's
 pub stands : (w : declared.Verdict) → Bad w → (next : Verdict) → and_then (verdict_of w) next ≡ verdict_of w
 unfolding and_then
-stands WellFormed b next = absurd (⊎_elim (λ e. omega arith) (λ e. omega arith) b)
+stands WellFormed b next = absurd (b refl)
 stands WrongLength b next = refl
 stands OutOfRange b next = refl
 

@@ -1,7 +1,5 @@
 -- `lexicon::arcs_at` meets its contract: after u turns the offset is that of vertex u's list, cut off at the end. Assumes nothing.
 use mathlib.Core.Path.{◌≡◌}
-use Prim.Native.Nat.{min, ◌≤◌, ◌-◌}
-use lib.ListN.{length}
 use native.Mathlib.Omega.{arith}
 use borrow.Author.Rules.{rules}
 use Rattle.lexicon.specs.Lexicon.{arcs_at, node_count}

@@ -1,10 +1,7 @@
 use mathlib.Core.Path.{◌≡◌}
 use Prim.Native.Nat.{min, ◌≤◌, ◌-◌}
 use lib.ListN.{length}
-use native.Mathlib.Omega.{arith}
-use borrow.Author.Rules.{rules}
-use Rattle.lexicon.specs.Lexicon.{arcs_at, node_count}
-use Rattle.lexicon.proofs.Arcs.{arcs-step}
+use Rattle.lexicon.specs.Lexicon.{arcs_at}
 use Rattle.lexicon.proofs.arcs_at.Given as goal
 
 abbrev pub invariant-loop-u : goal.invariant-loop-u

@@ -1,21 +1,18 @@
 -- `ranking::mean` meets its contract: a comparison chooses between the quotient and the next number, of the score
 -- without its sign. Assumes nothing.
--- ---- what is answered
 use mathlib.Core.Path.{◌≡◌, ap, ◌∙◌}
-use Prim.Native.Nat.{ℕ, ◌/◌, ◌^◌, ◌≤◌, ◌<◌}
-use native.Mathlib.Nat.{mod-lt, div-le_self}
+use Prim.Native.Nat.{ℕ, ◌^◌, ◌≤◌, ◌<◌}
 use native.Mathlib.Omega.{arith}
 use lib.IntN.{ℤ}
 use lib.Signed.{mag}
 use mir.Syntax.{w32}
 use mir.Val.{to_z, of_z}
 use mir.Facts.{to_z-of_z}
-use borrow.Author.Rules.{rules}
 use Rattle.call.specs.Table.{value, unless}
 use Rattle.call.specs.Limits.{bad_frame_count}
 use Rattle.endian.proofs.Ranges.{inside, below, above}
 use Rattle.ranking.specs.Mean.{mean, mean_answer}
-use Rattle.ranking.proofs.Rounding.{mean-next, mean-quotient, next-range}
+use Rattle.ranking.proofs.Rounding.{mean-next, mean-quotient}
 use Rattle.ranking.proofs.mean.Goals as goal
 
 pub returns-then-frames-eq0 : goal.returns-then-frames-eq0
@@ -31,48 +28,18 @@ answered : (T : ℕ) {r z score : ℤ} → 1 ≤ T → T ≤ 1000 → mag r < 2 
     → value (to_z w32 (of_z w32 r)) ≡ mean_answer score T
 unfolding mean_answer bad_frame_count unless
 answered T some few fit e f =
-    rw (inside 1 1000 T some few) (ap value (to_z-of_z (record { sfits = fit }) ∙ e ∙ ap (λ (z : ℤ). mean z T) f))
+    rw (inside 1 1000 T some few) (ap value (to_z-of_z {w = w32} (record { sfits = fit }) ∙ e ∙ ap (λ (z : ℤ). mean z T) f))
 
 pub returns-then-frames-number : goal.returns-then-frames-number
 returns-then-frames-number c =
-    let s = c.before.before.before.before.before in
     let k = c.without_sign-number in
-    answered s.args.frames (omega arith) (omega arith) c.with_sign.type-inv
+    answered c.args.frames (omega arith) (omega arith) c.with_sign.type_inv
     (c.with_sign.ensures ∙ mean-next _ _ k.result k.ensures c.if-frames-number.true)
-    (to_z-of_z s.ranges.score)
+    (to_z-of_z c.ranges.score)
 
--- ---- what fits: the quotient leaves less than 1,000 and is odd by 0 or 1, and the next number does not run past the
--- score without its sign
 pub returns : goal.returns
 returns c =
-    let s = c.before.before.before.before.before in
     let k = c.without_sign-number in
-    answered s.args.frames (omega arith) (omega arith) c.with_sign-2.type-inv
+    answered c.args.frames (omega arith) (omega arith) c.with_sign-2.type_inv
     (c.with_sign-2.ensures ∙ mean-quotient _ _ k.result k.ensures c.if-frames-number.false)
-    (to_z-of_z s.ranges.score)
-
-pub overflow_mul-number : goal.overflow_mul-number
-overflow_mul-number c =
-    let T = c.args.frames in
-    record { fits = omega (arith, mod-lt c.without_sign-number.result {m = T} (omega arith)) }
-
-pub overflow_add-number : goal.overflow_add-number
-overflow_add-number c =
-    let T = c.args.frames in
-    let k = c.without_sign-number.result in
-    record { fits = omega (arith, mod-lt k {m = T} (omega arith), mod-lt (k / T) {m = 2} (omega arith)) }
-
-pub with_sign-requires : goal.with_sign-requires
-with_sign-requires c =
-    let m = c.without_sign-number in
-    omega (arith, m.ensures, next-range m.result _ c.if-frames-number.true)
-
-pub overflow_add-quotient : goal.overflow_add-quotient
-overflow_add-quotient c =
-    let m = c.without_sign-number in
-    record { fits = omega (arith, m.type-inv, next-range m.result _ c.if-frames-number.true) }
-
-pub with_sign-requires-2 : goal.with_sign-requires-2
-with_sign-requires-2 c =
-    let m = c.without_sign-number in
-    omega (arith, m.ensures, div-le_self m.result c.args.frames)
+    (to_z-of_z c.ranges.score)

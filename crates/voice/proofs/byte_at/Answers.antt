@@ -1,6 +1,5 @@
 -- `byte_at` meets its contract: past the end the definition reads 0 too. Assumes nothing.
 use mathlib.Core.Path.{sym}
-use borrow.Author.Rules.{rules}
 use lib.ListN.{get_or-eq_default}
 use Rattle.voice.proofs.byte_at.Goals as goal
 

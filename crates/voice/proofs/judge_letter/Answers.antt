@@ -2,7 +2,6 @@
 use Prim.Native.Nat.{◌+◌, ◌*◌}
 use mathlib.Core.Path.{◌≡◌, sym}
 use native.Mathlib.Omega.{arith}
-use borrow.Author.Rules.{rules}
 use Rattle.voice.specs.Voice.{states, letter_fields}
 use Rattle.voice.specs.Sections.{and_then, first_bad}
 use Rattle.voice.proofs.Walk.{stands, then_good}
@@ -11,18 +10,15 @@ use Rattle.voice.proofs.judge_letter.Goals as goal
 pub returns-in_default : goal.returns-in_default
 unfolding letter_fields first_bad
 returns-in_default c =
-    let d = c.before.before in
-    let i = d.args.i in
+    let i = c.args.i in
     let e : 1 + 2 * i + 1 ≡ 2 + 2 * i = omega arith in
-    rw (e, ← d.good_print.ensures, ← d.judge_field-print.ensures) (sym (stands d.judge_field-print.result c.in_default.keys2 _))
+    rw (e, ← c.good_print.ensures, ← c.judge_field-print.ensures) (sym (stands c.judge_field-print.result c.in_default.not-WellFormed _))
 
 pub returns : goal.returns
 unfolding letter_fields first_bad and_then states
 returns c =
-    let b = c.before.before.before in
-    let d = b.before.before.before in
-    let i = d.args.i in
+    let i = c.args.i in
     let e : 1 + 2 * i + 1 ≡ 2 + 2 * i = omega arith in
     let e' : 2 + 2 * i + 1 ≡ 3 + 2 * i = omega arith in
-    rw (e, ← d.good_print.ensures, ← d.judge_field-print.ensures, b.enum_told-1.given.1, then_good, e', ← b.byte_at-states.ensures, ← c.inside.ensures)
+    rw (e, ← c.good_print.ensures, ← c.judge_field-print.ensures, c.in-WellFormed.is, then_good, e', ← c.byte_at-states.ensures, ← c.inside.ensures)
     c.judge_field.ensures

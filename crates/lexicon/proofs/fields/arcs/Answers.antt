@@ -1,12 +1,12 @@
 -- `fields::arcs` meets its contract: before each vertex its list and those above it are left, and the verdict is that on them and on what
 -- comes later. The measure is the vertices left. Assumes nothing.
-use Prim.Native.Nat.{◌+◌, ◌-◌}
+use Prim.Native.Nat.{◌+◌}
 use mathlib.Core.Path.{◌≡◌}
 use native.Mathlib.Omega.{arith}
 use borrow.Author.Rules.{rules}
 use Rattle.lexicon.specs.Lexicon.{node_count}
 use Rattle.lexicon.proofs.Sections.Successors.{blank}
-use Rattle.lexicon.proofs.Sections.Lists.{ListsLeft, arcs-start, arcs_fail, arcs-next, arcs_whole}
+use Rattle.lexicon.proofs.Sections.Lists.{arcs-start, arcs_fail, arcs-next, arcs_whole}
 use Rattle.lexicon.proofs.fields.arcs.Goals as goal
 
 pub loop-vertex-init : goal.loop-vertex-init
@@ -24,26 +24,25 @@ list-found-requires c =
 pub returns-in_default : goal.returns-in_default
 returns-in_default c =
     let p = c.requires in
-    let e = c.enum_told-1.given.1 in
-    rw e (arcs_fail _ _ _ _ _ c.loop-vertex.invariant c.enum_told-1.given.0.0 (omega (arith, p.0)) (rw e at c.list-found.ensures))
+    let e = c.in_default.is in
+    rw e (arcs_fail _ _ _ _ _ c.loop-vertex.invariant c.in_default.field-0 (omega (arith, p.0)) (rw e at c.list-found.ensures))
 
 pub loop-vertex-preserved : goal.loop-vertex-preserved
 loop-vertex-preserved c =
-    let f = c.before.before in
-    let p = f.requires in
-    arcs-next _ _ _ _ _ f.loop-vertex.invariant _ _ (omega (arith, p.0)) (rw f.found-1.given.1 at f.list-found.ensures)
+    let p = c.requires in
+    arcs-next _ _ _ _ _ c.loop-vertex.invariant _ _ (omega (arith, p.0)) (rw c.in-Good.is at c.list-found.ensures)
 
 pub overflow_add-at-in-loop-vertex-2 : goal.overflow_add-at-in-loop-vertex-2
-overflow_add-at-in-loop-vertex-2 c = omega (arith, (loop-vertex-preserved c.before).there)
+overflow_add-at-in-loop-vertex-2 c = omega (arith, (loop-vertex-preserved c).there)
 
 pub overflow_add-total : goal.overflow_add-total
-overflow_add-total c = omega (arith, (loop-vertex-preserved c.before).room)
+overflow_add-total c = omega (arith, (loop-vertex-preserved c).room)
 
 pub returns : goal.returns
 returns c = arcs_whole _ _ _ _ _ c.loop-vertex.invariant (omega (arith, c.requires.0))
 
 pub overflow_mul-at : goal.overflow_mul-at
-overflow_mul-at c = let h = (loop-vertex-preserved c.before).room in search rules
+overflow_mul-at c = let h = (loop-vertex-preserved c).room in search rules
 
 pub overflow_add-at-in-loop-vertex : goal.overflow_add-at-in-loop-vertex
-overflow_add-at-in-loop-vertex c = let h = (loop-vertex-preserved c.before).room in search rules
+overflow_add-at-in-loop-vertex c = let h = (loop-vertex-preserved c).room in search rules

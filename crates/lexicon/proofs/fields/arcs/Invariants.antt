@@ -1,10 +1,5 @@
 use Prim.Native.Nat.{◌+◌, ◌-◌}
-use mathlib.Core.Path.{◌≡◌}
-use native.Mathlib.Omega.{arith}
-use borrow.Author.Rules.{rules}
-use Rattle.lexicon.specs.Lexicon.{node_count}
-use Rattle.lexicon.proofs.Sections.Successors.{blank}
-use Rattle.lexicon.proofs.Sections.Lists.{ListsLeft, arcs-start, arcs_fail, arcs-next, arcs_whole}
+use Rattle.lexicon.proofs.Sections.Lists.{ListsLeft}
 use Rattle.lexicon.proofs.fields.arcs.Given as goal
 
 abbrev pub invariant-loop-vertex : goal.invariant-loop-vertex

@@ -1,7 +1,5 @@
-use Prim.Native.Nat.{◌-◌, ◌<◌}
-use native.Mathlib.Omega.{arith}
-use borrow.Author.Rules.{rules}
-use Rattle.lexicon.proofs.Sections.Lists.{ListLeft, list_uncounted, list_counted, list-fails, list-entry, list-next, list-whole}
+use Prim.Native.Nat.{◌-◌}
+use Rattle.lexicon.proofs.Sections.Lists.{ListLeft}
 use Rattle.lexicon.proofs.fields.list.Given as goal
 
 abbrev pub invariant-loop-i : goal.invariant-loop-i

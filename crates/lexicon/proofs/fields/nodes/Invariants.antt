@@ -1,9 +1,5 @@
 use Prim.Native.Nat.{◌+◌, ◌-◌}
-use mathlib.Core.Path.{sym, ◌∙◌}
-use native.Mathlib.Omega.{arith}
-use borrow.Author.Rules.{rules}
-use Rattle.lexicon.proofs.Sections.Nodes.{NodeLettersLeft, nodes_fail, nodes-start, letter_missing, letter_out}
-use Rattle.lexicon.proofs.Sections.Nodes.{letter_good, nodes_whole}
+use Rattle.lexicon.proofs.Sections.Nodes.{NodeLettersLeft}
 use Rattle.lexicon.proofs.fields.nodes.Given as goal
 
 abbrev pub invariant-loop-node : goal.invariant-loop-node
