@@ -22,7 +22,7 @@ use Rattle.graph.specs.Graph.{Graph, graph_of, sink, FullPath, full_paths, word_
 use Rattle.graph.specs.Conditions.{orphan, place_count, many_places, long_word, has_long_word, many_words, same_letters}
 use Rattle.graph.specs.Checking.{lexicon_rows, image_rows, Accepted}
 use Rattle.graph.proofs.Paths.{full-paths, at_code}
-use Rattle.canonical.specs.Nodes.{nodes, canonical_graph}
+use Rattle.canonical.specs.Nodes.{canonical_graph}
 use Rattle.image.specs.Image.{image_of}
 use Rattle.canonical.specs.Theorems.{rank}
 use Rattle.canonical.proofs.Vertices.{WordList, preceded}

@@ -168,7 +168,8 @@ none-begins a q = refl
 -- so the prefixes in dictionary order are found by comparing each word with the one before it
 pub fresh-prefixes : (ws : List (List ℕ)) → Sorted ([] ∷ ws) → fresh_from [] ws ≡ prefixes ws
 unfolding prefixes
-fresh-prefixes ws s = sorted_unique (fresh-sorted [] ws s) (order-sorted (flat_map prefixes_of ws)) (λ q. (to q, back q))
+fresh-prefixes ws s = sorted_unique (fresh-sorted [] ws s) (order-sorted (flat_map prefixes_of ws))
+    (λ q. (to q, back q))
   where
     to : (q : List ℕ) → In q (fresh_from [] ws) → In q (prefixes ws)
     to q m = let t = fresh-out [] ws m in order-in (mem_flat_map prefixes_of t.1 t.2)

@@ -61,7 +61,8 @@ unfolding distinct
 distinct_in (here e) = here e
 distinct_in {n} (there {x = m} {xs = ns} k) = go (same_node m n) refl (distinct_in k)
   where
-    go : (t : Bool) → same_node m n ≡ t → In n (distinct ns) → In n (m ∷ select (λ o. not (same_node m o)) (distinct ns))
+    go : (t : Bool) → same_node m n ≡ t → In n (distinct ns)
+        → In n (m ∷ select (λ o. not (same_node m o)) (distinct ns))
     go true e i = here (sym (node-eq m n e))
     go false e i = there (select_in (λ o. not (same_node m o)) i (not_in e))
 

@@ -12,7 +12,9 @@ use Rattle.canonical.specs.Theorems.{rank}
 
 unfoldable pub everything : Unit {0}
 unfolding precedes insert words_in_order prefixes_of prefixes after continuations longest same_words same_node
-    last_letter node_of distinct reached down_from level nodes place_of rest_of letter_of next_letters next_vertex arcs_of
-    canonical_graph sorted_words canonical_image long_list outside_limits long_rows outside_rows word_list_rows canonical_rows
+    last_letter node_of distinct reached down_from level nodes place_of rest_of letter_of next_letters next_vertex
+    arcs_of
+    canonical_graph sorted_words canonical_image long_list outside_limits long_rows outside_rows word_list_rows
+    canonical_rows
     canonical_answer canonical_out begins common fresh_from rank
 everything = tt

@@ -23,7 +23,7 @@ use Rattle.graph.proofs.Ways.{some-way}
 use Rattle.graph.proofs.Paths.{full-paths, has_letter}
 use Rattle.graph.proofs.Accepted.{AcceptedImages, letters-known}
 use Rattle.canonical.specs.Dictionary.{words_in_order}
-use Rattle.canonical.specs.Nodes.{nodes, letter_of, canonical_graph}
+use Rattle.canonical.specs.Nodes.{letter_of, canonical_graph}
 use Rattle.image.specs.Image.{image_of, arc_total}
 use Rattle.graph.specs.Words.{letter_words}
 use Rattle.canonical.specs.Canonical.{sorted_words, long_list, outside_limits, word_list_rows, long_rows, outside_rows}

@@ -68,19 +68,23 @@ module _ {L : ℕ} {ws : List (List ℕ)} (ok : WordList L ws) where
       letters-led L (led ok u a h (k a (here refl))) (map (next_vertex ws (rest_of ws u)) l)
       ∙ ap (λ m. a ∷ m) (spelt h l (λ b m. k b (there m)))
 
-  stored : {u : ℕ} → u ≤ length (nodes ws) → path_letters g (arcs_of L ws (rest_of ws u)) ≡ next_letters L (rest_of ws u)
+  stored : {u : ℕ} → u ≤ length (nodes ws) → path_letters g (arcs_of L ws (rest_of ws u))
+      ≡ next_letters L (rest_of ws u)
   unfolding arcs_of canonical_graph sink
   stored {u} h = go (has_list [] (rest_of ws u))
     where
       next : List ℕ
       next = map (next_vertex ws (rest_of ws u)) (next_letters L (rest_of ws u))
 
-      go : (t : Bool) → path_letters g (cond t (suc (length (nodes ws)) ∷ []) [] ++ next) ≡ next_letters L (rest_of ws u)
+      go : (t : Bool) → path_letters g (cond t (suc (length (nodes ws)) ∷ []) [] ++ next)
+          ≡ next_letters L (rest_of ws u)
       go true = letters-sink g next ∙ spelt h (next_letters L (rest_of ws u)) (λ a m. m)
       go false = spelt h (next_letters L (rest_of ws u)) (λ a m. m)
 
-  letters-go-up : {u i j : ℕ} → u ≤ length (nodes ws) → i < j → j < length (path_letters g (arcs_of L ws (rest_of ws u)))
-      → get_or (path_letters g (arcs_of L ws (rest_of ws u))) i 0 < get_or (path_letters g (arcs_of L ws (rest_of ws u))) j 0
+  letters-go-up : {u i j : ℕ} → u ≤ length (nodes ws) → i < j
+      → j < length (path_letters g (arcs_of L ws (rest_of ws u)))
+      → get_or (path_letters g (arcs_of L ws (rest_of ws u))) i 0 < get_or
+      (path_letters g (arcs_of L ws (rest_of ws u))) j 0
   letters-go-up {u} {i} {j} h =
       rw (stored h) (λ k l. pairs-at ◌<◌ (next-rises L (rest_of ws u)) 0 i j k l)
 
@@ -149,7 +153,8 @@ module _ {L : ℕ} {ws : List (List ℕ)} (ok : WordList L ws) where
     has_first = λ {n} a b. has_first n a b;
   }
     where
-      merged : (m n : ℕ) → 1 ≤ m → m ≤ length (nodes ws) → 1 ≤ n → n ≤ length (nodes ws) → letter_of ws m ≡ letter_of ws n
+      merged : (m n : ℕ) → 1 ≤ m → m ≤ length (nodes ws) → 1 ≤ n → n ≤ length (nodes ws) → letter_of ws m
+          ≡ letter_of ws n
           → ((w : List ℕ) → Continues g m w ↔ Continues g n w) → m ≡ n
       merged zero n a b c d e s = absurd (omega arith)
       merged (suc i) zero a b c d e s = absurd (omega arith)

@@ -1,4 +1,5 @@
--- Words in dictionary order, without repetition: `words_in_order` makes them so and keeps the words, and two such lists with
+-- Words in dictionary order, without repetition: `words_in_order` makes them so and keeps the words, and two such
+-- lists with
 -- the same words are the same list. Assumes nothing.
 use Prim.Native.Nat.{ℕ, ◌+◌}
 use mathlib.Core.Path.{◌≡◌, sym, ◌∙◌}

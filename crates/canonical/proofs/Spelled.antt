@@ -103,7 +103,8 @@ module _ {L : ℕ} {ws : List (List ℕ)} (ok : WordList L ws) where
       ∙ grouped L rest (vertex-sorted ok u h) (vertex-below ok u h))
     where
       first : (t : Bool)
-          → flat_map (λ s. map (path_letters g) (by d s)) (cond t (suc (length (nodes ws)) ∷ []) []) ≡ cond t ([] ∷ []) []
+          → flat_map (λ s. map (path_letters g) (by d s)) (cond t (suc (length (nodes ws)) ∷ []) [])
+          ≡ cond t ([] ∷ []) []
       first true = append-nil (map (path_letters g) (by d (suc (length (nodes ws))))) ∙ by-sink d
       first false = refl
 

@@ -173,7 +173,8 @@ module _ {L : ℕ} {ws : List (List ℕ)} (ok : WordList L ws) where
   rises {u} h (by-letter a m e) =
       let t = next-vertex u a h m in (rw e (next_rises_above u a h m), omega (arith, t.is, t.inside))
 
-  differ : {u a b : ℕ} → u ≤ length (nodes ws) → In a (next_letters L (rest_of ws u)) → In b (next_letters L (rest_of ws u))
+  differ : {u a b : ℕ} → u ≤ length (nodes ws) → In a (next_letters L (rest_of ws u))
+      → In b (next_letters L (rest_of ws u))
       → a < b → ¬ (next_vertex ws (rest_of ws u) a ≡ next_vertex ws (rest_of ws u) b)
   differ {u} {a} {b} h i j k e =
       let s = next-vertex u a h i in
@@ -192,7 +193,8 @@ module _ {L : ℕ} {ws : List (List ℕ)} (ok : WordList L ws) where
 
       go : (t : Bool)
           → Pairs (λ s t. ¬ (s ≡ t))
-          (cond t (suc (length (nodes ws)) ∷ []) [] ++ map (next_vertex ws (rest_of ws u)) (next_letters L (rest_of ws u)))
+          (cond t (suc (length (nodes ws)) ∷ []) []
+          ++ map (next_vertex ws (rest_of ws u)) (next_letters L (rest_of ws u)))
       go true =
           next {a = suc (length (nodes ws))}
           (λ b m e. let f = Memᴰ.of_map (next_vertex ws (rest_of ws u)) (next_letters L (rest_of ws u)) m in

@@ -11,7 +11,7 @@ use lib.Dec.{ltb}
 use borrow.Author.Tests.{lt-ltb, le-ltb, ltb-true, ltb-false}
 use Rattle.call.specs.declared.Refusal.{Refusal}
 use Rattle.call.specs.declared.Refusal.TheVariants.{WorkSpace, VoiceLength, VoiceRange, LexiconLength, LexiconRange}
-use Rattle.call.specs.Table.{Answer, value, refused, Row, is_refusal, unless}
+use Rattle.call.specs.Table.{Answer, refused, Row, is_refusal, unless}
 use Rattle.call.specs.Limits.{most_words, work_space}
 use Rattle.call.specs.Buffers.{space_rows}
 use Rattle.call.proofs.Table.{refused-no-value}

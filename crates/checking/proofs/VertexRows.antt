@@ -16,7 +16,7 @@ use Rattle.call.specs.declared.Refusal.{Refusal}
 use Rattle.call.specs.Table.{Answer, value, refused}
 use Rattle.lexicon.specs.Lexicon.{node_count, sink_of, arcs_at}
 use Rattle.graph.specs.Graph.{graph_of, path_count}
-use Rattle.checking.specs.Tables.{vertex_row, vertices_of, opened_vertices, column, arcs_column, paths_column}
+use Rattle.checking.specs.Tables.{vertex_row, vertices_of, opened_vertices, column, arcs_column}
 use Rattle.checking.specs.Tables.{slots_column, TableOf, Tables, Vertices, WellFormed, WithOffsets}
 use Rattle.checking.proofs.Tables.{entry}
 use Rattle.checking.proofs.Arcs.{has-entry, ListThere, list-there}

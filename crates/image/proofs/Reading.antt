@@ -141,7 +141,8 @@ module _ (g : Graph) (fits : Fits g) where
   -- and the list of u itself
   image-list : {u : ℕ} → u < sink g
       → (later : List ℕ)
-      × (image_of g ≡ front u ++ (u16_bytes (length (g.successors u)) ++ (flat_map u16_bytes (g.successors u) ++ later)))
+      × (image_of g ≡ front u
+      ++ (u16_bytes (length (g.successors u)) ++ (flat_map u16_bytes (g.successors u) ++ later)))
   unfolding lists from flat_map list_bytes
   image-list {u} h =
       let n = sink g - suc u in
@@ -221,7 +222,8 @@ module _ (g : Graph) (fits : Fits g) where
   whole = image-at (sink g) 0 (add-zero (sink g)) ∙ ap (λ l. front (sink g) ++ l) (sym (append-nil (u16_bytes 0)))
 
   -- the reserve is the last field, and is 0
-  pub read_reserve : (reserve_at (image_of g) + 2 ≡ length (image_of g)) × (u16 (image_of g) (reserve_at (image_of g)) ≡ 0)
+  pub read_reserve : (reserve_at (image_of g) + 2 ≡ length (image_of g))
+      × (u16 (image_of g) (reserve_at (image_of g)) ≡ 0)
   unfolding reserve_at
   read_reserve =
       let a : arcs_at (image_of g) (sink_of (image_of g)) ≡ length (front (sink g)) =

@@ -6,7 +6,6 @@ use mathlib.Core.List.{map, flat_map}
 use native.Mathlib.Omega.{arith}
 use Rattle.endian.specs.Lists.{from}
 use Rattle.endian.proofs.Lists.{map_cong, flat_map_cong, from_out}
-use Rattle.lexicon.specs.Lexicon.{successors}
 use Rattle.graph.specs.Graph.{Graph, graph_of, sink}
 use Rattle.image.specs.Image.{list_bytes, image_of}
 use Rattle.image.proofs.Reading.{Fits, read-node_count, read-letter, read-successors}

@@ -25,7 +25,8 @@ use Rattle.endian.proofs.Pairs.{Pairs, none, next}
 use Rattle.endian.proofs.Pigeonhole.{pigeonhole}
 use Rattle.voice.specs.Fields.{Field, end, well_formed}
 use Rattle.voice.proofs.Fields.{AllGood, end_of, Tiles, tiles_end, verdict-good}
-use Rattle.lexicon.specs.Lexicon.{node_count, node_letter, sink_of, arcs_at, arc_count, successors, reserve_at, node_field}
+use Rattle.lexicon.specs.Lexicon.{node_count, node_letter, sink_of, arcs_at, arc_count, successors, reserve_at}
+use Rattle.lexicon.specs.Lexicon.{node_field}
 use Rattle.lexicon.specs.Lexicon.{node_fields, allowed, successor_fields, arc_fields, lexicon_fields, lexicon_verdict}
 use Rattle.lexicon.proofs.Tiling.{fields_tile}
 use Rattle.graph.specs.Graph.{Graph, sink}
@@ -190,5 +191,7 @@ formed {L} {g} ok =
     let size = (read_reserve g (fits ok)).0 in
     let t = fields_tile L x in
     let good : AllGood (length x) fields =
-    λ f m. record { there = rw size at ((tiles_inside 0 (reserve_at x + 2) fields t).1 f m); in_range = ranges ok f m } in
-    verdict-good 0 fields good ∙ rw (eq-eqb (end_of 0 fields) (length x) (tiles_end 0 (reserve_at x + 2) fields t ∙ size))
+    λ f m. record { there = rw size at ((tiles_inside 0 (reserve_at x + 2) fields t).1 f m); in_range = ranges ok f m }
+    in
+    verdict-good 0 fields good
+    ∙ rw (eq-eqb (end_of 0 fields) (length x) (tiles_end 0 (reserve_at x + 2) fields t ∙ size))

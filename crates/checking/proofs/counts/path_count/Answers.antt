@@ -1,15 +1,11 @@
 -- `counts::path_count` meets its contract: with the counts of the successors that are left, the sum so far is the count. The measure is what is
 -- left of the list. Assumes nothing.
-use Prim.Native.Nat.{◌-◌, ◌<◌}
 use native.Mathlib.Omega.{arith}
 use borrow.Author.Rules.{rules}
 use Rattle.checking.proofs.Arcs.{arc-next}
 use Rattle.checking.proofs.Filling.{vertex-small, list-begins, list-ends, entry-above, successor_small}
-use Rattle.checking.proofs.Capped.{CountLeft, count-start, count_next, count-done}
+use Rattle.checking.proofs.Capped.{count-start, count_next, count-done}
 use Rattle.checking.proofs.counts.path_count.Goals as goal
-use Rattle.checking.proofs.counts.path_count.Tie as tie
-use Rattle.checking.proofs.counts.path_count.Lts as lts
-use Rattle.checking.proofs.counts.path_count.Reads as reads
 
 pub loop-at-init : goal.loop-at-init
 loop-at-init c =
@@ -21,26 +17,17 @@ number_at-s-requires c =
     let i = c.loop-at.invariant in
     omega (arith, (arc-next i.arcs c.loop-at-test.true).room, i.arcs.there)
 
--- the successor has an entry of the table
-entry : (c : lts.After-number_at2 tie.the-claims reads.Pre reads.Post goal.the-invariant-loop-at goal.the-decreases-loop-at) → c.number_at-s.result < 402
-entry c =
-    let l = c.before.before in
-    successor_small l.requires (arc-next l.loop-at.invariant.arcs c.loop-at-test.true) c.number_at-s.ensures
-
 pub overflow_add-at-in-loop-at : goal.overflow_add-at-in-loop-at
 overflow_add-at-in-loop-at c =
-    let t = c.before.before.before.before in
-    let i = t.loop-at.invariant in
-    let h = (arc-next i.arcs t.loop-at-test.true).room in
+    let i = c.loop-at.invariant in
+    let h = (arc-next i.arcs c.loop-at-test.true).room in
     let e = i.arcs.there in
     search rules
 
 pub loop-at-preserved : goal.loop-at-preserved
 loop-at-preserved c =
-    let s = c.before.before.before in
-    let l = s.before.before in
-    let n = arc-next l.loop-at.invariant.arcs s.loop-at-test.true in
-    count_next l.loop-at.invariant n (entry-above l.requires n s.number_at-s.ensures) c.capped_sum-sum.ensures
+    let n = arc-next c.loop-at.invariant.arcs c.loop-at-test.true in
+    count_next c.loop-at.invariant n (entry-above c.requires n c.number_at-s.ensures) c.capped_sum-sum.ensures
 
 pub offset_bounds-offsets-vertex : goal.offset_bounds-offsets-vertex
 offset_bounds-offsets-vertex c = let h = vertex-small c.requires in search rules
@@ -67,7 +54,14 @@ pub overflow_add-at : goal.overflow_add-at
 overflow_add-at c = let h = list-ends c.requires in search rules
 
 pub offset_bounds-counts-s : goal.offset_bounds-counts-s
-offset_bounds-counts-s c = let h = entry c.before in search rules
+offset_bounds-counts-s c =
+    let h = successor_small c.requires (arc-next c.loop-at.invariant.arcs c.loop-at-test.true) c.number_at-s.ensures in
+    search rules
+
+-- the successor has an entry of the table
+pub bounds-counts-s : goal.bounds-counts-s
+bounds-counts-s c =
+    successor_small c.requires (arc-next c.loop-at.invariant.arcs c.loop-at-test.true) c.number_at-s.ensures
 
 pub loop-at-smaller : goal.loop-at-smaller
 loop-at-smaller c = let h = c.loop-at-test.true in omega arith

@@ -1,9 +1,5 @@
-use Prim.Native.Nat.{◌-◌, ◌<◌}
-use native.Mathlib.Omega.{arith}
-use borrow.Author.Rules.{rules}
-use Rattle.checking.proofs.Arcs.{arc-next}
-use Rattle.checking.proofs.Filling.{vertex-small, list-begins, list-ends, entry-above, successor_small}
-use Rattle.checking.proofs.Capped.{CountLeft, count-start, count_next, count-done}
+use Prim.Native.Nat.{◌-◌}
+use Rattle.checking.proofs.Capped.{CountLeft}
 use Rattle.checking.proofs.counts.path_count.Given as goal
 
 abbrev pub invariant-loop-at : goal.invariant-loop-at

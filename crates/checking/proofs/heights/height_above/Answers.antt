@@ -1,16 +1,12 @@
 -- `heights::height_above` meets its contract: the greatest height so far and those of the successors that are left make the greatest of all.
 -- The measure is what is left of the list. Assumes nothing.
-use Prim.Native.Nat.{◌-◌, ◌<◌}
-use mathlib.Core.Logic.{⊎_elim}
 use native.Mathlib.Omega.{arith}
 use borrow.Author.Rules.{rules}
 use Rattle.checking.proofs.Arcs.{arc-next}
 use Rattle.checking.proofs.Filling.{vertex-small, list-begins, list-ends, entry-above, successor_small}
-use Rattle.checking.proofs.Longest.{HeightLeft, height-start, height-next, height-done}
+use Rattle.checking.proofs.Longest.{height-start, height-next, height-done}
 use Rattle.checking.proofs.heights.height_above.Goals as goal
-use Rattle.checking.proofs.heights.height_above.Tie as tie
-use Rattle.checking.proofs.heights.height_above.Lts as lts
-use Rattle.checking.proofs.heights.height_above.Reads as reads
+use Rattle.checking.proofs.heights.height_above.Goals.{then-most-height, else-most-height}
 
 pub loop-at-init : goal.loop-at-init
 loop-at-init c =
@@ -22,27 +18,19 @@ number_at-s-requires c =
     let i = c.loop-at.invariant in
     omega (arith, (arc-next i.arcs c.loop-at-test.true).room, i.arcs.there)
 
--- the successor has an entry of the table
-entry : (c : lts.After-number_at2 tie.the-claims reads.Pre reads.Post goal.the-invariant-loop-at goal.the-decreases-loop-at) → c.number_at-s.result < 402
-entry c =
-    let l = c.before.before in
-    successor_small l.requires (arc-next l.loop-at.invariant.arcs c.loop-at-test.true) c.number_at-s.ensures
-
 pub overflow_add-at-in-loop-at : goal.overflow_add-at-in-loop-at
 overflow_add-at-in-loop-at c =
-    let t = c.before.before.before.before in
-    let i = t.loop-at.invariant in
-    let h = (arc-next i.arcs t.loop-at-test.true).room in
+    let i = c.loop-at.invariant in
+    let h = (arc-next i.arcs c.loop-at-test.true).room in
     let e = i.arcs.there in
     search rules
 
 pub loop-at-preserved : goal.loop-at-preserved
 loop-at-preserved c =
-    let s = c.before.before.before in
-    let l = s.before.before in
-    let n = arc-next l.loop-at.invariant.arcs s.loop-at-test.true in
-    let e = entry-above l.requires n s.number_at-s.ensures in
-    height-next l.loop-at.invariant n (⊎_elim (λ w. omega (arith, e, w.0.taken, w.1)) (λ w. omega (arith, e, w.0.left, w.1)) c.if-most-height.branch)
+    let n = arc-next c.loop-at.invariant.arcs c.loop-at-test.true in
+    let e = entry-above c.requires n c.number_at-s.ensures in
+    height-next c.loop-at.invariant n
+    (elim c.if-most-height.branch [ then-most-height w ↦ omega (arith, e) | else-most-height w ↦ omega (arith, e) ])
 
 pub offset_bounds-offsets-vertex : goal.offset_bounds-offsets-vertex
 offset_bounds-offsets-vertex c = let h = vertex-small c.requires in search rules
@@ -69,7 +57,14 @@ pub overflow_add-at : goal.overflow_add-at
 overflow_add-at c = let h = list-ends c.requires in search rules
 
 pub offset_bounds-heights-s : goal.offset_bounds-heights-s
-offset_bounds-heights-s c = let h = entry c.before in search rules
+offset_bounds-heights-s c =
+    let h = successor_small c.requires (arc-next c.loop-at.invariant.arcs c.loop-at-test.true) c.number_at-s.ensures in
+    search rules
+
+-- the successor has an entry of the table
+pub bounds-heights-s : goal.bounds-heights-s
+bounds-heights-s c =
+    successor_small c.requires (arc-next c.loop-at.invariant.arcs c.loop-at-test.true) c.number_at-s.ensures
 
 pub loop-at-smaller : goal.loop-at-smaller
 loop-at-smaller c = let h = c.loop-at-test.true in omega arith

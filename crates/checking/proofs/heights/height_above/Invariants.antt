@@ -1,10 +1,5 @@
-use Prim.Native.Nat.{◌-◌, ◌<◌}
-use mathlib.Core.Logic.{⊎_elim}
-use native.Mathlib.Omega.{arith}
-use borrow.Author.Rules.{rules}
-use Rattle.checking.proofs.Arcs.{arc-next}
-use Rattle.checking.proofs.Filling.{vertex-small, list-begins, list-ends, entry-above, successor_small}
-use Rattle.checking.proofs.Longest.{HeightLeft, height-start, height-next, height-done}
+use Prim.Native.Nat.{◌-◌}
+use Rattle.checking.proofs.Longest.{HeightLeft}
 use Rattle.checking.proofs.heights.height_above.Given as goal
 
 abbrev pub invariant-loop-at : goal.invariant-loop-at

@@ -3,10 +3,7 @@
 use mathlib.Core.Path.{◌≡◌, ap, ◌∙◌}
 use native.Mathlib.Omega.{arith}
 use borrow.Author.Rules.{rules}
-use Rattle.graph.specs.Graph.{graph_of}
 use Rattle.graph.specs.Conditions.{long_word}
-use Rattle.checking.specs.Filling.{AtVertex}
-use Rattle.checking.specs.Longest.{height}
 use Rattle.checking.proofs.Filling.{vertex-small, count-there, sink-is, filling_blank, filling_next, vertex-next}
 use Rattle.checking.proofs.Longest.{sink-height, node-height, above-small, longest-above}
 use Rattle.checking.proofs.heights.longest_word.Goals as goal
@@ -18,25 +15,22 @@ loop-vertex-init c =
 
 pub overflow_add-heights : goal.overflow_add-heights
 overflow_add-heights c =
-    let t = c.before.before.before in
-    let i = t.loop-vertex.invariant in
-    let h = above-small i.located.formed t.loop-vertex-test.true i.vertex in
+    let i = c.loop-vertex.invariant in
+    let h = above-small i.located.formed c.loop-vertex-test.true i.vertex in
     let e = c.height_above.ensures in
     search rules
 
 pub loop-vertex-preserved : goal.loop-vertex-preserved
 loop-vertex-preserved c =
-    let t = c.before.before.before in
-    let i = t.loop-vertex.invariant in
-    let e = node-height i.located.formed t.loop-vertex-test.true i.vertex in
+    let i = c.loop-vertex.invariant in
+    let e = node-height i.located.formed c.loop-vertex-test.true i.vertex in
     vertex-next i.located (filling_next i (omega (arith, c.height_above.ensures, e)))
-    (omega (arith, t.loop-vertex-test.true))
+    (omega (arith, c.loop-vertex-test.true))
 
 pub height_above-requires-2 : goal.height_above-requires-2
 height_above-requires-2 c =
-    let l = c.before.before in
-    let e : l.loop-vertex.vertex ≡ 0 = omega (arith, l.loop-vertex-test.false) in
-    rw e at l.loop-vertex.invariant
+    let e : c.loop-vertex.vertex ≡ 0 = omega (arith, c.loop-vertex-test.false) in
+    rw e at c.loop-vertex.invariant
 
 pub returns : goal.returns
 returns c =

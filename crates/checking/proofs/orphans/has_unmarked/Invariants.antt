@@ -1,9 +1,5 @@
 use Prim.Native.Nat.{◌+◌, ◌-◌}
-use borrow.Author.Rules.{rules}
-use borrow.Author.Tests.{not-true, not-false}
-use Rattle.checking.proofs.Marks.{NodesToTest, nodes-start, node-unmarked, node-marked, nodes-done}
-use mathlib.Core.Path.{ap}
-use mathlib.Core.Bool.{not}
+use Rattle.checking.proofs.Marks.{NodesToTest}
 use Rattle.checking.proofs.orphans.has_unmarked.Given as goal
 
 abbrev pub invariant-loop-node : goal.invariant-loop-node

@@ -1,6 +1,5 @@
 -- `has_bit` meets its contract: the bit is read as it is defined. Assumes nothing.
 use mathlib.Core.Path.{refl}
-use borrow.Author.Rules.{rules}
 use Rattle.checking.specs.Bits.{bit}
 use Rattle.checking.proofs.pairs.has_bit.Goals as goal
 

@@ -1,7 +1,6 @@
 -- `join_row` meets its contract: the bytes below i are joined. The measure is what is left of the row. Assumes nothing.
-use Prim.Native.Nat.{◌-◌, ◌≤◌}
 use borrow.Author.Rules.{rules}
-use Rattle.checking.proofs.Bits.{JoinedBelow, join_none, join_next, join_all}
+use Rattle.checking.proofs.Bits.{join_none, join_next, join_all}
 use Rattle.checking.proofs.pairs.join_row.Goals as goal
 
 pub loop-i-init : goal.loop-i-init

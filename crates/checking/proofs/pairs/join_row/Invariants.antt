@@ -1,6 +1,5 @@
 use Prim.Native.Nat.{◌-◌, ◌≤◌}
-use borrow.Author.Rules.{rules}
-use Rattle.checking.proofs.Bits.{JoinedBelow, join_none, join_next, join_all}
+use Rattle.checking.proofs.Bits.{JoinedBelow}
 use Rattle.checking.proofs.pairs.join_row.Given as goal
 
 abbrev pub invariant-loop-i : goal.invariant-loop-i

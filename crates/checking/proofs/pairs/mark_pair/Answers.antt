@@ -1,63 +1,54 @@
 -- `mark_pair` meets its contract: by the cases of its test. Assumes nothing.
--- what is known of the numbers
-use Prim.Native.Nat.{◌≤◌}
+use Prim.Native.Nat.{ℕ, ◌≤◌}
 use mathlib.Core.Path.{sym, ◌∙◌}
+use mathlib.Core.List.{List}
 use native.Mathlib.Omega.{arith}
-use borrow.Author.Rules.{rules}
+use Rattle.lexicon.specs.Lexicon.{node_count}
 use Rattle.graph.specs.Graph.{sink}
+use Rattle.checking.specs.Tables.{WithOffsets}
 use Rattle.checking.proofs.Masks.{few-vertices}
 use Rattle.checking.proofs.PairTable.{pair_unmet, pair_met}
 use Rattle.checking.proofs.pairs.mark_pair.Goals as goal
-use Rattle.checking.proofs.pairs.mark_pair.Tie as tie
-use Rattle.checking.proofs.pairs.mark_pair.Lts as lts
-use Rattle.checking.proofs.pairs.mark_pair.Reads as reads
 
-known : (c : lts.Start tie.the-claims reads.Pre reads.Post) → NodesThere c
+-- what is known of the numbers
+record NodesThere (u v : ℕ) : Type 0 where
+  u-node : u ≤ 400
+  v-node : v ≤ 400
+
+known : {x offsets : List ℕ} {u v : ℕ} → WithOffsets x offsets → u ≤ node_count x → v ≤ node_count x
+    → NodesThere u v
 unfolding sink
-known c =
-    let h = c.requires in
-    let f = few-vertices h.0 in
-    record { u-node = omega (arith, h.1); v-node = omega (arith, h.2) }
+known l h k = let f = few-vertices l in record { u-node = omega arith; v-node = omega arith }
 
 pub set_bit-requires : goal.set_bit-requires
 set_bit-requires c =
-    let s = c.before.before.before.before.before.before in
-    let k = known s in
-    omega (arith, s.requires.3, k.u-node, k.v-node)
+    let h = c.requires in
+    let k = known h.0 h.1 h.2 in
+    omega (arith, h.3, k.u-node, k.v-node)
 
 pub set_bit-requires-then-meets_mask : goal.set_bit-requires-then-meets_mask
 set_bit-requires-then-meets_mask c =
-    let d = c.before.before.before.before in
-    let s = d.before.before.before.before.before.before in
-    let k = known s in
-    omega (arith, s.requires.3, k.u-node, k.v-node, d.set_bit.auto.pairs)
+    let h = c.requires in
+    let k = known h.0 h.1 h.2 in
+    omega (arith, h.3, k.u-node, k.v-node, c.set_bit.auto.pairs)
 
 pub returns-then-meets_mask : goal.returns-then-meets_mask
 returns-then-meets_mask c =
-    let d = c.before.before.before in
-    let e = d.before.before.before.before in
-    let f = e.before.before in
-    pair_met _ (sym f.meets_mask.ensures ∙ f.if-meets_mask.true) e.set_bit.ensures d.set_bit-then-meets_mask.ensures
+    pair_met _ (sym c.meets_mask.ensures ∙ c.if-meets_mask.true) c.set_bit.ensures c.set_bit-then-meets_mask.ensures
 
 pub returns-else-meets_mask : goal.returns-else-meets_mask
 returns-else-meets_mask c =
     let a = c.args in
     pair_unmet _ a.pairs.now (sym c.meets_mask.ensures ∙ c.if-meets_mask.false)
 
-abbrev first : lts.After-set_bit-arg tie.the-claims reads.Pre reads.Post → lts.Start tie.the-claims reads.Pre reads.Post
-first c = c.before.before.before.before.before
-
-abbrev second : lts.After-set_bit-arg2 tie.the-claims reads.Pre reads.Post → lts.Start tie.the-claims reads.Pre reads.Post
-second c = c.before.before.before.before.before.before.before.before.before
-
 pub overflow_mul-u : goal.overflow_mul-u
-overflow_mul-u c = omega (arith, (known (first c.before)).u-node)
+overflow_mul-u c = let h = c.requires in omega (arith, (known h.0 h.1 h.2).u-node)
 
 pub overflow_add-u : goal.overflow_add-u
-overflow_add-u c = let k = known (first c.before) in omega (arith, k.u-node, k.v-node)
+overflow_add-u c = let h = c.requires in let k = known h.0 h.1 h.2 in omega (arith, k.u-node, k.v-node)
 
 pub overflow_mul-v : goal.overflow_mul-v
-overflow_mul-v c = omega (arith, (known (second c.before)).v-node)
+overflow_mul-v c = let h = c.requires in omega (arith, (known h.0 h.1 h.2).v-node)
 
 pub overflow_add-v : goal.overflow_add-v
-overflow_add-v c = let k = known (second c.before) in omega (arith, k.u-node, k.v-node)
+overflow_add-v c = let h = c.requires in let k = known h.0 h.1 h.2 in omega (arith, k.u-node, k.v-node)

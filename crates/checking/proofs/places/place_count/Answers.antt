@@ -1,13 +1,13 @@
 -- `places::place_count` meets its contract: before each node, the places of that node and of those above it are left. The measure is the nodes
 -- left. Assumes nothing.
-use Prim.Native.Nat.{◌+◌, ◌-◌, ◌≤◌, ◌<◌}
+use Prim.Native.Nat.{◌+◌, ◌≤◌, ◌<◌}
 use mathlib.Core.Path.{◌≡◌}
 use native.Mathlib.Omega.{arith}
 use lib.ListN.{get_or}
 use borrow.Author.Rules.{rules}
 use Rattle.lexicon.specs.Lexicon.{node_count}
 use Rattle.checking.proofs.Arcs.{nodes-there, shape_of}
-use Rattle.checking.proofs.Counting.{Images, PlacesLeft, NodeRead, formed, places-start, node-read, places-next, places-done}
+use Rattle.checking.proofs.Counting.{Images, NodeRead, formed, places-start, node-read, places-next, places-done}
 use Rattle.checking.proofs.places.place_count.Goals as goal
 use Rattle.checking.proofs.places.place_count.Tie as tie
 use Rattle.checking.proofs.places.place_count.Lts as lts
