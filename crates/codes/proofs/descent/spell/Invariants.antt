@@ -1,14 +1,5 @@
-use Prim.Native.Nat.{◌+◌, ◌-◌, ◌≤◌, ◌<◌}
-use mathlib.Core.Path.{◌≡◌}
-use native.Mathlib.Omega.{arith}
-use borrow.Author.Rules.{rules}
-use lib.ListN.{length}
-use Rattle.lexicon.specs.Lexicon.{node_count, sink_of, node_letter}
-use Rattle.graph.specs.Graph.{sink, word_count}
-use Rattle.checking.proofs.Arcs.{shape_of}
-use Rattle.checking.proofs.Filling.{count-there}
-use Rattle.codes.proofs.Words.{letter-inside}
-use Rattle.codes.proofs.Walks.{step-rises, LettersLeft, letters-start, letters_room, letters_next, letters_done}
+use Prim.Native.Nat.{◌-◌}
+use Rattle.codes.proofs.Walks.{LettersLeft}
 use Rattle.codes.proofs.descent.spell.Given as goal
 
 abbrev pub invariant-loop-vertex : goal.invariant-loop-vertex

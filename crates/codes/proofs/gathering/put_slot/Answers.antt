@@ -1,6 +1,6 @@
 -- `gathering::put_slot` meets its contract: the length of the word and the bytes passed of the 32 that it is spelled
 -- into stand from the offset on. The measure is the bytes left. Assumes nothing.
-use Prim.Native.Nat.{◌+◌, ◌-◌, ◌≤◌}
+use Prim.Native.Nat.{◌+◌, ◌≤◌}
 use mathlib.Core.Path.{◌≡◌, refl, ap, ◌∙◌}
 use native.Mathlib.Numerals.{add-one}
 use native.Mathlib.Omega.{arith}
@@ -9,9 +9,7 @@ use lib.ListN.{length, set, length-set}
 use lib.Seq.{paste, paste-zero, paste-suc, length-paste}
 use Rattle.codes.proofs.Slots.{slot-put}
 use Rattle.codes.proofs.gathering.put_slot.Goals as goal
-use Rattle.codes.proofs.gathering.put_slot.Tie as tie
-use Rattle.codes.proofs.gathering.put_slot.Lts as lts
-use Rattle.codes.proofs.gathering.put_slot.Reads as reads
+use Rattle.codes.proofs.gathering.put_slot.Goals.{At-loop-i}
 
 pub spell-n-requires : goal.spell-n-requires
 spell-n-requires c = let p = c.requires in record { spellable = p.spellable; code_bound = (p.code_bound.0, refl) }
@@ -31,54 +29,49 @@ pub bounds-letters-i : goal.bounds-letters-i
 bounds-letters-i c = c.loop-i-test.true
 
 -- what is left of the output's room
-room : (c : lts.At-loop tie.the-claims reads.Pre reads.Post goal.the-invariant-loop-i goal.the-decreases-loop-i tie.handed_clauses) →
+room : (c : At-loop-i) →
     let a = c.args in
     (a.at + 33 ≤ length a.out.now) × (length c.loop-i.out ≡ length a.out.now)
 room c =
-    let s = c.before.before.before.before.before in
-    let o = s.args.out.now in
-    let put = set o s.args.at c.spell-n.result in
-    let e = length-set o s.args.at c.spell-n.result in
+    let o = c.args.out.now in
+    let put = set o c.args.at c.spell-n.result in
+    let e = length-set o c.args.at c.spell-n.result in
     let l = c.spell-n.ensures.long in (
-      s.requires.code_bound.1,
+      c.requires.code_bound.1,
       ap length c.loop-i.invariant.1
-          ∙ length-paste put (s.args.at + 1) _ c.loop-i.i (omega (arith, s.requires.code_bound.1, c.loop-i.invariant.0))
+          ∙ length-paste put (c.args.at + 1) _ c.loop-i.i (omega (arith, c.requires.code_bound.1, c.loop-i.invariant.0))
           (omega (arith, c.loop-i.invariant.0))
           ∙ e,
     )
 
 pub loop-i-preserved : goal.loop-i-preserved
 loop-i-preserved c =
-    let l = c.before.before in
-    let s = l.before.before.before.before.before in
-    let o = s.args.out.now in
-    let e = length-set o s.args.at l.spell-n.result in
+    let o = c.args.out.now in
+    let e = length-set o c.args.at c.spell-n.result in
     let t = c.loop-i-test.true in (
       omega arith,
-      rw (l.loop-i.invariant.1, add-one l.loop-i.i)
-          (paste-suc (set o s.args.at l.spell-n.result) (s.args.at + 1) _ l.loop-i.i 0
-          (omega (arith, s.requires.code_bound.1)) (omega (arith, l.spell-n.ensures.long))),
+      rw (c.loop-i.invariant.1, add-one c.loop-i.i)
+          (paste-suc (set o c.args.at c.spell-n.result) (c.args.at + 1) _ c.loop-i.i 0
+          (omega (arith, c.requires.code_bound.1)) (omega (arith, c.spell-n.ensures.long))),
     )
 
 pub returns : goal.returns
 returns c =
-    let l = c.before.before in
-    let s = l.before.before.before.before.before in
-    let o = s.args.out.now in
-    let at = s.args.at in
-    let e : l.loop-i.i ≡ 32 = omega (arith, c.loop-i-test.false, l.loop-i.invariant.0) in
-    l.loop-i.invariant.1
-    ∙ ap (paste (set o at l.spell-n.result) (at + 1) _) e
-    ∙ slot-put o _ at (omega (arith, s.requires.code_bound.1)) l.spell-n.ensures
+    let o = c.args.out.now in
+    let at = c.args.at in
+    let e : c.loop-i.i ≡ 32 = omega (arith, c.loop-i-test.false, c.loop-i.invariant.0) in
+    c.loop-i.invariant.1
+    ∙ ap (paste (set o at c.spell-n.result) (at + 1) _) e
+    ∙ slot-put o _ at (omega (arith, c.requires.code_bound.1)) c.spell-n.ensures
 
 pub overflow_add-out : goal.overflow_add-out
-overflow_add-out c = let h = room c.before.before in search rules
+overflow_add-out c = let h = room (goal.at.overflow_add-out c).At-loop-i in search rules
 
 pub overflow_add-out-in-loop-i : goal.overflow_add-out-in-loop-i
-overflow_add-out-in-loop-i c = let h = room c.before.before in search rules
+overflow_add-out-in-loop-i c = let h = room (goal.at.overflow_add-out-in-loop-i c).At-loop-i in search rules
 
 pub bounds-out-at-in-loop-i : goal.bounds-out-at-in-loop-i
-bounds-out-at-in-loop-i c = let h = room c.before.before in search rules
+bounds-out-at-in-loop-i c = let h = room (goal.at.bounds-out-at-in-loop-i c).At-loop-i in search rules
 
 pub shape_of-out : goal.shape_of-out
-shape_of-out c = (room c.before.before).1
+shape_of-out c = (room (goal.at.shape_of-out c).At-loop-i).1

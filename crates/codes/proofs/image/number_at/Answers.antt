@@ -1,5 +1,4 @@
 -- `image::number_at` meets its contract. Assumes nothing.
-use borrow.Author.Rules.{rules}
 use Rattle.endian.specs.Bytes.{u16}
 use Rattle.codes.proofs.image.number_at.Goals as goal
 

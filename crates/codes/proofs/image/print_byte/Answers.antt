@@ -1,14 +1,14 @@
--- `image::print_byte` meets its contract: it reads the letter of the node, and the print byte of the letter. Assumes nothing.
+-- `image::print_byte` meets its contract: it reads the letter of the node, and the print byte of the letter. Assumes
+-- nothing.
 use Prim.Native.Nat.{◌+◌}
 use mathlib.Core.Path.{refl}
 use native.Mathlib.Omega.{arith}
-use borrow.Author.Rules.{rules}
 use Rattle.voice.specs.Voice.{print_byte}
 use Rattle.lexicon.specs.Lexicon.{node_letter}
 use Rattle.codes.proofs.image.print_byte.Goals as goal
 
 pub overflow_cast-letter : goal.overflow_cast-letter
-overflow_cast-letter c = omega (arith, c.shared_slice_known-1.given (1 + c.args.node))
+overflow_cast-letter c = omega (arith, c.type_inv.lexicon (1 + c.args.node))
 
 pub overflow_mul-result : goal.overflow_mul-result
 unfolding node_letter

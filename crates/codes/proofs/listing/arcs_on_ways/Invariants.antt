@@ -1,8 +1,5 @@
-use Prim.Native.Nat.{◌-◌, ◌≤◌, ◌<◌}
-use native.Mathlib.Omega.{arith}
-use borrow.Author.Rules.{rules}
-use Rattle.lexicon.specs.Lexicon.{sink_of, arc_count}
-use Rattle.codes.proofs.Totals.{Added, nodes, head, added_none, added_next, added_most, added_all}
+use Prim.Native.Nat.{◌-◌}
+use Rattle.codes.proofs.Totals.{Added}
 use Rattle.codes.proofs.listing.arcs_on_ways.Given as goal
 
 abbrev pub invariant-loop-arc : goal.invariant-loop-arc

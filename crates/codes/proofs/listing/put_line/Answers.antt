@@ -1,15 +1,13 @@
--- `listing::put_line` writes the line: before each letter those passed stand after what was there, and what follows is as it was. The measure is
--- what is left of the letters. Assumes nothing.
-use Prim.Native.Nat.{ℕ, ◌+◌, ◌-◌, ◌≤◌}
+-- `listing::put_line` writes the line: before each letter those passed stand after what was there, and what follows is
+-- as it was. The measure is what is left of the letters. Assumes nothing.
+use Prim.Native.Nat.{◌+◌}
 use mathlib.Core.Path.{◌≡◌, refl}
-use mathlib.Core.List.{List}
 use native.Mathlib.Nat.{add-zero}
 use native.Mathlib.Numerals.{add-one}
 use native.Mathlib.Omega.{arith}
 use borrow.Author.Rules.{rules}
-use lib.ListN.{length, take, length-set}
+use lib.ListN.{length-set}
 use lib.Seq.{take-suc}
-use Rattle.codes.specs.Lines.{Wrote}
 use Rattle.codes.proofs.Lines.{wrote_none, wrote-more}
 use Rattle.codes.proofs.listing.put_line.Goals as goal
 

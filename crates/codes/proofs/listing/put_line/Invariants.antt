@@ -1,15 +1,14 @@
 use Prim.Native.Nat.{ℕ, ◌+◌, ◌-◌, ◌≤◌}
-use mathlib.Core.Path.{◌≡◌, refl}
+use mathlib.Core.Path.{◌≡◌}
 use mathlib.Core.List.{List}
-use native.Mathlib.Nat.{add-zero}
-use native.Mathlib.Numerals.{add-one}
-use native.Mathlib.Omega.{arith}
-use borrow.Author.Rules.{rules}
-use lib.ListN.{length, take, length-set}
-use lib.Seq.{take-suc}
+use lib.ListN.{length, take}
 use Rattle.codes.specs.Lines.{Wrote}
-use Rattle.codes.proofs.Lines.{wrote_none, wrote-more}
 use Rattle.codes.proofs.listing.put_line.Given as goal
+
+pub record Copied (word : List ℕ) (letters at : ℕ) (out₀ out : List ℕ) (i : ℕ) : Type 0 where
+  pub inside : i ≤ letters
+  pub size : length out ≡ length out₀
+  pub wrote : Wrote (take i word) letters at word word out₀ out (at + i)
 
 abbrev pub invariant-loop-i : goal.invariant-loop-i
 invariant-loop-i l = Copied l.word l.letters l.at l.initial.out l.out l.i

@@ -1,7 +1,6 @@
 -- `image::put_number` meets its contract: it writes the number's two bytes. Assumes nothing.
 use native.Mathlib.Omega.{arith}
 use lib.ListN.{length-set}
-use borrow.Author.Rules.{rules}
 use Rattle.endian.proofs.Stores.{number_put}
 use Rattle.lookup.proofs.image.put_number.Goals as goal
 

@@ -1,128 +1,97 @@
 -- `image::put_prints` meets its contract: before each node those below it have their prints. The measure is the nodes
 -- left. Assumes nothing.
-use Prim.Native.Nat.{◌+◌, ◌-◌, ◌*◌, ◌≤◌, ◌<◌}
-use mathlib.Core.Path.{◌≡◌, refl}
+use Prim.Native.Nat.{ℕ, ◌+◌, ◌*◌, ◌≤◌, ◌<◌}
+use mathlib.Core.Path.{refl}
 use native.Mathlib.Omega.{arith}
+use mathlib.Core.List.{List}
 use lib.ListN.{length, get_or}
-use borrow.Author.Rules.{rules}
 use Rattle.voice.specs.Voice.{print_byte}
 use Rattle.lexicon.specs.Lexicon.{node_count, node_letter, sink_of}
+use Rattle.graph.specs.Checking.{Accepted}
 use Rattle.graph.proofs.Accepted.{accepted}
-use Rattle.checking.specs.Tables.{WellFormed}
 use Rattle.checking.proofs.Arcs.{shape_of}
 use Rattle.checking.proofs.Filling.{count-there}
 use Rattle.codes.specs.Steps.{Readable}
 use Rattle.codes.proofs.Words.{formed, readable}
-use Rattle.lookup.proofs.Prints.{PrintsBelow, table-countable, prints-start, prints-next, prints-done}
+use Rattle.lookup.proofs.Prints.{table-countable, prints-start, prints-next, prints-done}
 use Rattle.lookup.proofs.image.put_prints.Goals as goal
-use Rattle.lookup.proofs.image.put_prints.Tie as tie
-use Rattle.lookup.proofs.image.put_prints.Lts as lts
-use Rattle.lookup.proofs.image.put_prints.Reads as reads
+use Rattle.lookup.proofs.image.put_prints.Goals.{In-loop-node}
 
-formed : (s : lts.Start tie.the-claims reads.Pre reads.Post goal.the-invariant-loop-node goal.the-decreases-loop-node) → WellFormed s.args.lexicon.now
-formed s = formed (accepted s.requires.0)
+few : (v x : List ℕ) → Accepted v x → node_count x ≤ 400
+few v x p = (shape_of (formed (accepted p))).few
 
-abbrev Counted : Type 0
-Counted = lts.After-number_at tie.the-claims reads.Pre reads.Post goal.the-invariant-loop-node goal.the-decreases-loop-node
-
-nodes : (c : Counted) → c.number_at-nodes.result ≡ node_count c.args.lexicon.now
+-- the node of a turn is below 402, and its letter and that letter's print byte lie inside the images
+high : (c : In-loop-node) → c.loop-node.node ≤ node_count c.args.lexicon.now
 unfolding node_count
-nodes c = c.number_at-nodes.ensures.0
+high c = omega (arith, c.loop-node-test.true, c.number_at-nodes.ensures.0)
 
-few : (s : lts.Start tie.the-claims reads.Pre reads.Post goal.the-invariant-loop-node goal.the-decreases-loop-node) → node_count s.args.lexicon.now ≤ 400
-few s = (shape_of (formed s)).few
+row : (c : In-loop-node) → c.loop-node.node < 402
+row c = omega (arith, high c, few _ _ c.requires.0)
 
-abbrev Turn : Type 0
-Turn = lts.In-loop tie.the-claims reads.Pre reads.Post goal.the-invariant-loop-node goal.the-decreases-loop-node
-
-abbrev start : Turn → lts.Start tie.the-claims reads.Pre reads.Post goal.the-invariant-loop-node goal.the-decreases-loop-node
-start c = c.before.before.before.before.before
-
-high : (c : Turn) → c.loop-node.node ≤ node_count (start c).args.lexicon.now
-high c = omega (arith, c.loop-node-test.true, nodes c.before.before)
-
-there : (c : Turn) → Readable (start c).args.voice.now (start c).args.lexicon.now c.loop-node.node
+there : (c : In-loop-node) → Readable c.args.voice.now c.args.lexicon.now c.loop-node.node
 unfolding sink_of
-there c = readable (accepted (start c).requires.0) c.loop-node.invariant.low (omega (arith, high c))
+there c = readable (accepted c.requires.0) c.loop-node.invariant.low (omega (arith, high c))
 
-inside : (c : Turn) →
-    let a = (start c).args in 1 + 2 * get_or a.lexicon.now (1 + c.loop-node.node) 0 < length a.voice.now
+inside : (c : In-loop-node) → let a = c.args in 1 + 2 * get_or a.lexicon.now (1 + c.loop-node.node) 0 < length
+    a.voice.now
 unfolding node_letter
 inside c = (there c).print
-
-abbrev turn : lts.After-shared_slice_known4 tie.the-claims reads.Pre reads.Post goal.the-invariant-loop-node goal.the-decreases-loop-node → Turn
-turn c = c.before.before
-
-row : (c : Turn) → c.loop-node.node < 402
-row c = omega (arith, high c, few (start c))
-
-letter : (c : lts.After-shared_slice_known3 tie.the-claims reads.Pre reads.Post goal.the-invariant-loop-node goal.the-decreases-loop-node) →
-    get_or (start c.before).args.lexicon.now (1 + c.loop-node.node) 0 < 256
-letter c = omega (arith, c.shared_slice_known-in-loop-node-1.given (1 + c.loop-node.node))
 
 pub loop-node-preserved : goal.loop-node-preserved
 unfolding print_byte node_letter
 loop-node-preserved c =
-    let s = start (turn c.before) in
-    prints-next (turn c.before).loop-node.invariant (few s) _ (high (turn c.before)) refl
-    (omega (
-      arith,
-      c.shared_slice_known-in-loop-node-2-1.given
-          (1 + 2 * get_or s.args.lexicon.now (1 + (turn c.before).loop-node.node) 0),
-    ))
-
-last : (c : lts.After-loop tie.the-claims reads.Pre reads.Post goal.the-invariant-loop-node goal.the-decreases-loop-node) → c.loop-node.node < 402
-last c =
-    let s = c.before.before.before.before.before in omega (arith, c.loop-node.invariant.high, few s)
+    let a = c.args in
+    prints-next c.loop-node.invariant (few _ _ c.requires.0) _ (high (goal.at.loop-node-preserved c).In-loop-node) refl
+    (omega (arith, c.type_inv.voice (1 + 2 * get_or a.lexicon.now (1 + c.loop-node.node) 0)))
 
 pub returns : goal.returns
+unfolding node_count
 returns c =
-    let s = c.before.before.before.before.before.before in
-    prints-done c.loop-node.invariant (few s) 256 (omega (arith, c.loop-node-test.false, nodes c.before.before.before)) refl
-    (table-countable _ s.requires.0 s.requires.1)
+    prints-done c.loop-node.invariant (few _ _ c.requires.0) 256
+    (omega (arith, c.loop-node-test.false, c.number_at-nodes.ensures.0)) refl
+    (table-countable _ c.requires.0 c.requires.1)
 
 pub number_at-nodes-requires : goal.number_at-nodes-requires
-number_at-nodes-requires c = count-there (formed c.before.before.before)
+number_at-nodes-requires c = count-there (formed (accepted c.requires.0))
 
 pub loop-node-init : goal.loop-node-init
 loop-node-init c = prints-start _ c.requires.1
 
 pub overflow_add-letter : goal.overflow_add-letter
-overflow_add-letter c = omega (arith, row c.before)
+overflow_add-letter c = omega (arith, row (goal.at.overflow_add-letter c).In-loop-node)
 
 pub bounds-lexicon-node : goal.bounds-lexicon-node
-bounds-lexicon-node c = (there c.before.before).letter
+bounds-lexicon-node c = (there (goal.at.bounds-lexicon-node c).In-loop-node).letter
 
 pub overflow_cast-letter : goal.overflow_cast-letter
-overflow_cast-letter c = omega (arith, letter c.before)
+overflow_cast-letter c = omega (arith, c.type_inv.lexicon (1 + c.loop-node.node))
 
 pub overflow_mul-vertices : goal.overflow_mul-vertices
-overflow_mul-vertices c = omega (arith, letter c.before)
+overflow_mul-vertices c = omega (arith, c.type_inv.lexicon (1 + c.loop-node.node))
 
 pub overflow_add-vertices : goal.overflow_add-vertices
-overflow_add-vertices c = omega (arith, letter c.before)
+overflow_add-vertices c = omega (arith, c.type_inv.lexicon (1 + c.loop-node.node))
 
 pub bounds-voice-letter : goal.bounds-voice-letter
-bounds-voice-letter c = inside (turn c.before)
+bounds-voice-letter c = inside (goal.at.bounds-voice-letter c).In-loop-node
 
 pub overflow_cast-vertices : goal.overflow_cast-vertices
-overflow_cast-vertices c = omega (
-  arith,
-  c.shared_slice_known-in-loop-node-2-1.given
-      (1 + 2 * get_or (start (turn c.before)).args.lexicon.now (1 + (turn c.before).loop-node.node) 0),
-)
+overflow_cast-vertices c = omega (arith, c.type_inv.voice (1 + 2 * get_or c.args.lexicon.now (1 + c.loop-node.node) 0))
 
 pub offset_bounds-vertices-node : goal.offset_bounds-vertices-node
-offset_bounds-vertices-node c = omega (arith, row (turn c.before))
+offset_bounds-vertices-node c = omega (arith, row (goal.at.offset_bounds-vertices-node c).In-loop-node)
 
 pub bounds-vertices-node : goal.bounds-vertices-node
-bounds-vertices-node c = row (turn c.before)
+bounds-vertices-node c = row (goal.at.bounds-vertices-node c).In-loop-node
 
 pub overflow_add-node : goal.overflow_add-node
-overflow_add-node c = omega (arith, row (turn c.before))
+overflow_add-node c = omega (arith, row (goal.at.overflow_add-node c).In-loop-node)
 
 pub loop-node-smaller : goal.loop-node-smaller
-loop-node-smaller c = omega (arith, (turn c.before).loop-node-test.true)
+loop-node-smaller c = omega (arith, c.loop-node-test.true)
 
 pub offset_bounds-vertices-node-2 : goal.offset_bounds-vertices-node-2
-offset_bounds-vertices-node-2 c = omega (arith, last c.before)
+offset_bounds-vertices-node-2 c = omega (arith, c.loop-node.invariant.high, few _ _ c.requires.0)
+
+pub bounds-vertices-node-after-loop-node : goal.bounds-vertices-node-after-loop-node
+bounds-vertices-node-after-loop-node c = omega (arith, c.loop-node.invariant.high, few _ _ c.requires.0)

@@ -1,7 +1,6 @@
-use Prim.Native.Nat.{◌-◌, ◌<◌}
-use native.Mathlib.Omega.{arith}
-use lib.ListN.{length, get_or}
-use Rattle.lookup.proofs.Stock.{Counting, count-start, count-many, count_past, count_next, count-done}
+use Prim.Native.Nat.{◌-◌}
+use lib.ListN.{length}
+use Rattle.lookup.proofs.Stock.{Counting}
 use Rattle.lookup.proofs.items.count_items.Given as goal
 
 abbrev pub invariant-loop-at : goal.invariant-loop-at

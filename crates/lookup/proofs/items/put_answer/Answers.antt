@@ -1,7 +1,6 @@
 -- `items::put_answer` writes a code behind 0, or 0 behind the refusal's number. Assumes nothing.
 use mathlib.Core.Path.{sym, ap, ◌∙◌}
 use mathlib.Core.List.{◌++◌}
-use borrow.Author.Rules.{rules}
 use lib.Seq.{sets}
 use Rattle.endian.specs.Bytes.{u32_bytes}
 use Rattle.call.specs.Table.{answer_of}
@@ -11,19 +10,14 @@ use Rattle.lookup.proofs.items.put_answer.Goals as goal
 pub returns-in-Value : goal.returns-in-Value
 unfolding answer_bytes
 returns-in-Value c =
-    let put = c.before.before.before in
-    let told = put.before.before.before in
-    let a = told.args in
-    put.put_numbers.ensures
-    ∙ ap (λ r. sets a.out.now a.at (answer_bytes (answer_of r))) (sym told.answer.given.1)
+    let a = c.args in
+    c.put_numbers.ensures
+    ∙ ap (λ r. sets a.out.now a.at (answer_bytes (answer_of r))) (sym c.in-Value.is)
 
 pub returns-in-Refused : goal.returns-in-Refused
 unfolding answer_bytes
 returns-in-Refused c =
-    let put = c.before.before.before in
-    let n = put.before.before in
-    let told = n.before.before in
-    let a = told.args in
-    put.put_numbers-in-Refused.ensures
-    ∙ ap (λ k. sets a.out.now a.at (u32_bytes k ++ u32_bytes 0)) n.number-number.ensures
-    ∙ ap (λ r. sets a.out.now a.at (answer_bytes (answer_of r))) (sym told.answer-in-Refused-1.given.1)
+    let a = c.args in
+    c.put_numbers-in-Refused.ensures
+    ∙ ap (λ k. sets a.out.now a.at (u32_bytes k ++ u32_bytes 0)) c.number-number.ensures
+    ∙ ap (λ r. sets a.out.now a.at (answer_bytes (answer_of r))) (sym c.in-Refused.is)

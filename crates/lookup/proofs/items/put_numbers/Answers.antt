@@ -3,7 +3,6 @@ use Prim.Native.Nat.{ℕ, ◌+◌}
 use mathlib.Core.Path.{ap, ap₂, ◌∙◌}
 use mathlib.Core.List.{List}
 use native.Mathlib.Omega.{arith}
-use borrow.Author.Rules.{rules}
 use lib.ListN.{length}
 use lib.Seq.{sets}
 use Rattle.endian.specs.Bytes.{u32_bytes}
@@ -17,18 +16,15 @@ put_bytes-requires c = let h = c.requires in (omega arith, ap length c.u32_bytes
 pub put_bytes-requires-2 : goal.put_bytes-requires-2
 unfolding u32_bytes
 put_bytes-requires-2 c =
-    let p = c.before.before.before.before in
-    let h = p.requires in
-    (omega (arith, p.put_bytes.auto.out), ap length c.u32_bytes-2.ensures)
+    let h = c.requires in
+    (omega (arith, c.put_bytes.auto.out), ap length c.u32_bytes-2.ensures)
 
 pub returns : goal.returns
 unfolding u32_bytes
 returns c =
-    let q = c.before.before.before in
-    let p = q.before.before.before.before.before in
-    let a = p.args in
-    q.put_bytes-2.ensures
+    let a = c.args in
+    c.put_bytes-2.ensures
     ∙ ap₂ (λ (o b : List ℕ). sets o (a.at + 4) b)
-    (p.put_bytes.ensures ∙ ap (sets a.out.now a.at) p.u32_bytes.ensures)
-    q.u32_bytes-2.ensures
+    (c.put_bytes.ensures ∙ ap (sets a.out.now a.at) c.u32_bytes.ensures)
+    c.u32_bytes-2.ensures
     ∙ sets-append (u32_bytes a.refusal) (u32_bytes a.code) a.out.now a.at

@@ -1,10 +1,7 @@
-use Prim.Native.Nat.{◌≤◌}
-use mathlib.Core.Path.{◌≡◌, sym, ◌∙◌}
-use native.Mathlib.Omega.{arith}
+use mathlib.Core.Path.{◌≡◌}
 use lib.ListN.{length}
-use Rattle.endian.specs.Rows.{number_at}
 use Rattle.lookup.specs.Marks.{Chained}
-use Rattle.lookup.proofs.Chains.{counted, counted-falls, first_off, rest-chained, none-marked, zero-bytes}
+use Rattle.lookup.proofs.Chains.{counted}
 use Rattle.lookup.proofs.marks.clear_marks.Given as goal
 
 abbrev pub invariant-loop-pair : goal.invariant-loop-pair

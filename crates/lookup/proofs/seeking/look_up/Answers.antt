@@ -2,7 +2,6 @@
 -- Assumes nothing.
 use Prim.Native.Nat.{ℕ, ◌<◌}
 use native.Mathlib.Omega.{arith}
-use borrow.Author.Rules.{rules}
 use lib.ListN.{get_or}
 use Rattle.lookup.proofs.Tries.{low-bytes, found_number, none_number}
 use Rattle.lookup.proofs.Answers.{sought_long, sought_none, sought_found, root_few}
@@ -13,7 +12,8 @@ use Rattle.lookup.proofs.seeking.look_up.Reads as reads
 
 pub returns-then-word : goal.returns-then-word
 returns-then-word c =
-    let s = c.before.before.before.before.before in record { result_value = sought_long _ _ _ c.if-word.true; marks_after = s.requires.1 }
+    let s = c.before.before.before.before.before in
+    record { result_value = sought_long _ _ _ c.if-word.true; marks_after = s.requires.1 }
 
 pub seek-found-requires : goal.seek-found-requires
 seek-found-requires c =
@@ -41,11 +41,21 @@ pub returns-then-found : goal.returns-then-found
 returns-then-found c =
     let q = c.before.before in
     let s = start q in
-    let few = root_few s.pre.0 s.args.word.now (low-bytes s.args.word.now (low q) 0) in record { result_value = sought_none _ _ _ (left q).if-word.false (none_number _ few (sought q).seek-found.ensures.code_value c.if-found.true); marks_after = q.clear_marks.ensures }
+    let few = root_few s.requires.0 s.args.word.now (low-bytes s.args.word.now (low q) 0) in
+    record {
+      result_value = sought_none _ _ _ (left q).if-word.false
+          (none_number _ few (sought q).seek-found.ensures.code_value c.if-found.true);
+      marks_after = q.clear_marks.ensures;
+    }
 
 pub returns : goal.returns
 returns c =
-    let q = c.before.before in record { result_value = sought_found _ _ _ (left q).if-word.false (found_number _ (sought q).seek-found.ensures.code_value c.if-found.false); marks_after = q.clear_marks.ensures }
+    let q = c.before.before in
+    record {
+      result_value = sought_found _ _ _ (left q).if-word.false
+          (found_number _ (sought q).seek-found.ensures.code_value c.if-found.false);
+      marks_after = q.clear_marks.ensures;
+    }
 
 pub clear_marks-requires : goal.clear_marks-requires
 clear_marks-requires c = c.seek-found.ensures.marks_len

@@ -1,17 +1,16 @@
 -- `seeking::next_arc` meets its contract: an arc is passed that does not fit. The measure is what is left of the
 -- list. Assumes nothing.
-use Prim.Native.Nat.{ℕ, suc, ◌+◌, ◌*◌, ◌-◌, ◌≤◌, ◌<◌}
+use Prim.Native.Nat.{ℕ, suc, ◌+◌, ◌*◌, ◌≤◌, ◌<◌}
 use mathlib.Core.Path.{◌≡◌, refl, sym, ap, ◌∙◌}
-use mathlib.Core.List.{List, []}
+use mathlib.Core.List.{[]}
 use mathlib.Core.Option.{none, some}
 use native.Mathlib.Omega.{arith}
 use native.Mathlib.Decide.{ℕ_discrete}
 use native.Mathlib.Nat.{add-zero, add_assoc}
 use native.Mathlib.Numerals.{add-one}
-use borrow.Author.Rules.{rules}
 use lib.ListN.{length, get_or, drop}
 use Rattle.endian.specs.Bytes.{u16}
-use Rattle.lexicon.specs.Lexicon.{sink_of, arcs_at, arc_count}
+use Rattle.lexicon.specs.Lexicon.{sink_of, arc_count}
 use Rattle.graph.specs.Graph.{graph_of, sink, path_count}
 use Rattle.checking.specs.Tables.{WellFormed}
 use Rattle.checking.proofs.Arcs.{ListThere, ArcNext, has-entry}
@@ -25,15 +24,15 @@ use Rattle.lookup.proofs.Tries.{fits_not, fits-end, fits-letter, letter_left, wa
 use Rattle.lookup.proofs.Tries.{Trial, trial_of, tried_of, try_done, all-passed, passed-few, next, try_found}
 use Rattle.lookup.proofs.Tries.{try_next}
 use Rattle.lookup.proofs.seeking.next_arc.Goals as goal
+use Rattle.lookup.proofs.seeking.next_arc.Invariants.{stop_of}
 use Rattle.lookup.proofs.seeking.next_arc.Tie as tie
 use Rattle.lookup.proofs.seeking.next_arc.Lts as lts
 use Rattle.lookup.proofs.seeking.next_arc.Reads as reads
 
-abbrev stop_of : List ℕ → ℕ → ℕ
-stop_of x u = arcs_at x u + 2 + 2 * arc_count x u
-
 abbrev Start : Type 0
-Start = lts.Start tie.the-claims reads.Pre reads.Post goal.the-invariant-loop-at goal.the-decreases-loop-at tie.handed_clauses
+Start =
+    lts.Start tie.the-claims reads.Pre reads.Post goal.the-invariant-loop-at goal.the-decreases-loop-at
+    tie.handed_clauses
 
 asked : (s : Start) →
     let a = s.args in Trying a.lexicon.now a.vertices.now a.word.now a.i a.vertex a.first
@@ -48,17 +47,22 @@ unfolding sink_of
 vertex s = has-entry (formed s) (omega (arith, (asked s).vertex))
 
 abbrev Wanted : Type 0
-Wanted = lts.After-wanted_at tie.the-claims reads.Pre reads.Post goal.the-invariant-loop-at goal.the-decreases-loop-at tie.handed_clauses
+Wanted =
+    lts.After-wanted_at tie.the-claims reads.Pre reads.Post goal.the-invariant-loop-at goal.the-decreases-loop-at
+    tie.handed_clauses
 
 abbrev begun : Wanted → Start
 begun c = c.before.before.before
 
-there : (c : lts.After-start tie.the-claims reads.Pre reads.Post goal.the-invariant-loop-at goal.the-decreases-loop-at tie.handed_clauses) →
+there : (c : lts.After-start tie.the-claims reads.Pre reads.Post goal.the-invariant-loop-at goal.the-decreases-loop-at
+    tie.handed_clauses) →
     let a = (begun c.before).args in ListThere a.lexicon.now (get_or (get_or a.vertices.now a.vertex []) 0 0)
 there c = let s = begun c.before in list-of (asked s).table.countable.tabled (asked s).vertex
 
 abbrev Read : Type 0
-Read = lts.After-number_at tie.the-claims reads.Pre reads.Post goal.the-invariant-loop-at goal.the-decreases-loop-at tie.handed_clauses
+Read =
+    lts.After-number_at tie.the-claims reads.Pre reads.Post goal.the-invariant-loop-at goal.the-decreases-loop-at
+    tie.handed_clauses
 
 ended_at : (c : Read) →
     let a = (begun c.before.before).args in
@@ -77,7 +81,9 @@ stop_is c =
     rw (c.number_at.ensures.0, e) refl
 
 abbrev Turn : Type 0
-Turn = lts.In-loop tie.the-claims reads.Pre reads.Post goal.the-invariant-loop-at goal.the-decreases-loop-at tie.handed_clauses
+Turn =
+    lts.In-loop tie.the-claims reads.Pre reads.Post goal.the-invariant-loop-at goal.the-decreases-loop-at
+    tie.handed_clauses
 
 abbrev begin : Turn → Start
 begin c = begun c.before.before.before.before
@@ -109,7 +115,9 @@ low : (c : Turn) (j : ℕ) → get_or (begin c).args.word.now j 0 < 256
 low c j = omega (arith, (wanted c).shared_slice_known-2-1.given j)
 
 abbrev Led : Type 0
-Led = lts.After-number_at2 tie.the-claims reads.Pre reads.Post goal.the-invariant-loop-at goal.the-decreases-loop-at tie.handed_clauses
+Led =
+    lts.After-number_at2 tie.the-claims reads.Pre reads.Post goal.the-invariant-loop-at goal.the-decreases-loop-at
+    tie.handed_clauses
 
 led : (c : Led) → c.number_at-next.result ≡ u16 (begin c.before).args.lexicon.now c.loop-at.at
 led c = c.number_at-next.ensures.0
@@ -125,7 +133,8 @@ printed c =
     let s = begin c.before in rw (← led c) (column-at 2 c.number_at-next.result s.args.vertices.now)
 
 -- it prints what is wanted
-fits : (c : lts.Then1 tie.the-claims reads.Pre reads.Post goal.the-invariant-loop-at goal.the-decreases-loop-at tie.handed_clauses) →
+fits : (c : lts.Then1 tie.the-claims reads.Pre reads.Post goal.the-invariant-loop-at goal.the-decreases-loop-at
+    tie.handed_clauses) →
     let n = c.before.before in
     let a = (begin n.before).args in
     get_or (prints_column a.vertices.now) (u16 a.lexicon.now n.loop-at.at) 0
@@ -145,7 +154,9 @@ few c =
     )
 
 abbrev Fitting : Type 0
-Fitting = lts.Then1 tie.the-claims reads.Pre reads.Post goal.the-invariant-loop-at goal.the-decreases-loop-at tie.handed_clauses
+Fitting =
+    lts.Then1 tie.the-claims reads.Pre reads.Post goal.the-invariant-loop-at goal.the-decreases-loop-at
+    tie.handed_clauses
 
 abbrev turn : Fitting → Turn
 turn c = c.before.before.before
@@ -168,7 +179,7 @@ at-end c e k d =
     let by = fits-end _ g s.args.word.now s.args.i _ (fits c) (low t s.args.i) e in
     let rises : 1 ≤ onto c = omega (arith, led c.before.before, (arc t).rises) in
     ended rises (wanted_past s.args.word.now s.args.i (low t s.args.i) e)
-    (try_found (formed s) (asked s).vertex (t.loop-at.inv.0 k d) (before-stop t) by
+    (try_found (formed s) (asked s).vertex (t.loop-at.invariant.0 k d) (before-stop t) by
     ∙ ap some (add-zero (k + t.loop-at.passed)))
 
 module _ (c : Fitting)
@@ -228,10 +239,11 @@ returns-then-vertices-next c =
         | yes e ↦ at-end c.before e
         | no d ↦ at_node c.before d
       ];
-      first_le_at = (t.loop-at.inv.1, few t);
+      first_le_at = (t.loop-at.invariant.1, few t);
     }
 
-nowhere-by : (c : lts.Else1 tie.the-claims reads.Pre reads.Post goal.the-invariant-loop-at goal.the-decreases-loop-at tie.handed_clauses) →
+nowhere-by : (c : lts.Else1 tie.the-claims reads.Pre reads.Post goal.the-invariant-loop-at goal.the-decreases-loop-at
+    tie.handed_clauses) →
     let n = c.before.before in
     let a = (begin n.before).args in
     code_by (prints_column a.vertices.now) (graph_of a.lexicon.now) (drop a.i a.word.now)
@@ -277,7 +289,8 @@ loop-at-preserved c =
       omega (arith, t.loop-at.invariant.1),
     )
 
-stop-past : (c : lts.After-loop tie.the-claims reads.Pre reads.Post goal.the-invariant-loop-at goal.the-decreases-loop-at tie.handed_clauses) →
+stop-past : (c : lts.After-loop tie.the-claims reads.Pre reads.Post goal.the-invariant-loop-at
+    goal.the-decreases-loop-at tie.handed_clauses) →
     let a = (begun c.before.before.before.before).args in
     stop_of a.lexicon.now a.vertex ≤ c.loop-at.at
 stop-past c = omega (arith, c.loop-at-test.false, stop_is c.before.before)
@@ -289,7 +302,8 @@ returns c =
     let s = begun l.before.before.before in
     let own = l.loop-at.invariant.0 (asked s).passed (asked s).tried in
     let small = (asked s).table.countable.few {u = s.args.vertex} (omega (arith, (asked s).vertex)) in record {
-      by_index = (λ k d. nowhere refl (try_done (formed s) (asked s).vertex (l.loop-at.invariant.0 k d) (stop-past c.before))
+      by_index = (λ k d. nowhere refl
+          (try_done (formed s) (asked s).vertex (l.loop-at.invariant.0 k d) (stop-past c.before))
           (all-passed (formed s) (asked s).vertex (l.loop-at.invariant.0 k d) (stop-past c.before)));
       first_le_at = (l.loop-at.invariant.1, omega (arith, passed-few (formed s) (asked s).vertex own, small));
     }
@@ -340,3 +354,6 @@ overflow_add-at c = let n = c.before.before.before.before in omega (arith, insid
 
 pub loop-at-smaller : goal.loop-at-smaller
 loop-at-smaller c = let n = c.before.before.before.before in omega (arith, n.loop-at-test.true)
+
+pub bounds-vertices-next : goal.bounds-vertices-next
+bounds-vertices-next c = led-low c.before

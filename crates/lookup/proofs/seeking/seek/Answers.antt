@@ -6,7 +6,6 @@ use mathlib.Core.Path.{◌≡◌, refl, sym, ◌∙◌}
 use mathlib.Core.List.{[]}
 use mathlib.Core.Option.{none}
 use native.Mathlib.Omega.{arith}
-use borrow.Author.Rules.{rules}
 use Rattle.endian.specs.Rows.{number_at}
 use lib.ListN.{length, get_or, drop, length-set}
 use Rattle.lexicon.specs.Lexicon.{node_count, arcs_at, arc_count, sink_of}
@@ -21,7 +20,7 @@ use Rattle.lookup.proofs.Tries.{number-found, number-none}
 use Rattle.lookup.proofs.Answers.{unmarked, marks-start}
 use Rattle.lookup.proofs.Paths.{Going, going_start, going_found, going_nowhere, going_few, going_past}
 use Rattle.lookup.proofs.Paths.{going_down, going_up, came_from}
-use Rattle.lookup.proofs.Paths.{Up, vertex_of, free_of, steps_left, less_on, less_down, less_up}
+use Rattle.lookup.proofs.Paths.{Up, vertex_of, free_of, less_on, less_down, less_up}
 use Rattle.lookup.proofs.Paths.{led-nowhere, led-end, led-onward}
 use Rattle.lookup.proofs.seeking.seek.Goals as goal
 use Rattle.lookup.proofs.seeking.seek.Tie as tie
@@ -29,7 +28,9 @@ use Rattle.lookup.proofs.seeking.seek.Lts as lts
 use Rattle.lookup.proofs.seeking.seek.Reads as reads
 
 abbrev Start : Type 0
-Start = lts.Start tie.the-claims reads.Pre reads.Post goal.the-invariant-loop-arc goal.the-decreases-loop-arc tie.handed_clauses
+Start =
+    lts.Start tie.the-claims reads.Pre reads.Post goal.the-invariant-loop-arc goal.the-decreases-loop-arc
+    tie.handed_clauses
 
 asked : (s : Start) →
     let a = s.args in Seeking a.lexicon.now a.vertices.now a.word.now a.marks.now
@@ -48,10 +49,12 @@ stop-small s h =
     let small = (list-of t h).small in
     rw (arcs-of t h) at small
 
-abbrev begun : lts.After-at tie.the-claims reads.Pre reads.Post goal.the-invariant-loop-arc goal.the-decreases-loop-arc tie.handed_clauses → Start
+abbrev begun : lts.After-at tie.the-claims reads.Pre reads.Post goal.the-invariant-loop-arc
+    goal.the-decreases-loop-arc tie.handed_clauses → Start
 begun c = c.before.before.before.before
 
-root-small : (c : lts.After-at tie.the-claims reads.Pre reads.Post goal.the-invariant-loop-arc goal.the-decreases-loop-arc tie.handed_clauses) → get_or (get_or (begun c).args.vertices.now 0 []) 0 0 + 2 ≤ 9204
+root-small : (c : lts.After-at tie.the-claims reads.Pre reads.Post goal.the-invariant-loop-arc
+    goal.the-decreases-loop-arc tie.handed_clauses) → get_or (get_or (begun c).args.vertices.now 0 []) 0 0 + 2 ≤ 9204
 root-small c =
     let s = begun c in
     omega (arith, stop-small s {u = 0} (omega arith), arcs-of (asked s).table.countable.tabled {u = 0} (omega arith))
@@ -66,7 +69,9 @@ loop-arc-init c =
     )
 
 abbrev Turn : Type 0
-Turn = lts.At-loop tie.the-claims reads.Pre reads.Post goal.the-invariant-loop-arc goal.the-decreases-loop-arc tie.handed_clauses
+Turn =
+    lts.At-loop tie.the-claims reads.Pre reads.Post goal.the-invariant-loop-arc goal.the-decreases-loop-arc
+    tie.handed_clauses
 
 abbrev begin : Turn → Start
 begin c = begun c.before
@@ -104,7 +109,9 @@ next_arc-arc-requires c =
     }
 
 abbrev Led : Type 0
-Led = lts.After-next_arc tie.the-claims reads.Pre reads.Post goal.the-invariant-loop-arc goal.the-decreases-loop-arc tie.handed_clauses
+Led =
+    lts.After-next_arc tie.the-claims reads.Pre reads.Post goal.the-invariant-loop-arc goal.the-decreases-loop-arc
+    tie.handed_clauses
 
 abbrev turn : Led → Turn
 turn c = c.before
@@ -129,7 +136,9 @@ few c =
     )
 
 abbrev Back : Type 0
-Back = lts.Then1 tie.the-claims reads.Pre reads.Post goal.the-invariant-loop-arc goal.the-decreases-loop-arc tie.handed_clauses
+Back =
+    lts.Then1 tie.the-claims reads.Pre reads.Post goal.the-invariant-loop-arc goal.the-decreases-loop-arc
+    tie.handed_clauses
 
 abbrev from : Back → Led
 from c = c.before.before
@@ -149,10 +158,16 @@ pub set_mark-requires : goal.set_mark-requires
 set_mark-requires c =
     let t = turn (from c.before.before) in
     let s = begin t in
-    let m = (going t).marks in record { marks_len = (m.long, m.chained); le_pair = (omega arith, pair-low t, free_of (formed s) (asked s).short (going t)) }
+    let m = (going t).marks in
+    record {
+      marks_len = (m.long, m.chained);
+      le_pair = (omega arith, pair-low t, free_of (formed s) (asked s).short (going t));
+    }
 
 abbrev Marked : Type 0
-Marked = lts.After-set_mark tie.the-claims reads.Pre reads.Post goal.the-invariant-loop-arc goal.the-decreases-loop-arc tie.handed_clauses
+Marked =
+    lts.After-set_mark tie.the-claims reads.Pre reads.Post goal.the-invariant-loop-arc goal.the-decreases-loop-arc
+    tie.handed_clauses
 
 abbrev back : Marked → Back
 back c = c.before.before
@@ -170,10 +185,17 @@ pub returns-then-i-eq0 : goal.returns-then-i-eq0
 returns-then-i-eq0 c =
     let m = c.before.before.before.before in
     let t = marking m in
-    let s = begin t in record { code_value = number-none _ (going_nowhere (formed s) (asked s).short (going t) c.if-i-eq0.true (none-leads (back m)).0); marks_len = ((pair_put m).long ∙ (going t).marks.long, (pair_put m).chained) }
+    let s = begin t in
+    record {
+      code_value = number-none _
+          (going_nowhere (formed s) (asked s).short (going t) c.if-i-eq0.true (none-leads (back m)).0);
+      marks_len = ((pair_put m).long ∙ (going t).marks.long, (pair_put m).chained);
+    }
 
 abbrev Higher : Type 0
-Higher = lts.Else2 tie.the-claims reads.Pre reads.Post goal.the-invariant-loop-arc goal.the-decreases-loop-arc tie.handed_clauses
+Higher =
+    lts.Else2 tie.the-claims reads.Pre reads.Post goal.the-invariant-loop-arc goal.the-decreases-loop-arc
+    tie.handed_clauses
 
 abbrev marked : Higher → Marked
 marked c = c.before.before.before
@@ -222,7 +244,7 @@ loop-arc-preserved-then-next-eq0 c =
     let s = begin t in (
       going_up (formed s) (asked s).short t.loop-arc.i l.next_arc-arc.result.passed (going t) h.if-i-eq0.false
           (none-leads (back m)).0 (none-leads (back m)).1 (pair_put m),
-      t.loop-arc.inv.1,
+      t.loop-arc.invariant.1,
     )
 
 pub returns-then-i-word : goal.returns-then-i-word
@@ -236,7 +258,9 @@ returns-then-i-word c =
     }
 
 abbrev Down : Type 0
-Down = lts.Else3 tie.the-claims reads.Pre reads.Post goal.the-invariant-loop-arc goal.the-decreases-loop-arc tie.handed_clauses
+Down =
+    lts.Else3 tie.the-claims reads.Pre reads.Post goal.the-invariant-loop-arc goal.the-decreases-loop-arc
+    tie.handed_clauses
 
 abbrev down : Down → Led
 down c = c.before.before.before
@@ -256,22 +280,26 @@ next_low : (c : Down) → (down c).next_arc-arc.result.next < 402
 unfolding sink_of
 next_low c = has-entry (formed (begin (turn (down c)))) (omega (arith, (arc c).node))
 
-pair_there : (c : Down) → 2 * (1 + 402 * ((turn (down c)).loop-arc.i + 1) + (down c).next_arc-arc.result.next) + 2 ≤ 26534
+pair_there : (c : Down) → 2 * (1 + 402 * ((turn (down c)).loop-arc.i + 1) + (down c).next_arc-arc.result.next) + 2 ≤
+    26534
 pair_there c =
     let t = turn (down c) in
     omega (arith, (arc c).letter, (asked (begin t)).short, next_low c)
 
 abbrev Looked : Type 0
-Looked = lts.After-number_at tie.the-claims reads.Pre reads.Post goal.the-invariant-loop-arc goal.the-decreases-loop-arc tie.handed_clauses
+Looked =
+    lts.After-number_at tie.the-claims reads.Pre reads.Post goal.the-invariant-loop-arc goal.the-decreases-loop-arc
+    tie.handed_clauses
 
 abbrev fitting : Looked → Down
-fitting c = c.before.before
+fitting c = c.before
 
 -- the number of its pair
 -- ---- its pair is marked
 number : (c : Looked) →
     let l = down (fitting c) in
-    c.number_at.result ≡ number_at (turn l).loop-arc.marks (pair_of ((turn l).loop-arc.i + 1) l.next_arc-arc.result.next)
+    c.number_at.result ≡ number_at (turn l).loop-arc.marks
+    (pair_of ((turn l).loop-arc.i + 1) l.next_arc-arc.result.next)
 unfolding number_at
 number c = c.number_at.ensures.0
 
@@ -306,11 +334,13 @@ loop-arc-preserved-then-number_at-ne0 c =
     let s = begin t in (
       rw (count n) (going_past (formed s) (asked s).short (going t) l.next_arc-arc.result.passed (arc d)
           (λ z. m.if-number_at-ne0.true (number n ∙ z))),
-      t.loop-arc.inv.1,
+      t.loop-arc.invariant.1,
     )
 
 abbrev Deeper : Type 0
-Deeper = lts.Else4 tie.the-claims reads.Pre reads.Post goal.the-invariant-loop-arc goal.the-decreases-loop-arc tie.handed_clauses
+Deeper =
+    lts.Else4 tie.the-claims reads.Pre reads.Post goal.the-invariant-loop-arc goal.the-decreases-loop-arc
+    tie.handed_clauses
 
 abbrev by : Deeper → Down
 by c = fitting c.before
@@ -337,8 +367,8 @@ loop-arc-preserved c =
     let t = turn l in
     let s = begin t in (
       going_down (formed s) (asked s).short (going t) l.next_arc-arc.result.passed (arc d)
-          (sym (number e.before) ∙ e.if-number_at-ne0.false) t.loop-arc.inv.1 (next-list d),
-      length-set t.loop-arc.path t.loop-arc.i _ ∙ t.loop-arc.inv.1,
+          (sym (number e.before) ∙ e.if-number_at-ne0.false) t.loop-arc.invariant.1 (next-list d),
+      length-set t.loop-arc.path t.loop-arc.i _ ∙ t.loop-arc.invariant.1,
     )
 
 long : (c : Turn) → length (begin c).args.marks.now ≡ 26534
@@ -394,22 +424,22 @@ pub shape_of-marks-then-i-word : goal.shape_of-marks-then-i-word
 shape_of-marks-then-i-word c = let t = turn c.before.before.before.before in (going t).marks.long ∙ sym (long t)
 
 pub overflow_add-i : goal.overflow_add-i
-overflow_add-i c = omega (arith, pair_there c.before.before)
+overflow_add-i c = omega (arith, pair_there c.before)
 
 pub overflow_mul-i : goal.overflow_mul-i
-overflow_mul-i c = omega (arith, pair_there c.before.before)
+overflow_mul-i c = omega (arith, pair_there c.before)
 
 pub overflow_add-i-else-i-word : goal.overflow_add-i-else-i-word
-overflow_add-i-else-i-word c = omega (arith, pair_there c.before.before)
+overflow_add-i-else-i-word c = omega (arith, pair_there c.before)
 
 pub overflow_add-i-else-i-word-2 : goal.overflow_add-i-else-i-word-2
-overflow_add-i-else-i-word-2 c = omega (arith, pair_there c.before.before)
+overflow_add-i-else-i-word-2 c = omega (arith, pair_there c.before)
 
 pub overflow_mul-i-else-i-word : goal.overflow_mul-i-else-i-word
-overflow_mul-i-else-i-word c = omega (arith, pair_there c.before.before)
+overflow_mul-i-else-i-word c = omega (arith, pair_there c.before)
 
 pub number_at-requires : goal.number_at-requires
-number_at-requires c = omega (arith, pair_there c.before.before, (going (turn (down c.before.before))).marks.long)
+number_at-requires c = omega (arith, pair_there c.before, (going (turn (down c.before))).marks.long)
 
 pub offset_bounds-vertices-next : goal.offset_bounds-vertices-next
 offset_bounds-vertices-next c = omega (arith, next_low (fitting c.before.before))
@@ -418,7 +448,8 @@ pub bounds-vertices-next : goal.bounds-vertices-next
 bounds-vertices-next c = next_low (fitting c.before.before)
 
 pub overflow_add-code-then-number_at-ne0 : goal.overflow_add-code-then-number_at-ne0
-overflow_add-code-then-number_at-ne0 c = let n = c.before.before.before in omega (arith, few (down (fitting n)), count_small n)
+overflow_add-code-then-number_at-ne0 c =
+    let n = c.before.before.before in omega (arith, few (down (fitting n)), count_small n)
 
 pub overflow_add-at-then-number_at-ne0 : goal.overflow_add-at-then-number_at-ne0
 overflow_add-at-then-number_at-ne0 c = omega (arith, arc-small (fitting c.before.before.before.before))

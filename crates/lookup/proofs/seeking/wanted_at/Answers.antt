@@ -1,7 +1,6 @@
 -- `seeking::wanted_at` meets its contract. Assumes nothing.
 use mathlib.Core.Path.{refl}
 use native.Mathlib.Omega.{arith}
-use borrow.Author.Rules.{rules}
 use borrow.Author.Tests.{lt-ltb, le-ltb}
 use lib.ListN.{length}
 use Rattle.lookup.specs.Seeking.{wanted_at}
@@ -16,4 +15,4 @@ unfolding wanted_at
 returns c = let a = c.args in rw (le-ltb a.i (length a.word.now) c.if-i-word.false) refl
 
 pub overflow_cast-result : goal.overflow_cast-result
-overflow_cast-result c = omega (arith, c.shared_slice_known-1.given c.args.i)
+overflow_cast-result c = omega (arith, c.type_inv.word c.args.i)
