@@ -1,5 +1,6 @@
--- The call: it refuses as the search does, and else it writes what the search found, which fits and is the list of hits. Assumes nothing.
-use Prim.Native.Nat.{ℕ, ◌*◌, ◌≤◌}
+-- The call: it refuses as the search does, and else it writes what the search found, which fits and is the list of
+-- hits. Assumes nothing.
+use Prim.Native.Nat.{ℕ, ◌≤◌}
 use mathlib.Core.Path.{◌≡◌, ap, ◌∙◌}
 use mathlib.Core.List.{List, ◌++◌, Memᴰ}
 use native.Mathlib.Omega.{arith}
@@ -23,11 +24,13 @@ use Rattle.decoding.proofs.Listing.{Within, hits-held}
 module _ (v x frames work out : List ℕ) (n : ℕ) where
   -- ---- a refusal
 
-  pub decode_refused : {r : Refusal} → search_answer v x frames n work out ≡ refused r → decode_answer v x frames n work out ≡ refused r
+  pub decode_refused : {r : Refusal} → search_answer v x frames n work out ≡ refused r → decode_answer v x frames n
+      work out ≡ refused r
   unfolding search_answer decode_answer
   decode_refused e = refused_with {A = ℕ} (decode_rows v x frames n work out) 0 _ e
 
-  pub out-refused : {r : Refusal} → decode_answer v x frames n work out ≡ refused r → decode_out v x frames n work out ≡ out
+  pub out-refused : {r : Refusal} → decode_answer v x frames n work out ≡ refused r → decode_out v x frames n work out
+      ≡ out
   unfolding decode_out
   out-refused e = written-refused _ out e
 
@@ -40,9 +43,11 @@ module _ (v x frames work out : List ℕ) (n : ℕ) where
   module _ {k : ℕ} (e : search_answer v x frames n work out ≡ value k) where
     pub call-answer : decode_answer v x frames n work out ≡ value (length (hits v (graph_of x) frames n))
     unfolding search_answer decode_answer
-    call-answer = unless-value (decode_rows v x frames n work out) _ (value-passed {A = ℕ} (decode_rows v x frames n work out) 0 k e).0
+    call-answer = unless-value (decode_rows v x frames n work out) _
+        (value-passed {A = ℕ} (decode_rows v x frames n work out) 0 k e).0
 
-    pub call-out : hit_bytes (hits v (graph_of x) frames n) ++ drop (length (hit_bytes (hits v (graph_of x) frames n))) out ≡ decode_out v x frames n work out
+    pub call-out : hit_bytes (hits v (graph_of x) frames n) ++ drop
+        (length (hit_bytes (hits v (graph_of x) frames n))) out ≡ decode_out v x frames n work out
     unfolding decode_out written
     call-out = rw call-answer
 

@@ -1,4 +1,5 @@
--- Tokens and the hits that they say: each undoes the other; and the output while the hits are written, one after the other.
+-- Tokens and the hits that they say: each undoes the other; and the output while the hits are written, one after the
+-- other.
 -- Assumes nothing.
 use Prim.Native.Nat.{ℕ, zero, suc, ◌+◌, ◌-◌, ◌*◌, ◌/◌, ◌%◌, ◌<◌, ◌≤◌}
 use mathlib.Core.Path.{◌≡◌, refl, sym, ap, ap₂, ◌∙◌}
@@ -43,7 +44,8 @@ pub record Written (tokens out₀ out : List ℕ) (i : ℕ) : Type 0 where
 
 pub write_start : (tokens out : List ℕ) → Written tokens out out 0
 unfolding hit_bytes flat_map
-write_start tokens out = record { done = []; count = refl; inside = omega arith; split = refl; bytes = refl; long = refl }
+write_start tokens out =
+    record { done = []; count = refl; inside = omega arith; split = refl; bytes = refl; long = refl }
 
 module _ {tokens out₀ out : List ℕ} {i : ℕ} (l : Listable tokens out₀) (w : Written tokens out₀ out i) where
   -- no token: the list ends
@@ -58,9 +60,14 @@ module _ {tokens out₀ out : List ℕ} {i : ℕ} (l : Listable tokens out₀) (
 
   -- what is written then
   pub write_done : hits_of tokens ≡ w.done
-      → (out ≡ hit_bytes (hits_of tokens) ++ drop (length (hit_bytes (hits_of tokens))) out₀) × (i ≡ length (hits_of tokens))
+      → (out ≡ hit_bytes (hits_of tokens) ++ drop (length (hit_bytes (hits_of tokens))) out₀)
+      × (i ≡ length (hits_of tokens))
   write_done e =
-      rw e (w.bytes ∙ ap (λ n. hit_bytes w.done ++ drop n out₀) (sym (length-hit_bytes w.done ∙ ap (λ n. 8 * n) w.count)), sym w.count)
+      rw e (
+        w.bytes ∙ ap (λ n. hit_bytes w.done ++ drop n out₀)
+            (sym (length-hit_bytes w.done ∙ ap (λ n. 8 * n) w.count)),
+        sym w.count,
+      )
 
   module _ (h : i < length tokens) (n : ¬ (get_or tokens i 0 ≡ 0)) where
     next : hits_of tokens ≡ (w.done ++ (hit_of (get_or tokens i 0) ∷ [])) ++ hits_of (drop (suc i) tokens)
@@ -77,10 +84,12 @@ module _ {tokens out₀ out : List ℕ} {i : ℕ} (l : Listable tokens out₀) (
         ap length next ∙ length-append (w.done ++ (hit_of (get_or tokens i 0) ∷ [])) _
         ∙ rw (length-append w.done (hit_of (get_or tokens i 0) ∷ []), w.count) (omega arith) in
         let long : length out ≡ 8 * i + (length out₀ - 8 * i) =
-        ap length w.bytes ∙ length-append (hit_bytes w.done) (drop (8 * i) out₀) ∙ rw (length-hit_bytes w.done, w.count, length-drop) in
+        ap length w.bytes ∙ length-append (hit_bytes w.done) (drop (8 * i) out₀)
+        ∙ rw (length-hit_bytes w.done, w.count, length-drop) in
         omega (arith, all, long, l.room)
 
-    pub write_next : {out' : List ℕ} → out' ≡ sets out (8 * i) (bytes_of (hit_of (get_or tokens i 0))) → Written tokens out₀ out' (i + 1)
+    pub write_next : {out' : List ℕ} → out' ≡ sets out (8 * i) (bytes_of (hit_of (get_or tokens i 0)))
+        → Written tokens out₀ out' (i + 1)
     unfolding i32_bytes u32_bytes
     write_next {out'} e = rw add-one (record {
       done = w.done ++ (h' ∷ []);
@@ -88,7 +97,8 @@ module _ {tokens out₀ out : List ℕ} {i : ℕ} (l : Listable tokens out₀) (
       inside = omega arith;
       split = next;
       bytes =
-          e ∙ sets-eq (bytes_of h') out (8 * i) write_room ∙ ap₂ (λ a b. a ++ bytes_of h' ++ b) front back ∙ ap (λ a. a ++ drop (8 * suc i) out₀) whole;
+          e ∙ sets-eq (bytes_of h') out (8 * i) write_room ∙ ap₂ (λ a b. a ++ bytes_of h' ++ b) front back
+          ∙ ap (λ a. a ++ drop (8 * suc i) out₀) whole;
       long = ap length e ∙ length-sets out (8 * i) (bytes_of h') ∙ w.long;
     })
       where
@@ -108,7 +118,8 @@ module _ {tokens out₀ out : List ℕ} {i : ℕ} (l : Listable tokens out₀) (
             let e : 8 * i + 8 ≡ length (hit_bytes w.done) + 8 = omega (arith, long) in
             let f : 8 * i + 8 ≡ 8 * suc i = omega arith in
             ap (drop (8 * i + 8)) w.bytes ∙ ap (λ n. drop n (hit_bytes w.done ++ drop (8 * i) out₀)) e
-            ∙ drop-append-add (hit_bytes w.done) (drop (8 * i) out₀) 8 ∙ drop-drop 8 (8 * i) out₀ ∙ ap (λ n. drop n out₀) f
+            ∙ drop-append-add (hit_bytes w.done) (drop (8 * i) out₀) 8 ∙ drop-drop 8 (8 * i) out₀
+            ∙ ap (λ n. drop n out₀) f
 
         one : hit_bytes (h' ∷ []) ≡ bytes_of h'
         one = unfold hit_bytes flat_map in append-nil (bytes_of h')
@@ -150,4 +161,5 @@ hits-held zero (h ∷ l) k s = absurd (omega arith)
 hits-held (suc n) [] k s = refl
 hits-held (suc n) (h ∷ l) k s =
     let t = s h (here refl) in
-    rw (ne_eqb (token_of h) 0 (token_there h t)) (ap₂ ◌∷◌ (token_says h t) (hits-held n l (omega arith) (λ g m. s g (there m))))
+    rw (ne_eqb (token_of h) 0 (token_there h t))
+    (ap₂ ◌∷◌ (token_says h t) (hits-held n l (omega arith) (λ g m. s g (there m))))

@@ -32,7 +32,8 @@ fn put_hit(out: &mut [u8], at: usize, token: Token)
 // Writes the hits of a list of tokens, up to no token, and answers how many; the bytes after them keep their values.
 pub(crate) fn put_hits(tokens: &[u64; 8], out: &mut [u8]) -> u32
     requires { Listable tokens.now out.old }
-    ensures out_after { out.new ≡ hit_bytes (hits_of tokens.now) ++ drop (length (hit_bytes (hits_of tokens.now))) out.old }
+    ensures out_after { out.new ≡ hit_bytes (hits_of tokens.now) ++ drop (length (hit_bytes (hits_of tokens.now)))
+        out.old }
     ensures value { result ≡ length (hits_of tokens.now) }
 {
     let mut i = 0;

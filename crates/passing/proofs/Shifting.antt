@@ -10,7 +10,7 @@ use lib.IntN.{ℤ, ◌+ℤ◌}
 use lib.ListN.{take}
 use Rattle.endian.proofs.Integers.{ints, sum}
 use Rattle.endian.proofs.Pairs.{none, next}
-use Rattle.ranking.specs.Hits.{Hit, ◌≻◌, higher, tied, outranks}
+use Rattle.ranking.specs.Hits.{Hit, ◌≻◌, higher, tied}
 use Rattle.ranking.proofs.Hits.{outranks-is}
 use Rattle.passing.specs.Best.{Ranking, insert, row_of, best, by_code, shift}
 use Rattle.passing.proofs.Order.{◌∈◌, Strict, by-test, asym, hits_strict}

@@ -45,7 +45,8 @@ part-zeroed : (m : ℕ) (b w ys zs : List ℕ) → b ≡ cleared w → m ≤ 640
 part-zeroed m b w ys zs e k h long z =
     let front : take m b ≡ replicate m 0 = rw e (cleared-front m w k h) in
     let zeros : zs ≡ take m b =
-    z ∙ ap (λ l. replicate {A = ℕ} (length l) 0) (take_at ys (drop m b) m long) ∙ ap (λ (i : ℕ). replicate {A = ℕ} i 0) long ∙ sym front in
+    z ∙ ap (λ l. replicate {A = ℕ} (length l) 0) (take_at ys (drop m b) m long)
+    ∙ ap (λ (i : ℕ). replicate {A = ℕ} i 0) long ∙ sym front in
     ap (λ l. zs ++ l) (drop_at ys (drop m b) m long) ∙ ap (λ l. l ++ drop m b) zeros ∙ take-append-drop m b ∙ e
 
 -- ---- after checking

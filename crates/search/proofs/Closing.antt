@@ -8,27 +8,22 @@ use mathlib.Core.List.{List, [], ◌∷◌, ◌++◌, map, append-nil, Memᴰ}
 use mathlib.Core.List.Memᴰ.{append_right as in_right}
 use mathlib.Core.List.Memᴰ.{not-nil}
 use native.Mathlib.Omega.{arith}
-use native.Mathlib.Nat.{mul-add}
 use borrow.Author.Tests.{ne_eqb}
 use lib.Dec.{eqb}
 use lib.IntN.{pos}
-use lib.ListN.{length, get_or}
 use Rattle.endian.specs.Bytes.{u16}
 use Rattle.endian.specs.Lists.{sum, has}
 use Rattle.endian.proofs.Integers.{size-sum}
 use Rattle.endian.proofs.Lists.{mem-has}
 use Rattle.endian.proofs.Search.{has-mem}
-use Rattle.voice.specs.Voice.{letter_count, states}
-use Rattle.voice.proofs.Letters.{states-range, states_there}
-use Rattle.voice.proofs.Scores.{letters-few}
-use Rattle.lexicon.specs.Lexicon.{node_count, node_letter, sink_of, successors}
-use Rattle.lexicon.proofs.WellFormed.{letter_known}
+use Rattle.voice.specs.Voice.{letter_count}
+use Rattle.lexicon.specs.Lexicon.{node_count, sink_of, successors}
 use Rattle.graph.specs.Graph.{graph_of, sink, path_count, increment}
 use Rattle.graph.proofs.Sound.{Sound}
 use Rattle.graph.proofs.Accepted.{AcceptedImages, accepted, sound-images, words-limit}
 use Rattle.graph.proofs.Codes.{path_count-sink, path_count-below, arc-count}
 use Rattle.checking.specs.Tables.{WellFormed}
-use Rattle.checking.proofs.Arcs.{shape_of, sound_of, nodes-there, ArcNext, arc-next, arcs-done}
+use Rattle.checking.proofs.Arcs.{sound_of, ArcNext, arc-next, arcs-done}
 use Rattle.checking.proofs.Increments.{CountsPassed, counts_start, split-here, increment-here, counts-below}
 use Rattle.checking.proofs.Increments.{counts-next}
 use Rattle.checking.proofs.Reached.{count_within_words}
@@ -36,10 +31,10 @@ use Rattle.ranking.specs.Hits.{Hit}
 use Rattle.decoder.specs.Score.{raised}
 use Rattle.passing.specs.Best.{shift}
 use Rattle.passing.specs.Tokens.{best_tokens, last_state, final_score, carried, ending}
-use Rattle.storing.specs.Slots.{slots, offered, PlaceRoom, Offer}
+use Rattle.storing.specs.Slots.{slots, offered, Offer}
 use Rattle.storing.specs.Held.{held, Storable, up_of, lift, down_of}
-use Rattle.storing.specs.Places.{first_place, arcs_in, paths_in, first_in}
-use Rattle.storing.specs.Stored.{VertexTable, StoreRoom, Place}
+use Rattle.storing.specs.Places.{arcs_in, paths_in, first_in}
+use Rattle.storing.specs.Stored.{VertexTable}
 use Rattle.storing.proofs.Slots.{length-slots}
 use Rattle.storing.proofs.Lending.{take-slots}
 use Rattle.storing.proofs.Held.{Moves}
@@ -59,7 +54,8 @@ unfolding has
 has_more a [] y h n = rw (ne_eqb a y n)
 has_more a (z ∷ l) y h n = go (eqb a z) h (has_more a l y)
   where
-    go : (t : Bool) → t || has a l ≡ false → (has a l ≡ false → ¬ (a ≡ y) → has a (l ++ (y ∷ [])) ≡ false) → t || has a (l ++ (y ∷ [])) ≡ false
+    go : (t : Bool) → t || has a l ≡ false → (has a l ≡ false → ¬ (a ≡ y) → has a (l ++ (y ∷ [])) ≡ false)
+        → t || has a (l ++ (y ∷ [])) ≡ false
     go true e ih = e
     go false e ih = ih e n
 
@@ -93,12 +89,16 @@ module _ {x : List ℕ} {vertices : List (List ℕ)} (a : Arcs x vertices) {w : 
           let member : Memᴰ (u16 x at) (successors x w) =
           rw (split-here formed h p.counts ahead-arc) (in_right p.counts.earlier (here refl)) in
           let m : Memᴰ (suc (node_count x)) (successors x w) = rw e at member in
-          record { there = λ t. rw e at (increment-here formed h p.counts ahead-arc); none = λ f. absurd (true≢false (sym (mem-has m) ∙ f)) }
+          record {
+            there = λ t. rw e at (increment-here formed h p.counts ahead-arc);
+            none = λ f. absurd (true≢false (sym (mem-has m) ∙ f));
+          }
 
       pub ahead_below : total + path_count (graph_of x) (u16 x at) ≤ path_count (graph_of x) w
       ahead_below = counts-below formed h p.counts ahead-arc
 
-      pub ahead_next : ¬ (u16 x at ≡ sink_of x) → EndAhead x w (at + 2) stop (total + path_count (graph_of x) (u16 x at))
+      pub ahead_next : ¬ (u16 x at ≡ sink_of x) → EndAhead x w (at + 2) stop
+          (total + path_count (graph_of x) (u16 x at))
       unfolding counts-next
       ahead_next n = record {
         counts = counts-next formed h p.counts ahead-arc;
@@ -108,11 +108,13 @@ module _ {x : List ℕ} {vertices : List (List ℕ)} (a : Arcs x vertices) {w : 
     pub ahead_done : stop ≤ at → LastArc (graph_of x) w total
     unfolding sink sink_of
     ahead_done l =
-        let e : successors x w ≡ p.counts.earlier = p.counts.split ∙ rw (arcs-done p.counts.arcs l) (append-nil p.counts.earlier) in
+        let e : successors x w ≡ p.counts.earlier =
+        p.counts.split ∙ rw (arcs-done p.counts.arcs l) (append-nil p.counts.earlier) in
         let f : has (suc (node_count x)) (successors x w) ≡ false = rw e p.none_yet in
         record {
           there = λ t. absurd (true≢false (sym t ∙ f));
-          none = λ f. p.counts.total_is ∙ ap (λ l. sum (map (path_count (graph_of x)) l)) (sym e) ∙ sym (path_count-below (sound_of formed) below);
+          none = λ f. p.counts.total_is ∙ ap (λ l. sum (map (path_count (graph_of x)) l)) (sym e)
+              ∙ sym (path_count-below (sound_of formed) below);
         }
 
 -- ---- a node's arcs
@@ -127,7 +129,11 @@ module _ {v x : List ℕ} {n : ℕ} {vertices : List (List ℕ)} (r : VertexTabl
     formed = record { letters = letter_count v; judged = images.lexicon };
     begin = r.arcs;
     paths = r.paths;
-    few = λ {u} h. omega (arith, count_within_words (sound-images images) images.all_reached {u = u} (omega arith), words-limit images);
+    few = λ {u} h. omega (
+      arith,
+      count_within_words (sound-images images) images.all_reached {u = u} (omega arith),
+      words-limit images,
+    );
   }
 
 -- ---- its tokens are candidates for the list
@@ -167,7 +173,13 @@ module _ {x : List ℕ} {n : ℕ} {vertices : List (List ℕ)} {w : ℕ} {b list
     where
       go : (t : Bool) → has (sink (graph_of x)) (successors x w) ≡ t → has (sink (graph_of x)) (successors x w) ≡ false
       go false p = p
-      go true p = absurd (omega (arith, a.there p, own, arc-count graph-ok under (has-mem (successors x w) p), path_count-sink graph-ok))
+      go true p = absurd (omega (
+        arith,
+        a.there p,
+        own,
+        arc-count graph-ok under (has-mem (successors x w) p),
+        path_count-sink graph-ok,
+      ))
 
   pub end-there : {d : ℕ} → LastArc (graph_of x) w d → ¬ (d ≡ paths_in vertices w)
       → has (sink (graph_of x)) (successors x w) ≡ true
@@ -189,14 +201,22 @@ module _ {x : List ℕ} {n : ℕ} {vertices : List (List ℕ)} {w : ℕ} {b list
   keeps : best_tokens n last-tokens ≡ last-tokens
   keeps = e.stored.kept end-at.place
 
-  module _ (t : has (sink (graph_of x)) (successors x w) ≡ true) {d : ℕ} (q : d ≡ increment (graph_of x) w (sink (graph_of x))) where
+  module _ (t : has (sink (graph_of x)) (successors x w) ≡ true) {d : ℕ}
+      (q : d ≡ increment (graph_of x) w (sink (graph_of x))) where
     end_to : (h : Hit) → Memᴰ h last-tokens → Storable (shift (pos 0) d h)
     unfolding shift
     end_to h i =
         let B = e.bound end-at.place i in
         record {
           score = omega (arith, B.score, size-sum h.score (pos 0));
-          code = omega (arith, B.code, words-limit (images e.ready), arc-count graph-ok under (has-mem (successors x w) t), q);
+          code = omega (
+            arith,
+            B.code,
+            words-limit (images e.ready),
+            arc-count graph-ok under
+                (has-mem (successors x w) t),
+            q,
+          );
         }
 
     end_moves : Moves (pos 0) d (best_tokens n last-tokens)
@@ -234,6 +254,8 @@ module _ {x : List ℕ} {n : ℕ} {vertices : List (List ℕ)} {w : ℕ} {b list
     where
       go : (t : Bool) → has (sink (graph_of x)) (successors x w) ≡ t → Storable h
       go true t =
-          let u = mathlib.Core.List.Memᴰ.of_map (shift (pos 0) (increment (graph_of x) w (sink (graph_of x)))) last-tokens (rw (ends_so t refl) at i) in
+          let u =
+          mathlib.Core.List.Memᴰ.of_map (shift (pos 0) (increment (graph_of x) w (sink (graph_of x)))) last-tokens
+          (rw (ends_so t refl) at i) in
           rw (← u.2) (end_to t refl u.0 u.1)
       go false t = absurd (not-nil (rw t at i))

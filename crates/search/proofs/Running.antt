@@ -63,7 +63,8 @@ none-best n = take-nil n
 module _ (v frames : List ℕ) (h : AcceptedFrames v frames) where
   tests : (bad_frame_count (length frames) ≡ false) × (any (λ k. leb (symbol_count v) k) frames ≡ false)
   unfolding frame_rows
-  tests = or-none (bad_frame_count (length frames)) (any (λ k. leb (symbol_count v) k) frames) (none-says (frame_rows v frames) h).0
+  tests = or-none (bad_frame_count (length frames)) (any (λ k. leb (symbol_count v) k) frames)
+      (none-says (frame_rows v frames) h).0
 
   pub frame_count : (1 ≤ length frames) × (length frames ≤ 1000)
   unfolding bad_frame_count
@@ -73,10 +74,13 @@ module _ (v frames : List ℕ) (h : AcceptedFrames v frames) where
   unfolding any
   symbol_known i l = go frames tests.1 i l
     where
-      go : (l : List ℕ) → any (λ k. leb (symbol_count v) k) l ≡ false → (i : ℕ) → i < length l → get_or l i 0 < symbol_count v
+      go : (l : List ℕ) → any (λ k. leb (symbol_count v) k) l ≡ false → (i : ℕ) → i < length l
+          → get_or l i 0 < symbol_count v
       go [] e i k = absurd (omega arith)
-      go (y ∷ l) e zero k = leb-false (symbol_count v) y (or-none (leb (symbol_count v) y) (any (λ k. leb (symbol_count v) k) l) e).0
-      go (y ∷ l) e (suc i) k = go l (or-none (leb (symbol_count v) y) (any (λ k. leb (symbol_count v) k) l) e).1 i (omega arith)
+      go (y ∷ l) e zero k = leb-false (symbol_count v) y
+          (or-none (leb (symbol_count v) y) (any (λ k. leb (symbol_count v) k) l) e).0
+      go (y ∷ l) e (suc i) k = go l (or-none (leb (symbol_count v) y) (any (λ k. leb (symbol_count v) k) l) e).1 i
+          (omega arith)
 
 module _ {v x frames : List ℕ} {n : ℕ} {vertices : List (List ℕ)} {b : List ℕ} (r : Run v x frames n vertices b) where
   pub sound-run : Sound (graph_of x)
@@ -154,7 +158,8 @@ module _ {v x frames : List ℕ} {n : ℕ} {vertices : List (List ℕ)} {b₀ : 
     Q = tokens v (graph_of x) frames n t;
     stored = s;
     within = record {
-      old = λ {u} {s} p l i. let B = token_bounded v (sound-run r) frames n t u s i in record { score = B.score; code = B.code };
+      old = λ {u} {s} p l i. let B = token_bounded v (sound-run r) frames n t u s i in record
+          { score = B.score; code = B.code };
       new = λ p l i. absurd (omega (arith, p.high));
     };
     left = refl;
@@ -163,7 +168,8 @@ module _ {v x frames : List ℕ} {n : ℕ} {vertices : List (List ℕ)} {b₀ : 
   })
 
   one-turn : (m : ℕ) (Q : Store) → 1 ≤ m
-      → pass_down v (graph_of x) n (get_or frames (suc t) 0) (m - 1) (pass_node v (graph_of x) n (get_or frames (suc t) 0) m Q)
+      → pass_down v (graph_of x) n (get_or frames (suc t) 0) (m - 1)
+      (pass_node v (graph_of x) n (get_or frames (suc t) 0) m Q)
       ≡ pass_down v (graph_of x) n (get_or frames (suc t) 0) m Q
   unfolding pass_down
   one-turn zero Q h = absurd (omega arith)
@@ -206,9 +212,11 @@ module _ {v x frames : List ℕ} {n : ℕ} {vertices : List (List ℕ)} {b₀ : 
   unfolding pass_down
   turns-done {m} h d =
       let z : m ≡ 0 = omega arith in
-      let e : pass_down v (graph_of x) n (get_or frames (suc t) 0) 0 d.Q ≡ pass_down v (graph_of x) n (get_or frames (suc t) 0) (node_count x) (tokens v (graph_of x) frames n t) =
+      let e : pass_down v (graph_of x) n (get_or frames (suc t) 0) 0 d.Q ≡ pass_down v (graph_of x) n
+      (get_or frames (suc t) 0) (node_count x) (tokens v (graph_of x) frames n t) =
       ap (λ j. pass_down v (graph_of x) n (get_or frames (suc t) 0) j d.Q) (sym z) ∙ d.left in
-      stored_ext d.stored (λ u s p. sym (ap (λ (P : Store). P u s) e ∙ next_frame v (sound-run r) frames n u s t p.low p.high p.state))
+      stored_ext d.stored (λ u s p. sym (ap (λ (P : Store). P u s) e ∙ next_frame v (sound-run r) frames n u s t p.low
+      p.high p.state))
 
 -- ---- one frame
 
@@ -284,7 +292,8 @@ module _ {v x frames : List ℕ} {c : Numbers} {letters gains vertices : List (L
   -- the next one, once its tables are made
   unfoldable pub frame_of : {t : ℕ} {gains' vertices' : List (List ℕ)} {links : List ℕ} → AcceptedFrames v frames
       → StoreRoom v x c.n b → t < length frames → CallNumbers v x c letters → LinkTable v (letter_count v) links
-      → FramesDone v x frames t c letters gains vertices b → FrameTables v x (get_or frames t 0) c letters gains' vertices'
+      → FramesDone v x frames t c letters gains vertices b → FrameTables v x (get_or frames t 0) c letters gains'
+      vertices'
       → Frame v x t c.n c.nodes vertices' gains' links b
   frame_of a r h numbers linked d g = record {
     frames = frames;

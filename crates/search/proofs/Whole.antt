@@ -58,7 +58,8 @@ ends-start v x frames n m e = rw e (record {
 
 module _ {v x frames : List ℕ} {n : ℕ} {vertices : List (List ℕ)} {b : List ℕ} (r : Run v x frames n vertices b)
     (h : StoredAt v x frames n (length frames - 1) b) where
-  pub last-bound : {u s : ℕ} {i : Hit} → Place v (graph_of x) u s → Memᴰ i (tokens v (graph_of x) frames n (length frames - 1) u s)
+  pub last-bound : {u s : ℕ} {i : Hit} → Place v (graph_of x) u s
+      → Memᴰ i (tokens v (graph_of x) frames n (length frames - 1) u s)
       → Bound (graph_of x) reach u i
   last-bound {u} {s} p j =
       let B = token_bounded v (sound-run r) frames n (length frames - 1) u s j in
@@ -86,7 +87,8 @@ module _ {v x frames : List ℕ} {n : ℕ} {vertices : List (List ℕ)} {b : Lis
     one_end f zero l = absurd (omega arith)
     one_end f (suc m) l = let e : suc m - 1 ≡ m = omega arith in rw e
 
-    pub ends_next : {list' : List ℕ} → length list' ≡ length list → Ended next_end list' → EndsLeft v x frames n (m - 1) list'
+    pub ends_next : {list' : List ℕ} → length list' ≡ length list → Ended next_end list'
+        → EndsLeft v x frames n (m - 1) list'
     unfolding next_end
     ends_next l e =
         let f = ending v (graph_of x) (tokens v (graph_of x) frames n (length frames - 1)) in
@@ -94,7 +96,8 @@ module _ {v x frames : List ℕ} {n : ℕ} {vertices : List (List ℕ)} {b : Lis
           s = d.s ++ f m;
           holds = e.holds;
           storable = λ i j. ⊎_elim (d.storable i) (end_storable next_end i) (append_cases d.s j);
-          left = append_assoc d.s (f m) (flat_map f (down_from (m - 1))) ∙ ap (λ q. d.s ++ q) (sym (one_end f m k)) ∙ d.left;
+          left = append_assoc d.s (f m) (flat_map f (down_from (m - 1))) ∙ ap (λ q. d.s ++ q) (sym (one_end f m k))
+              ∙ d.left;
           low = omega (arith, d.low);
           long = l ∙ d.long;
         }
@@ -102,7 +105,8 @@ module _ {v x frames : List ℕ} {n : ℕ} {vertices : List (List ℕ)} {b : Lis
   -- ---- the list
 
   decoded_so : (frames : List ℕ) → 1 ≤ length frames
-      → best_tokens n (arrived v (graph_of x) (tokens v (graph_of x) frames n (length frames - 1))) ≡ decoded v (graph_of x) frames n
+      → best_tokens n (arrived v (graph_of x) (tokens v (graph_of x) frames n (length frames - 1)))
+      ≡ decoded v (graph_of x) frames n
   unfolding decoded
   decoded_so [] l = absurd (omega arith)
   decoded_so (k ∷ frames) l = let e : suc (length frames) - 1 ≡ length frames = omega arith in rw e
@@ -125,9 +129,12 @@ module _ {v x frames : List ℕ} {n : ℕ} {vertices : List (List ℕ)} {b : Lis
         ap (best_tokens n) all ∙ decoded_so frames (frame_count v frames r.accepted).0
         ∙ decoded-hits v (sound-run r) frames n
 
-    pub ends_done : {best : List ℕ} → best ≡ slots n 0 list ++ replicate (8 - n) 0 → best ≡ held 8 (hits v (graph_of x) frames n)
+    pub ends_done : {best : List ℕ} → best ≡ slots n 0 list ++ replicate (8 - n) 0 → best
+        ≡ held 8 (hits v (graph_of x) frames n)
     ends_done c =
-        let few : length (hits v (graph_of x) frames n) ≤ n = unfold hits in omega (arith, length-take n (row v (graph_of x) frames)) in
+        let few : length (hits v (graph_of x) frames n) ≤ n = unfold hits in
+        omega (arith, length-take n (row v (graph_of x) frames)) in
         let eight : n + (8 - n) ≡ 8 = omega (arith, r.roomy.few) in
         c ∙ ap (λ l. l ++ replicate {A = ℕ} (8 - n) 0) (d.holds ∙ ap (held n) listed)
-        ∙ sym (held-longer n (8 - n) (hits v (graph_of x) frames n) few) ∙ ap (λ (j : ℕ). held j (hits v (graph_of x) frames n)) eight
+        ∙ sym (held-longer n (8 - n) (hits v (graph_of x) frames n) few)
+        ∙ ap (λ (j : ℕ). held j (hits v (graph_of x) frames n)) eight

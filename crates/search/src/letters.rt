@@ -5,7 +5,8 @@
 ghost use Rattle.std.specs.Prelude.{◌≡◌, true, cond, [], ◌∷◌, ◌+◌, ◌-◌, ◌≤◌, ◌<◌, length};
 ghost use Rattle.endian.specs.Bytes.{i16};
 ghost use Rattle.voice.specs.Fields.{well_formed};
-ghost use Rattle.voice.specs.Voice.{letter_count, links_at, link_score, state_count, symbols_at, impossible, voice_verdict};
+ghost use Rattle.voice.specs.Voice.{letter_count, links_at, link_score, state_count, symbols_at, impossible};
+ghost use Rattle.voice.specs.Voice.{voice_verdict};
 ghost use Rattle.lexicon.specs.Lexicon.{node_count, lexicon_verdict};
 ghost use Rattle.checking.specs.Tables.{WellFormed, FewLetters};
 ghost use Rattle.storing.specs.Gains.{letter_pairs, pair_score, StoredPairs, LettersMarked, AtLetter, LetterRow};
@@ -163,7 +164,8 @@ fn letter_row(voice: &[u8], letter: usize, first: u16, row: &mut [u32; 10])
 
 // Fills the table with the letters in use, in rising order; answers how many.
 pub(crate) fn letter_table(voice: &[u8], lexicon: &[u8], letters: &mut [[u32; 10]; 64]) -> usize
-    requires voice_value { (voice_verdict voice.now ≡ well_formed) × (lexicon_verdict (letter_count voice.now) lexicon.now
+    requires voice_value { (voice_verdict voice.now ≡ well_formed)
+        × (lexicon_verdict (letter_count voice.now) lexicon.now
         ≡ well_formed) }
     requires rows_room { RowsRoom 10 letters.old }
     ensures { NodeLetters voice.now lexicon.now result letters.new }

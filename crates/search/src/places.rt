@@ -18,7 +18,8 @@ pub(crate) fn find_slots(
     n: usize,
     vertices: &mut [[u32; 4]; 402],
 ) -> usize
-    requires voice_value { (voice_verdict voice.now ≡ well_formed) × (lexicon_verdict (letter_count voice.now) lexicon.now ≡ well_formed) }
+    requires voice_value { (voice_verdict voice.now ≡ well_formed)
+        × (lexicon_verdict (letter_count voice.now) lexicon.now ≡ well_formed) }
     requires n_bound { (n ≤ 8) × VertexRows vertices.old }
     ensures { SlotsPut voice.now lexicon.now n vertices.old
         vertices.new result }

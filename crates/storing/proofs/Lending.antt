@@ -5,9 +5,9 @@ use mathlib.Core.Path.{◌≡◌, refl, sym, ap, ap₂, ◌∙◌}
 use mathlib.Core.Logic.{◌⊎◌, inl, inr, ⊎_elim}
 use mathlib.Core.List.{List, ◌++◌, append_assoc}
 use native.Mathlib.Omega.{arith}
-use lib.ListN.{length, get_or, take, drop, replicate, length-append, length-replicate, length-take, length-drop}
+use lib.ListN.{length, get_or, take, drop, replicate, length-take, length-drop}
 use lib.ListN.{replicate-append-replicate, get_or-append}
-use lib.Seq.{get_or-take, get_or-drop, get_or-append-add, length-take-le, take_at, take_all, drop-append_seam}
+use lib.Seq.{get_or-take, get_or-drop, get_or-append-add, length-take-le, take_all, drop-append_seam}
 use borrow.Rule.Slice.PartMut.{put_mid}
 use Rattle.storing.specs.Slots.{token_at, slots, Changed, enter, offered, PlaceRoom, MoveFits, Falling, Offer}
 use Rattle.storing.proofs.Slots.{u32_ext, slots_ext, length-slots, slots_cut, slots-step, slots_get}

@@ -9,7 +9,6 @@ use mathlib.Core.List.Memᴰ
 use mathlib.Core.List.Memᴰ.{head as here}
 use mathlib.Core.List.{List, [], ◌∷◌, ◌++◌, Memᴰ}
 use mathlib.Core.List.Memᴰ.{append_cases}
-use mathlib.Core.List.Memᴰ.{tail as there}
 use mathlib.Core.Option.{none}
 use native.Mathlib.Omega.{arith}
 use native.Mathlib.Nat.{add-zero, pos_of_ne-zero}
@@ -26,7 +25,7 @@ use Rattle.graph.specs.Graph.{Graph, graph_of, sink, path_count, word_count, inc
 use Rattle.graph.proofs.Codes.{arc-count}
 use Rattle.graph.proofs.Accepted.{AcceptedImages, accepted}
 use Rattle.checking.specs.Tables.{WellFormed}
-use Rattle.checking.proofs.Arcs.{shape_of, sound_of, nodes-there, has-entry, ListThere, list-there, ArcNext, arc-next}
+use Rattle.checking.proofs.Arcs.{shape_of, sound_of, has-entry, ListThere, list-there, ArcNext, arc-next}
 use Rattle.checking.proofs.Arcs.{arcs-done}
 use Rattle.checking.proofs.Increments.{CountsPassed, counts_start, split-here, increment-here, counts-below}
 use Rattle.checking.proofs.Increments.{counts-next}
@@ -40,7 +39,7 @@ use Rattle.passing.proofs.InPlace.{put-node}
 use Rattle.storing.specs.Slots.{PlaceRoom, Changed}
 use Rattle.storing.specs.Held.{held, pad, lift, down_of}
 use Rattle.storing.specs.Gains.{NearBias, number_sum, entry_number}
-use Rattle.storing.specs.Places.{first_place, first_slot, arcs_in, paths_in, first_in, emission_in}
+use Rattle.storing.specs.Places.{first_place, arcs_in, paths_in, first_in, emission_in}
 use Rattle.storing.specs.Stored.{VertexTable, StoreRoom, Bound, Place, Stored, source, PassingOn, PassedOn}
 use Rattle.storing.specs.Stored.{passed_on}
 use Rattle.storing.specs.Carrying.{Worth, Offering, joined, Arc, over_one}

@@ -4,7 +4,7 @@ use Prim.Native.Nat.{ℕ, zero, suc, ◌+◌, ◌-◌, ◌*◌, ◌^◌, ◌≤�
 use mathlib.Core.Path.{◌≡◌, refl, ap, ◌∙◌}
 use mathlib.Core.Logic.{◌⊎◌, inl, inr}
 use mathlib.Core.List.{List, ◌++◌, append-nil}
-use mathlib.Core.Option.{Option, some}
+use mathlib.Core.Option.{Option}
 use native.Mathlib.Omega.{arith}
 use native.Mathlib.Nat.{mul-le-mul, mul_comm, suc-mul}
 use native.Mathlib.Decide.{dec_lt}
@@ -13,7 +13,6 @@ use lib.ListN.{length, get_or}
 use Rattle.endian.proofs.Bytes.{i16-range}
 use Rattle.voice.specs.Voice.{letter_count, first_state, loop_score, step_score, emission}
 use Rattle.voice.proofs.Letters.{states-range}
-use Rattle.voice.proofs.Scores.{letters-few}
 use Rattle.lexicon.specs.Lexicon.{node_letter}
 use Rattle.lexicon.proofs.WellFormed.{letter_known}
 use Rattle.graph.specs.Graph.{Graph, graph_of, word_count}

@@ -2,7 +2,7 @@
 -- as candidates; and one arc or state in the store. No public contract cites this. Assumes nothing.
 use Rattle.std.specs.Prelude.{ℕ, suc, ◌+◌, ◌*◌, ◌≤◌, ◌<◌, ◌≡◌, Bool, ℤ, nat_abs, length, take}
 use mathlib.Core.List.{List, ◌++◌, Memᴰ}
-use Rattle.std.proofs.Math.Option.{Option, none, some}
+use Rattle.std.proofs.Math.Option.{Option, some}
 use Rattle.voice.specs.Voice.{states}
 use Rattle.lexicon.specs.Lexicon.{node_count, node_letter, successors}
 use Rattle.graph.specs.Graph.{graph_of, increment}

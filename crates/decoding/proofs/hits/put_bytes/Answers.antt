@@ -1,12 +1,11 @@
 -- `hits::put_bytes` stores the four bytes one after another. Assumes nothing.
 use native.Mathlib.Omega.{arith}
-use borrow.Author.Rules.{rules}
 use lib.ListN.{length-set}
 use Rattle.endian.proofs.Stores.{put_four}
 use Rattle.decoding.proofs.hits.put_bytes.Goals as goal
 
 pub returns : goal.returns
-returns c = put_four c.args.out.now c.args.at c.args.t3 c.requires.1
+returns c = put_four c.args.out.now c.args.at c.args.bytes c.requires.1
 
 pub bounds-out-at-2 : goal.bounds-out-at-2
 bounds-out-at-2 c = simp length-set (omega arith)

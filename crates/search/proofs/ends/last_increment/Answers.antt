@@ -1,95 +1,59 @@
 -- `ends::last_increment` meets its contract: no successor that was passed is the sink, and their path counts are added
 -- up. The measure is what is left of the list. Assumes nothing.
-use Prim.Native.Nat.{◌+◌, ◌-◌, ◌*◌, ◌≤◌, ◌<◌}
+use Prim.Native.Nat.{ℕ, ◌+◌, ◌*◌, ◌≤◌, ◌<◌}
 use mathlib.Core.Path.{◌≡◌, refl, sym, ◌∙◌}
+use mathlib.Core.List.{List}
 use native.Mathlib.Omega.{arith}
-use borrow.Author.Rules.{rules}
 use Rattle.endian.specs.Bytes.{u16}
 use Rattle.lexicon.specs.Lexicon.{node_count, sink_of}
 use Rattle.graph.specs.Graph.{graph_of, path_count}
-use Rattle.checking.proofs.Arcs.{ArcNext, has-entry, list-there}
+use Rattle.checking.specs.Tables.{WellFormed}
+use Rattle.checking.proofs.Arcs.{has-entry, list-there}
 use Rattle.storing.specs.Places.{arcs_in, paths_in}
 use Rattle.search.proofs.Sums.{arc-fits, arc_less, list-fits, arcs_fit, count_fits, bytes_fit, end_fits}
 use Rattle.search.proofs.Sums.{less_fits, bytes-before, counts_fit}
-use Rattle.search.proofs.Closing.{EndAhead, count-entry, ahead-start, ahead-arc, ahead-here, ahead_below}
+use Rattle.search.proofs.Closing.{count-entry, ahead-start, ahead-arc, ahead-here, ahead_below}
 use Rattle.search.proofs.Closing.{ahead_next, ahead_done}
 use Rattle.search.proofs.ends.last_increment.Goals as goal
-use Rattle.search.proofs.ends.last_increment.Tie as tie
-use Rattle.search.proofs.ends.last_increment.Lts as lts
-use Rattle.search.proofs.ends.last_increment.Reads as reads
 
-low : (c : lts.After-u16_at tie.the-claims reads.Pre reads.Post goal.the-invariant-loop-at goal.the-decreases-loop-at) → c.args.node < 402
+low : {x : List ℕ} {node : ℕ} → WellFormed x → node ≤ node_count x → node < 402
 unfolding sink_of
-low c = let p = c.requires in has-entry p.0.formed (omega (arith, p.1))
-
-small : (c : lts.After-start tie.the-claims reads.Pre reads.Post goal.the-invariant-loop-at goal.the-decreases-loop-at) →
-    let a = c.args in
-    arcs_in a.vertices.now a.node + 2 + 2 * u16 a.lexicon.now (arcs_in a.vertices.now a.node) ≤ 9204
-small c = let p = c.requires in (list-there p.0.formed p.1 (p.0.begin p.1)).small
-
-size : (c : lts.After-u16_at2 tie.the-claims reads.Pre reads.Post goal.the-invariant-loop-at goal.the-decreases-loop-at) →
-    let a = c.args in
-    arcs_in a.vertices.now a.node + 2 + 2 * c.u16_at-2.result ≤ 9204
-size c = rw c.u16_at-2.ensures (small c.before)
+low f h = has-entry f (omega (arith, h))
 
 pub loop-at-init : goal.loop-at-init
 loop-at-init c = let p = c.requires in rw c.u16_at-2.ensures (ahead-start p.0 p.1)
 
--- the arc whose turn it is
-next : (c : lts.In-loop tie.the-claims reads.Pre reads.Post goal.the-invariant-loop-at goal.the-decreases-loop-at) →
-    let l = c.before in
-    let a = l.args in
-    ArcNext a.lexicon.now a.node l.loop-at.at
-    (arcs_in a.vertices.now a.node + 2 + 2 * l.u16_at-2.result)
-    l.loop-at.invariant.counts.later
-next c = let p = c.requires in ahead-arc p.0 p.1 c.loop-at.invariant c.loop-at-test.true
-
-leads : (c : lts.After-u16_at3 tie.the-claims reads.Pre reads.Post goal.the-invariant-loop-at goal.the-decreases-loop-at) → c.u16_at-next.result < 402
-leads c =
-    let p = c.requires in
-    rw c.u16_at-next.ensures (has-entry p.0.formed (next c.before).bounded)
-
 -- the number of the sink
-to-sink : (c : lts.After-u16_at tie.the-claims reads.Pre reads.Post goal.the-invariant-loop-at goal.the-decreases-loop-at) → c.u16_at.result + 1 ≡ sink_of c.args.lexicon.now
+to-sink : (x : List ℕ) {n : ℕ} → n ≡ u16 x 0 → n + 1 ≡ sink_of x
 unfolding sink_of node_count
-to-sink c = rw c.u16_at.ensures (omega arith)
+to-sink x e = rw e (omega arith)
 
 pub returns-then-next-sink : goal.returns-then-next-sink
 returns-then-next-sink c =
-    let n = c.before.before in
-    let l = n.before in
-    let u = l.before.before.before.before in
-    let p = u.requires in
-    ahead-here p.0 p.1 l.loop-at.invariant l.loop-at-test.true (sym n.u16_at-next.ensures ∙ c.if-next-sink.true ∙ to-sink u)
-
--- the count that is read is the successor's path count
-count : (c : lts.After-increment tie.the-claims reads.Pre reads.Post goal.the-invariant-loop-at goal.the-decreases-loop-at) →
-    let n = c.before.before in
-    let l = n.before in
-    let a = l.args in
-    paths_in a.vertices.now n.u16_at-next.result ≡ path_count (graph_of a.lexicon.now)
-    (u16 a.lexicon.now l.loop-at.at)
-count c =
-    let n = c.before.before in
-    let p = n.requires in
-    rw n.u16_at-next.ensures (count-entry p.0 p.1 (next n.before).bounded)
+    let p = c.requires in
+    ahead-here p.0 p.1 c.loop-at.invariant c.loop-at-test.true (sym c.u16_at-next.ensures ∙ c.if-next-sink.true
+    ∙ to-sink c.args.lexicon.now c.u16_at.ensures)
 
 -- what is added up stays within the paths from the node
 pub overflow_add-increment : goal.overflow_add-increment
 overflow_add-increment c =
-    let n = c.before.before.before in
-    let l = n.before in
-    let p = l.requires in
-    counts_fit _ (count c.before) (ahead_below p.0 p.1 l.loop-at.invariant l.loop-at-test.true) (p.0.few p.1)
+    let next = ahead-arc c.requires.0 c.requires.1 c.loop-at.invariant c.loop-at-test.true in
+    let count : paths_in c.args.vertices.now c.u16_at-next.result
+    ≡ path_count (graph_of c.args.lexicon.now) (u16 c.args.lexicon.now c.loop-at.at) =
+    rw c.u16_at-next.ensures (count-entry c.requires.0 c.requires.1 next.bounded) in
+    let p = c.requires in
+    counts_fit _ count (ahead_below p.0 p.1 c.loop-at.invariant c.loop-at-test.true) (p.0.few p.1)
 
 pub loop-at-preserved : goal.loop-at-preserved
 loop-at-preserved c =
-    let n = c.before.before.before in
-    let l = n.before in
-    let u = l.before.before.before.before in
-    let p = u.requires in
-    rw (count c.before)
-    (ahead_next p.0 p.1 l.loop-at.invariant l.loop-at-test.true (λ e. c.if-next-sink.false (n.u16_at-next.ensures ∙ e ∙ sym (to-sink u))))
+    let next = ahead-arc c.requires.0 c.requires.1 c.loop-at.invariant c.loop-at-test.true in
+    let count : paths_in c.args.vertices.now c.u16_at-next.result
+    ≡ path_count (graph_of c.args.lexicon.now) (u16 c.args.lexicon.now c.loop-at.at) =
+    rw c.u16_at-next.ensures (count-entry c.requires.0 c.requires.1 next.bounded) in
+    let p = c.requires in
+    rw count
+    (ahead_next p.0 p.1 c.loop-at.invariant c.loop-at-test.true
+    (λ e. c.if-next-sink.false (c.u16_at-next.ensures ∙ e ∙ sym (to-sink c.args.lexicon.now c.u16_at.ensures))))
 
 pub returns : goal.returns
 returns c =
@@ -100,43 +64,74 @@ pub u16_at-requires : goal.u16_at-requires
 u16_at-requires c = tt
 
 pub offset_bounds-vertices-node : goal.offset_bounds-vertices-node
-offset_bounds-vertices-node c = bytes-before _ 16 (low c.before) refl
+offset_bounds-vertices-node c = bytes-before _ 16 (low c.requires.0.formed c.requires.1) refl
 
 pub overflow_cast-start : goal.overflow_cast-start
-overflow_cast-start c = list-fits _ _ (small c.before)
+overflow_cast-start c = list-fits _ _ (let p = c.requires in (list-there p.0.formed p.1 (p.0.begin p.1)).small)
 
 pub overflow_add-stop : goal.overflow_add-stop
-overflow_add-stop c = arcs_fit _ _ (small c.before)
+overflow_add-stop c = arcs_fit _ _ (let p = c.requires in (list-there p.0.formed p.1 (p.0.begin p.1)).small)
 
 pub u16_at-requires-2 : goal.u16_at-requires-2
 u16_at-requires-2 c = tt
 
 pub overflow_cast-stop : goal.overflow_cast-stop
-overflow_cast-stop c = count_fits _ _ (size c.before)
+overflow_cast-stop c =
+    let size : arcs_in c.args.vertices.now c.args.node + 2 + 2 * c.u16_at-2.result ≤ 9204 =
+    rw c.u16_at-2.ensures (list-there c.requires.0.formed c.requires.1 (c.requires.0.begin c.requires.1)).small in
+    count_fits _ _ size
 
 pub overflow_mul-stop : goal.overflow_mul-stop
-overflow_mul-stop c = bytes_fit _ _ (size c.before)
+overflow_mul-stop c =
+    let size : arcs_in c.args.vertices.now c.args.node + 2 + 2 * c.u16_at-2.result ≤ 9204 =
+    rw c.u16_at-2.ensures (list-there c.requires.0.formed c.requires.1 (c.requires.0.begin c.requires.1)).small in
+    bytes_fit _ _ size
 
 pub overflow_add-stop-2 : goal.overflow_add-stop-2
-overflow_add-stop-2 c = end_fits _ _ (size c.before)
+overflow_add-stop-2 c =
+    let size : arcs_in c.args.vertices.now c.args.node + 2 + 2 * c.u16_at-2.result ≤ 9204 =
+    rw c.u16_at-2.ensures (list-there c.requires.0.formed c.requires.1 (c.requires.0.begin c.requires.1)).small in
+    end_fits _ _ size
 
 pub overflow_add-at : goal.overflow_add-at
-overflow_add-at c = arcs_fit _ _ (size c.before)
+overflow_add-at c =
+    let size : arcs_in c.args.vertices.now c.args.node + 2 + 2 * c.u16_at-2.result ≤ 9204 =
+    rw c.u16_at-2.ensures (list-there c.requires.0.formed c.requires.1 (c.requires.0.begin c.requires.1)).small in
+    arcs_fit _ _ size
 
 pub u16_at-next-requires : goal.u16_at-next-requires
 u16_at-next-requires c = tt
 
 pub overflow_cast-next : goal.overflow_cast-next
-overflow_cast-next c = less_fits _ (leads c.before) refl
+overflow_cast-next c =
+    let next = ahead-arc c.requires.0 c.requires.1 c.loop-at.invariant c.loop-at-test.true in
+    let leads : c.u16_at-next.result < 402 =
+    rw c.u16_at-next.ensures (has-entry c.requires.0.formed next.bounded) in
+    less_fits _ leads refl
 
 pub offset_bounds-vertices-next : goal.offset_bounds-vertices-next
-offset_bounds-vertices-next c = bytes-before _ 16 (leads c.before.before) refl
+offset_bounds-vertices-next c =
+    let next = ahead-arc c.requires.0 c.requires.1 c.loop-at.invariant c.loop-at-test.true in
+    let leads : c.u16_at-next.result < 402 =
+    rw c.u16_at-next.ensures (has-entry c.requires.0.formed next.bounded) in
+    bytes-before _ 16 leads refl
 
 pub bounds-vertices-next : goal.bounds-vertices-next
-bounds-vertices-next c = leads c.before.before
+bounds-vertices-next c =
+    let next = ahead-arc c.requires.0 c.requires.1 c.loop-at.invariant c.loop-at-test.true in
+    let leads : c.u16_at-next.result < 402 =
+    rw c.u16_at-next.ensures (has-entry c.requires.0.formed next.bounded) in
+    leads
 
 pub overflow_add-at-in-loop-at : goal.overflow_add-at-in-loop-at
-overflow_add-at-in-loop-at c = let l = c.before.before.before.before in arc-fits _ (next l).room (size l.before.before)
+overflow_add-at-in-loop-at c =
+    let size : arcs_in c.args.vertices.now c.args.node + 2 + 2 * c.u16_at-2.result ≤ 9204 =
+    rw c.u16_at-2.ensures (list-there c.requires.0.formed c.requires.1 (c.requires.0.begin c.requires.1)).small in
+    let next = ahead-arc c.requires.0 c.requires.1 c.loop-at.invariant c.loop-at-test.true in
+    arc-fits _ next.room size
 
 pub loop-at-smaller : goal.loop-at-smaller
 loop-at-smaller c = arc_less c.loop-at-test.true
+
+pub bounds-vertices-node : goal.bounds-vertices-node
+bounds-vertices-node c = low c.requires.0.formed c.requires.1

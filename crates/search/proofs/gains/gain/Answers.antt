@@ -4,7 +4,6 @@ use Prim.Native.Nat.{◌<◌}
 use mathlib.Core.Path.{◌≡◌, sym}
 use native.Mathlib.Omega.{arith}
 use native.Mathlib.Nat.{pos_of_ne-zero}
-use borrow.Author.Rules.{rules}
 use Rattle.decoder.specs.Score.{number_of}
 use Rattle.storing.proofs.Gaining.{sum_first, sum-second, sum-some}
 use Rattle.search.proofs.Told.{same_told, other_told}

@@ -1,14 +1,12 @@
 -- `judge::has_bad_frames` tests the number of frames, then finds a symbol that is not below K: no symbol
 -- passed is one, so some symbol is where one of those left is.
 -- The measure is what is left of the frames. Assumes nothing.
-use Prim.Native.Nat.{◌-◌, ◌≤◌}
 use mathlib.Core.Path.{◌≡◌, refl, sym, ◌∙◌}
 use mathlib.Core.Bool.{false}
 use borrow.Author.Rules.{rules}
 use borrow.Author.Tests.{le-leb, lt-leb}
 use lib.Dec.{leb}
-use lib.ListN.{length, drop}
-use Rattle.endian.specs.Lists.{any}
+use lib.ListN.{length}
 use Rattle.call.specs.Limits.{bad_frame_count}
 use Rattle.endian.proofs.Search.{any_found, any_next, any_none}
 use mathlib.Core.Path.{ap}
@@ -41,7 +39,8 @@ loop-i-preserved c =
     let a = c.args in
     let l = c.loop-i in (
       search rules,
-      l.invariant.1 ∙ any_next (λ k. leb a.symbols k) a.frames.now l.i (search rules) (lt-leb _ _ c.if-symbols-frames.false),
+      l.invariant.1
+          ∙ any_next (λ k. leb a.symbols k) a.frames.now l.i (search rules) (lt-leb _ _ c.if-symbols-frames.false),
     )
 
 pub returns : goal.returns

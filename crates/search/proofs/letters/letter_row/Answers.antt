@@ -1,20 +1,17 @@
 -- `letters::letter_row` meets its contract: before each state the entries of those before it are filled. The measure is
 -- the states left. Assumes nothing.
-use Prim.Native.Nat.{ℕ, ◌-◌, ◌≤◌, ◌<◌}
-use mathlib.Core.Path.{◌≡◌, ◌∙◌}
+use Prim.Native.Nat.{ℕ, ◌≤◌, ◌<◌}
+use mathlib.Core.Path.{◌∙◌}
 use mathlib.Core.List.{List}
 use native.Mathlib.Omega.{arith}
 use borrow.Author.Rules.{rules}
-use lib.ListN.{length, get_or, set, length-set}
+use lib.ListN.{length, set, length-set}
 use lib.Seq.{get_or-set_same, get_or-set_other}
 use Rattle.voice.specs.Voice.{states}
-use Rattle.storing.specs.Gains.{loop_number, step_number}
 use Rattle.storing.proofs.Gaining.{letter-small, letter-few, letter-byte, letter-there, letter-inside, pairs-stored}
-use Rattle.storing.proofs.Filling.{Filling, fill_start, fill_done, scores-next, letter-scored}
+use Rattle.storing.proofs.Filling.{fill_start, fill_done, scores-next, letter-scored}
+use Rattle.search.proofs.letters.letter_row.Invariants.{RowScored}
 use Rattle.search.proofs.letters.letter_row.Goals as goal
-use Rattle.search.proofs.letters.letter_row.Tie as tie
-use Rattle.search.proofs.letters.letter_row.Lts as lts
-use Rattle.search.proofs.letters.letter_row.Reads as reads
 
 -- before the first state: only the index and the number of the first state are put
 row-begun : {v : List ℕ} (row : List ℕ) (l first : ℕ) → 10 ≤ length row
@@ -29,38 +26,30 @@ row-begun row l first h =
 
 pub letter_pairs-pairs-requires : goal.letter_pairs-pairs-requires
 unfolding states
-letter_pairs-pairs-requires c = let a = c.requires.0 in record { voice_value = a.formed; states_bound = letter-inside a }
+letter_pairs-pairs-requires c =
+    let a = c.requires.0 in
+    record { voice_value = a.formed; states_bound = letter-inside a }
 
 pub loop-s-init : goal.loop-s-init
 loop-s-init c =
-    let s = c.before.before.before.before in
-    row-begun s.args.row.now s.args.letter s.args.first s.requires.1
-
-abbrev start : lts.In-loop tie.the-claims reads.Pre reads.Post goal.the-invariant-loop-s goal.the-decreases-loop-s tie.handed_clauses → lts.Start tie.the-claims reads.Pre reads.Post goal.the-invariant-loop-s goal.the-decreases-loop-s tie.handed_clauses
-start c = c.before.before.before.before.before
-
--- the state whose turn it is
-state : (c : lts.In-loop tie.the-claims reads.Pre reads.Post goal.the-invariant-loop-s goal.the-decreases-loop-s tie.handed_clauses) →
-    let a = (start c).args in c.loop-s.s < states a.voice.now a.letter
-unfolding states
-state c = c.loop-s-test.true
-
-few : (c : lts.In-loop tie.the-claims reads.Pre reads.Post goal.the-invariant-loop-s goal.the-decreases-loop-s tie.handed_clauses) → c.loop-s.s < 4
-few c = omega (arith, state c, letter-few (start c).requires.0)
+    row-begun c.args.row.now c.args.letter c.args.first c.requires.1
 
 pub state_scores-requires : goal.state_scores-requires
+unfolding states
 state_scores-requires c =
-    let l = c.before.before in record { s_bound = (few l, l.loop-s.invariant.filled.long); stored_pairs = rw l.letter_pairs-pairs.ensures (pairs-stored _ _ _) }
+    record {
+      s_bound = ((omega (arith, c.loop-s-test.true, letter-few c.requires.0)), c.loop-s.invariant.filled.long);
+      stored_pairs = rw c.letter_pairs-pairs.ensures (pairs-stored _ _ _);
+    }
 
 pub loop-s-preserved : goal.loop-s-preserved
 unfolding states
 loop-s-preserved c =
-    let l = c.before.before.before in
-    let i = l.loop-s.invariant in
+    let i = c.loop-s.invariant in
     let e = c.state_scores.ensures in
-    let h = few l in
+    let h : c.loop-s.s < 4 = omega (arith, c.loop-s-test.true, letter-few c.requires.0) in
     record {
-      filled = scores-next (start l).requires.0 (state l) l.letter_pairs-pairs.ensures i.filled e;
+      filled = scores-next c.requires.0 c.loop-s-test.true c.letter_pairs-pairs.ensures i.filled e;
       letter = e.others 8 (λ q. omega arith) (λ q. omega arith) ∙ i.letter;
       begin = e.others 9 (λ q. omega arith) (λ q. omega arith) ∙ i.begin;
     }
@@ -94,4 +83,5 @@ pub bounds-row-9 : goal.bounds-row-9
 bounds-row-9 c = let h = c.requires.1 in search rules
 
 pub overflow_add-s : goal.overflow_add-s
-overflow_add-s c = let h = few c.before.before.before in search rules
+unfolding states
+overflow_add-s c = let h : c.loop-s.s < 4 = omega (arith, c.loop-s-test.true, letter-few c.requires.0) in search rules

@@ -1,15 +1,15 @@
-use Prim.Native.Nat.{ℕ, ◌-◌, ◌≤◌, ◌<◌}
-use mathlib.Core.Path.{◌≡◌, ◌∙◌}
+use Prim.Native.Nat.{ℕ, ◌-◌}
+use mathlib.Core.Path.{◌≡◌}
 use mathlib.Core.List.{List}
-use native.Mathlib.Omega.{arith}
-use borrow.Author.Rules.{rules}
-use lib.ListN.{length, get_or, set, length-set}
-use lib.Seq.{get_or-set_same, get_or-set_other}
-use Rattle.voice.specs.Voice.{states}
+use lib.ListN.{get_or}
 use Rattle.storing.specs.Gains.{loop_number, step_number}
-use Rattle.storing.proofs.Gaining.{letter-small, letter-few, letter-byte, letter-there, letter-inside, pairs-stored}
-use Rattle.storing.proofs.Filling.{Filling, fill_start, fill_done, scores-next, letter-scored}
+use Rattle.storing.proofs.Filling.{Filling}
 use Rattle.search.proofs.letters.letter_row.Given as goal
+
+pub record RowScored (v : List ℕ) (l first s : ℕ) (row : List ℕ) : Type 0 where
+  pub filled : Filling v (loop_number v) (step_number v) l s row
+  pub letter : get_or row 8 0 ≡ l
+  pub begin : get_or row 9 0 ≡ first
 
 abbrev pub invariant-loop-s : goal.invariant-loop-s
 invariant-loop-s l = RowScored l.voice l.letter l.first l.s l.row

@@ -1,16 +1,5 @@
-use Prim.Native.Nat.{◌-◌, ◌<◌, ◌≤◌}
-use mathlib.Core.Path.{◌≡◌, refl, ap, ◌∙◌}
-use native.Mathlib.Omega.{arith}
-use borrow.Author.Rules.{rules}
-use lib.IntN.{ℤ}
-use lib.ListN.{length}
-use Rattle.voice.specs.Voice.{letter_count}
-use Rattle.voice.proofs.Scores.{letters-few, links-there}
-use Rattle.decoder.specs.Score.{number_of, possible}
-use Rattle.storing.specs.Gains.{link_number, LinkTable}
-use Rattle.storing.proofs.Gaining.{back}
-use Rattle.storing.proofs.Filling.{links-start, links-next}
-use Rattle.search.proofs.Sums.{bytes-before}
+use Prim.Native.Nat.{◌-◌, ◌≤◌}
+use Rattle.storing.specs.Gains.{LinkTable}
 use Rattle.search.proofs.letters.link_table.Given as goal
 
 abbrev pub invariant-loop-letter : goal.invariant-loop-letter

@@ -1,6 +1,5 @@
 -- `letters::move_score` meets its contract: the pair's score becomes a score's number. Assumes nothing.
 use mathlib.Core.List.{[]}
-use borrow.Author.Rules.{rules}
 use lib.IntN.{pos}
 use lib.ListN.{get_or}
 use Rattle.storing.specs.Gains.{pair_score}
@@ -10,7 +9,6 @@ use Rattle.search.proofs.letters.move_score.Goals as goal
 pub returns : goal.returns
 unfolding pair_score
 returns c =
-    let s = c.before.before in
-    let a = s.args in
-    rw (back (get_or (get_or a.t1 a.state []) a.which (pos 0))
-    (s.requires.stored_pairs a.state a.which)) at c.from_stored.ensures
+    let a = c.args in
+    rw (back (get_or (get_or a.pairs a.state []) a.which (pos 0))
+    (c.requires.stored_pairs a.state a.which)) at c.from_stored.ensures

@@ -9,23 +9,17 @@ use lib.ListN.{length}
 use Rattle.voice.specs.Voice.{impossible}
 use Rattle.storing.proofs.Gaining.{back}
 use Rattle.search.proofs.letters.pair_at.Goals as goal
-use Rattle.search.proofs.letters.pair_at.Tie as tie
-use Rattle.search.proofs.letters.pair_at.Lts as lts
-use Rattle.search.proofs.letters.pair_at.Reads as reads
-
-inside : (c : lts.Then1 tie.the-claims reads.Pre reads.Post) → c.args.at + 4 ≤ length c.args.voice.now
-inside c = c.requires c.if-there.true
 
 pub score_at-requires : goal.score_at-requires
-score_at-requires c = omega (arith, inside c.before)
+score_at-requires c = omega (arith, (c.requires c.if-there.true))
 
 pub score_at-requires-then-there : goal.score_at-requires-then-there
-score_at-requires-then-there c = omega (arith, inside c.before.before)
+score_at-requires-then-there c = omega (arith, (c.requires c.if-there.true))
 
 pub returns-then-there : goal.returns-then-there
 returns-then-there c =
-    let one = back _ c.score_at.type-inv ∙ c.score_at.ensures in
-    let two = back _ c.score_at-then-there.type-inv ∙ c.score_at-then-there.ensures in
+    let one = back _ c.score_at.type_inv ∙ c.score_at.ensures in
+    let two = back _ c.score_at-then-there.type_inv ∙ c.score_at-then-there.ensures in
     rw c.if-there.true (ap₂ (λ (x y : ℤ). x ∷ y ∷ []) one two)
 
 pub returns : goal.returns
@@ -33,4 +27,4 @@ unfolding impossible
 returns c = rw c.if-there.false
 
 pub overflow_add-at : goal.overflow_add-at
-overflow_add-at c = let h = inside c.before.before in search rules
+overflow_add-at c = let h : c.args.at + 4 ≤ length c.args.voice.now = c.requires c.if-there.true in search rules

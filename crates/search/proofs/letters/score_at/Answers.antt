@@ -1,10 +1,9 @@
 -- `letters::score_at` meets its contract. Assumes nothing.
 use mathlib.Core.Path.{◌∙◌}
-use borrow.Author.Rules.{rules}
 use Rattle.endian.specs.Bytes.{u16, i16}
 use Rattle.storing.proofs.Gaining.{back}
 use Rattle.search.proofs.letters.score_at.Goals as goal
 
 pub returns : goal.returns
 unfolding i16 u16
-returns c = back _ c.i16_of.type-inv ∙ c.i16_of.ensures
+returns c = back _ c.i16_of.type_inv ∙ c.i16_of.ensures

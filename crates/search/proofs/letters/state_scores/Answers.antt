@@ -2,22 +2,22 @@
 use Prim.Native.Nat.{◌+◌}
 use mathlib.Core.Path.{◌≡◌}
 use native.Mathlib.Omega.{arith}
-use borrow.Author.Rules.{rules}
 use Rattle.storing.proofs.Filling.{put-loop, put_both}
 use Rattle.search.proofs.letters.state_scores.Goals as goal
 
 pub returns-then-s-gt0 : goal.returns-then-s-gt0
 returns-then-s-gt0 c =
-    let m = c.before.before in
-    let p = m.requires.s_bound in
-    let z : 0 + m.args.s ≡ m.args.s = omega arith in
-    rw z (put_both p.0 p.1 m.move_score-stay.ensures c.move_score-step.ensures)
+    let p = c.requires.s_bound in
+    let z : 0 + c.args.s ≡ c.args.s = omega arith in
+    rw z (put_both p.0 p.1 c.move_score-stay.ensures c.move_score-step.ensures)
 
 pub returns-else-s-gt0 : goal.returns-else-s-gt0
 returns-else-s-gt0 c =
-    let s = c.before.before in
-    let z : 0 + s.args.s ≡ s.args.s = omega arith in
-    rw z (put-loop s.requires.s_bound.0 s.requires.s_bound.1 (omega (arith, c.if-s-gt0.false)) c.move_score-stay.ensures)
+    let z : 0 + c.args.s ≡ c.args.s = omega arith in
+    rw z (put-loop c.requires.s_bound.0 c.requires.s_bound.1 (omega (arith, c.if-s-gt0.false))
+    c.move_score-stay.ensures)
 
 pub move_score-step-requires : goal.move_score-step-requires
-move_score-step-requires c = let p = c.requires in record { state_bound = (omega arith, omega arith); stored_pairs = p.stored_pairs }
+move_score-step-requires c =
+    let p = c.requires in
+    record { state_bound = (omega arith, omega arith); stored_pairs = p.stored_pairs }

@@ -1,12 +1,10 @@
 -- `clear_place` empties one slot after another: those before k are empty. The measure is what is left of them. Assumes
 -- nothing.
-use Prim.Native.Nat.{◌-◌, ◌≤◌}
 use mathlib.Core.Path.{◌≡◌, refl, ap₂, ◌∙◌}
 use mathlib.Core.List.{[], ◌∷◌, ◌++◌}
 use mathlib.Core.Logic.{inr}
 use native.Mathlib.Omega.{arith}
-use borrow.Author.Rules.{rules}
-use lib.ListN.{length, replicate, replicate-append-replicate}
+use lib.ListN.{replicate-append-replicate}
 use Rattle.storing.specs.Slots.{slots}
 use Rattle.storing.proofs.Slots.{slots_snoc, put-apart}
 use Rattle.search.proofs.store.clear_place.Goals as goal

@@ -1,12 +1,7 @@
 use Prim.Native.Nat.{◌-◌, ◌≤◌}
-use mathlib.Core.Path.{◌≡◌, refl, ap₂, ◌∙◌}
-use mathlib.Core.List.{[], ◌∷◌, ◌++◌}
-use mathlib.Core.Logic.{inr}
-use native.Mathlib.Omega.{arith}
-use borrow.Author.Rules.{rules}
-use lib.ListN.{length, replicate, replicate-append-replicate}
+use mathlib.Core.Path.{◌≡◌}
+use lib.ListN.{length, replicate}
 use Rattle.storing.specs.Slots.{slots}
-use Rattle.storing.proofs.Slots.{slots_snoc, put-apart}
 use Rattle.search.proofs.store.clear_place.Given as goal
 
 abbrev pub invariant-loop-k : goal.invariant-loop-k

@@ -1,10 +1,9 @@
 -- `copy_place` copies one slot after another: those before k are copied, and no token follows. The first empty slot
 -- ends it, since those behind are empty too. The measure is what is left of them. Assumes nothing.
-use Prim.Native.Nat.{ℕ, suc, ◌+◌, ◌-◌, ◌≤◌}
+use Prim.Native.Nat.{ℕ, suc, ◌+◌, ◌-◌}
 use mathlib.Core.Path.{◌≡◌, ap, sym, ◌∙◌}
 use mathlib.Core.List.{◌∷◌, ◌++◌}
 use native.Mathlib.Omega.{arith}
-use borrow.Author.Rules.{rules}
 use lib.ListN.{set, replicate}
 use lib.Seq.{set_at, append_snoc}
 use Rattle.storing.specs.Slots.{token_at, slots}

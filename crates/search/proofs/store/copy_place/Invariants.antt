@@ -1,14 +1,8 @@
-use Prim.Native.Nat.{ℕ, suc, ◌+◌, ◌-◌, ◌≤◌}
-use mathlib.Core.Path.{◌≡◌, ap, sym, ◌∙◌}
-use mathlib.Core.List.{◌∷◌, ◌++◌}
-use native.Mathlib.Omega.{arith}
-use borrow.Author.Rules.{rules}
-use lib.ListN.{set, replicate}
-use lib.Seq.{set_at, append_snoc}
-use Rattle.storing.specs.Slots.{token_at, slots}
-use Rattle.storing.proofs.Slots.{length-slots, slots_snoc}
-use Rattle.storing.proofs.Lending.{copied_early}
-use Rattle.search.proofs.Told.{same_told}
+use Prim.Native.Nat.{◌-◌, ◌≤◌}
+use mathlib.Core.Path.{◌≡◌}
+use mathlib.Core.List.{◌++◌}
+use lib.ListN.{replicate}
+use Rattle.storing.specs.Slots.{slots}
 use Rattle.search.proofs.store.copy_place.Given as goal
 
 abbrev pub invariant-loop-k : goal.invariant-loop-k

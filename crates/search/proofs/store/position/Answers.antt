@@ -1,11 +1,10 @@
 -- `position` finds where a candidate enters: the slots before k are passed. The measure is what is left of them.
 -- Assumes nothing.
-use Prim.Native.Nat.{◌+◌, ◌-◌, ◌<◌, ◌≤◌}
+use Prim.Native.Nat.{◌<◌, ◌≤◌}
 use mathlib.Core.Path.{◌≡◌, ap, sym, ◌∙◌}
 use native.Mathlib.Omega.{arith}
-use borrow.Author.Rules.{rules}
 use Rattle.decoder.specs.Token.{same_code}
-use Rattle.storing.specs.Slots.{token_at, slots, position}
+use Rattle.storing.specs.Slots.{token_at}
 use Rattle.storing.proofs.Entering.{at-start, passed-all, found, beaten, passed}
 use Rattle.search.proofs.Told.{below_told, not-below_told}
 use Rattle.search.proofs.store.position.Goals as goal
@@ -17,7 +16,8 @@ pub loop-k-init : goal.loop-k-init
 loop-k-init c = (omega arith, at-start _ _ _)
 
 -- in a turn there is a token in slot k, and the tests are the definition's
-less : (c : lts.Else1 tie.the-claims reads.Pre reads.Post goal.the-invariant-loop-k goal.the-decreases-loop-k) → c.loop-k.k < c.args.n
+less : (c : lts.Else1 tie.the-claims reads.Pre reads.Post goal.the-invariant-loop-k goal.the-decreases-loop-k)
+    → c.loop-k.k < c.args.n
 less c = omega (arith, c.if-k-n.false)
 
 -- the token in the slot is not outranked
@@ -31,7 +31,8 @@ rank c =
     not-below_told c.outranks.ensures c.if-outranks.false in
     omega (arith, h, t.ensures)
 
-same : (c : lts.After-has_code_of tie.the-claims reads.Pre reads.Post goal.the-invariant-loop-k goal.the-decreases-loop-k) →
+same : (c : lts.After-has_code_of tie.the-claims reads.Pre reads.Post goal.the-invariant-loop-k
+    goal.the-decreases-loop-k) →
     let l = c.before.before.before.before.before in
     let a = l.args in
     c.has_code_of.result ≡ same_code (token_at a.part.now l.loop-k.k) a.token.0

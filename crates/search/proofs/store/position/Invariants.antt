@@ -1,11 +1,6 @@
-use Prim.Native.Nat.{◌+◌, ◌-◌, ◌<◌, ◌≤◌}
-use mathlib.Core.Path.{◌≡◌, ap, sym, ◌∙◌}
-use native.Mathlib.Omega.{arith}
-use borrow.Author.Rules.{rules}
-use Rattle.decoder.specs.Token.{same_code}
-use Rattle.storing.specs.Slots.{token_at, slots, position}
-use Rattle.storing.proofs.Entering.{at-start, passed-all, found, beaten, passed}
-use Rattle.search.proofs.Told.{below_told, not-below_told}
+use Prim.Native.Nat.{◌+◌, ◌-◌, ◌≤◌}
+use mathlib.Core.Path.{◌≡◌}
+use Rattle.storing.specs.Slots.{slots, position}
 use Rattle.search.proofs.store.position.Given as goal
 
 abbrev pub invariant-loop-k : goal.invariant-loop-k

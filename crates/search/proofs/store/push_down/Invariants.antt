@@ -1,20 +1,16 @@
-use Prim.Native.Nat.{◌+◌, ◌-◌, ◌≤◌}
-use mathlib.Core.Path.{◌≡◌, refl, ap, sym, ◌∙◌}
+use Prim.Native.Nat.{◌-◌, ◌≤◌}
+use mathlib.Core.Path.{◌≡◌}
 use mathlib.Core.List.{◌++◌}
-use mathlib.Core.Bool.{true}
-use native.Mathlib.Omega.{arith}
-use borrow.Author.Rules.{rules}
 use lib.ListN.{length}
 use Rattle.decoder.specs.Token.{code_part}
-use Rattle.storing.specs.Slots.{token_at, slots, push}
-use Rattle.storing.proofs.Entering.{stops, ends, goes, all_pushed, stop-none, stop-test}
-use Rattle.search.proofs.Told.{same_told, other_told}
+use Rattle.storing.specs.Slots.{slots, push}
 use Rattle.search.proofs.store.push_down.Given as goal
 
 abbrev pub invariant-loop-at : goal.invariant-loop-at
 invariant-loop-at l = (l.at ≤ l.n) × (length l.part ≡ length l.initial.part)
     × (slots l.at 0 l.part ++ push l.carry.0 (code_part l.token.0) (slots (l.n - l.at) l.at l.part)
-    ≡ slots l.from 0 l.initial.part ++ push l.token.0 (code_part l.token.0) (slots (l.n - l.from) l.from l.initial.part))
+    ≡ slots l.from 0 l.initial.part ++ push l.token.0 (code_part l.token.0)
+    (slots (l.n - l.from) l.from l.initial.part))
 
 abbrev pub decreases-loop-at : goal.decreases-loop-at
 decreases-loop-at l = l.n - l.at

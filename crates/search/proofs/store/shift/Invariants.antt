@@ -1,17 +1,16 @@
 use Prim.Native.Nat.{ℕ, ◌-◌, ◌≤◌}
-use mathlib.Core.Path.{◌≡◌, refl, sym, ◌∙◌}
+use mathlib.Core.Path.{◌≡◌}
 use mathlib.Core.List.{◌++◌}
-use native.Mathlib.Omega.{arith}
-use borrow.Author.Rules.{rules}
 use lib.ListN.{length}
 use Rattle.storing.specs.Slots.{token_at, slots, shifted}
-use Rattle.storing.proofs.Moving.{slots_hold, shifted_start, shifted-ends, shifted-goes, shifted-done}
-use Rattle.search.proofs.Told.{same_told, other_told}
 use Rattle.search.proofs.store.shift.Given as goal
 
 abbrev pub invariant-loop-k : goal.invariant-loop-k
-invariant-loop-k l = (l.k ≤ l.n) × (length l.part ≡ length l.initial.part) × ((j : ℕ) → l.k ≤ j → token_at l.part j ≡ token_at l.initial.part j)
-    × (slots l.k 0 l.part ++ shifted l.up l.down (slots (l.n - l.k) l.k l.part) ≡ shifted l.up l.down (slots l.n 0 l.initial.part))
+invariant-loop-k l =
+    (l.k ≤ l.n) × (length l.part ≡ length l.initial.part) × ((j : ℕ) → l.k ≤ j → token_at l.part j
+    ≡ token_at l.initial.part j)
+    × (slots l.k 0 l.part ++ shifted l.up l.down (slots (l.n - l.k) l.k l.part)
+    ≡ shifted l.up l.down (slots l.n 0 l.initial.part))
 
 abbrev pub decreases-loop-k : goal.decreases-loop-k
 decreases-loop-k l = l.n - l.k

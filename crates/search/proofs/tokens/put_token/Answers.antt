@@ -1,8 +1,6 @@
 -- `put_token` puts one byte of the number after the other. The measure is what is left of them. Assumes nothing.
-use Prim.Native.Nat.{◌-◌, ◌*◌}
 use native.Mathlib.Omega.{arith}
-use borrow.Author.Rules.{rules}
-use Rattle.storing.proofs.Putting.{PutLeft, put-long, put-start, put_next, put_done}
+use Rattle.storing.proofs.Putting.{put-long, put-start, put_next, put_done}
 use Rattle.search.proofs.tokens.put_token.Goals as goal
 
 pub bounds-part-at : goal.bounds-part-at
@@ -11,15 +9,11 @@ bounds-part-at c =
 
 pub loop-i-preserved : goal.loop-i-preserved
 loop-i-preserved c =
-    let l = c.before in
-    let o = l.before in
-    put_next l.loop-i.invariant _ o.bytes.ensures c.loop-i-test.true
+    put_next c.loop-i.invariant _ c.bytes-bytes.ensures c.loop-i-test.true
 
 pub returns : goal.returns
 returns c =
-    let l = c.before in
-    let o = l.before in
-    put_done l.loop-i.invariant c.loop-i-test.false _ o.bytes.ensures (omega arith) o.requires
+    put_done c.loop-i.invariant c.loop-i-test.false _ c.bytes-bytes.ensures (omega arith) c.requires
 
 pub loop-i-init : goal.loop-i-init
 loop-i-init c = put-start _ _ _

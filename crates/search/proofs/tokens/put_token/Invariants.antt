@@ -1,7 +1,5 @@
 use Prim.Native.Nat.{◌-◌, ◌*◌}
-use native.Mathlib.Omega.{arith}
-use borrow.Author.Rules.{rules}
-use Rattle.storing.proofs.Putting.{PutLeft, put-long, put-start, put_next, put_done}
+use Rattle.storing.proofs.Putting.{PutLeft}
 use Rattle.search.proofs.tokens.put_token.Given as goal
 
 abbrev pub invariant-loop-i : goal.invariant-loop-i

@@ -1,7 +1,6 @@
 -- `tokens::token_at` reads the two halves of the number. Assumes nothing.
 use mathlib.Core.Path.{ap₂}
 use Prim.Native.Nat.{◌+◌, ◌*◌}
-use borrow.Author.Rules.{rules}
 use Rattle.storing.specs.Slots.{token_at}
 use Rattle.search.proofs.tokens.token_at.Goals as goal
 

@@ -1,6 +1,5 @@
 -- `tokens::u32_at` reads the four bytes of the number. Assumes nothing.
 use native.Mathlib.Numerals.{towards_suc}
-use borrow.Author.Rules.{rules}
 use Rattle.endian.specs.Bytes.{u16, u32}
 use Rattle.search.proofs.tokens.u32_at.Goals as goal
 

@@ -1,5 +1,4 @@
 -- `turns::number_at` meets its contract. Assumes nothing.
-use borrow.Author.Rules.{rules}
 use Rattle.endian.specs.Bytes.{u16}
 use Rattle.search.proofs.turns.number_at.Goals as goal
 

@@ -1,9 +1,5 @@
-use Prim.Native.Nat.{suc, ◌-◌}
-use mathlib.Core.Path.{◌≡◌}
-use native.Mathlib.Omega.{arith}
-use borrow.Author.Rules.{rules}
 use Rattle.storing.specs.Carrying.{Renewing}
-use Rattle.storing.proofs.Renewing.{RenewLeft, renew_start, left_renewing, renew_next, renew_done}
+use Rattle.storing.proofs.Renewing.{RenewLeft}
 use Rattle.search.proofs.turns.renew.Given as goal
 
 abbrev pub invariant-loop-s : goal.invariant-loop-s

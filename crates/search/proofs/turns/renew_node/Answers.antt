@@ -9,19 +9,16 @@ use Rattle.search.proofs.turns.renew_node.Goals as goal
 
 pub renew-requires : goal.renew-requires
 renew-requires c =
-    let s = c.before.before in
-    let a = s.args in
-    part-renewing s.requires _ (part-size a.first (a.n * a.states))
+    let a = c.args in
+    part-renewing c.requires _ (part-size a.first (a.n * a.states))
 
 pub returns : goal.returns
 returns c =
-    let w = c.before.before.before in
-    let s = w.before.before.before in
-    let a = s.args in
+    let a = c.args in
     let size = part-size a.first (a.n * a.states) in
     λ t. stretch_back t _ size
-    (w.renew.auto.part ∙ mid_len (8 * a.first) (8 * a.first + 8 * (a.n * a.states)) a.store.now (stretch_there t))
-    (w.renew.ensures (part-renewing t _ size))
+    (c.renew.auto.part ∙ mid_len (8 * a.first) (8 * a.first + 8 * (a.n * a.states)) a.store.now (stretch_there t))
+    (c.renew.ensures (part-renewing t _ size))
 
 pub overflow_mul-start : goal.overflow_mul-start
 overflow_mul-start c = let h = start-few c.requires in search rules
