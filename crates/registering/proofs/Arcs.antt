@@ -20,7 +20,7 @@ use borrow.Author.Tests.{eqb-true, eq-eqb, ne_eqb}
 use Rattle.endian.specs.Lists.{from, select, has_list}
 use Rattle.endian.proofs.Booleans.{and-out}
 use Rattle.endian.proofs.Lists.{has_list-mem, mem-has_list, select_out, from_out, map_cong}
-use Rattle.endian.proofs.Pairs.{none, next}
+use Rattle.endian.proofs.Pairs.{next}
 use Rattle.canonical.specs.Dictionary.{precedes, after, continuations}
 use Rattle.canonical.specs.Nodes.{node, node_of, nodes, place_of, next_letters, next_vertex, arcs_of}
 use Rattle.canonical.specs.Groups.{begins, common}
@@ -232,7 +232,8 @@ module _ {t : List ℕ} {N f m e : ℕ} (w : Words t N) (b : Behind t N f m e) w
               (λ k. behind-some (end f) w (first-before (rw (split n q) at sorted) w k))
               (cases (rw (split n q) at i))
 
-          closed : (n : ℕ) → suc f + n ≡ f + m → e < length (word_at t f) → (c : Bool) → has_list [] rest ≡ c → c ≡ false
+          closed : (n : ℕ) → suc f + n ≡ f + m → e < length (word_at t f) → (c : Bool) → has_list [] rest ≡ c → c
+              ≡ false
           closed n q l true p = absurd (omega (arith, none-ends n q l [] (has_list-mem [] rest p)))
           closed n q l false p = refl
 

@@ -68,7 +68,8 @@ module _ (v x work further out : List ℕ) where
   unfolding word_table_answer canonical_answer
   table-refused e =
       ap (λ rows. unless rows (length (canonical_image v x))) rows_split
-      ∙ refused-before (word_table_rows v x work further) (build_rows v ws out) (length ws) (length (canonical_image v x)) e
+      ∙ refused-before (word_table_rows v x work further) (build_rows v ws out) (length ws)
+      (length (canonical_image v x)) e
 
   pub table-refused-out : {r : Refusal} → word_table_answer v x work further ≡ refused r
       → canonical_out v x work further out ≡ out

@@ -47,7 +47,8 @@ last-alike t rows a (suc k) = go (ℕ_discrete a (node_in t rows k).letter) (las
     })
 
 -- it looks at the first k rows only
-pub last-kept : (t : List ℕ) (rows more : List (List ℕ)) (a k : ℕ) → ((r : ℕ) → r < k → get_or more r [] ≡ get_or rows r [])
+pub last-kept : (t : List ℕ) (rows more : List (List ℕ)) (a k : ℕ)
+    → ((r : ℕ) → r < k → get_or more r [] ≡ get_or rows r [])
     → last_alike t more a k ≡ last_alike t rows a k
 unfolding last_alike
 last-kept t rows more a zero h = refl

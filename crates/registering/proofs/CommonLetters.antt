@@ -189,7 +189,8 @@ module _ {t : List ℕ} {n : ℕ} {shared : List ℕ} (s : Shared t n shared) (i
   pub shared_begins : d ≤ get_or shared i 0 → begins (take d (word_at t i)) (previous t i) ≡ true
   shared_begins k = common-begins d (previous t i) (word_at t i) (omega (arith, s.letters i h))
 
-  pub shared_new : get_or shared i 0 < d → d ≤ length (word_at t i) → begins (take d (word_at t i)) (previous t i) ≡ false
+  pub shared_new : get_or shared i 0 < d → d ≤ length (word_at t i) → begins (take d (word_at t i)) (previous t i)
+      ≡ false
   shared_new k = common-apart d (previous t i) (word_at t i) (omega (arith, s.letters i h))
 
 -- the entries of the first i words
@@ -203,7 +204,8 @@ pub shared_none : (t : List ℕ) {n : ℕ} {old : List ℕ} → n ≤ length old
 shared_none t h = record { inside = omega arith; room = h; long = refl; letters = λ j k. absurd (omega arith) }
 
 module _ {t : List ℕ} {n : ℕ} {old shared : List ℕ} {i : ℕ} (s : SharedTo t n old shared i) where
-  pub shared_more : {a : ℕ} → i < n → a ≡ common (previous t i) (word_at t i) → SharedTo t n old (set shared i a) (i + 1)
+  pub shared_more : {a : ℕ} → i < n → a ≡ common (previous t i) (word_at t i)
+      → SharedTo t n old (set shared i a) (i + 1)
   shared_more {a} h e =
       let k : i < length shared = omega (arith, s.room, s.long) in
       record {
@@ -307,7 +309,8 @@ module _ {t : List ℕ} {n : ℕ} {shared : List ℕ} (s : Shared t n shared) (i
 
   -- all begin with the first d letters of the first, and the word behind them does not exactly if it shares fewer
   pub shared_reach : (m : ℕ) → 1 ≤ m → i + m ≤ n → d ≤ length (word_at t i)
-      → ((k : ℕ) → i < k → k < i + m → d ≤ get_or shared k 0) → (i + m < n → get_or shared (i + m) 0 < d) → Reach t n i d m
+      → ((k : ℕ) → i < k → k < i + m → d ≤ get_or shared k 0) → (i + m < n → get_or shared (i + m) 0 < d)
+      → Reach t n i d m
   shared_reach m one inside l q end =
       let e : m - 1 + 1 ≡ m = omega arith in
       let f : i + m - i ≡ m = omega arith in
@@ -374,7 +377,8 @@ module _ {t : List ℕ} {n i d k letters mark : ℕ} (g : Grouping t n i d k let
         let e : k + 1 - i ≡ k - i + 1 = omega arith in
         let u : i + (k - i) ≡ k = omega arith in
         let r = run_more g.run s h q in
-        let l : d ≤ get_or t (33 * k) 0 = omega (arith, run-letters r k (omega arith) (omega arith), word-length slot) in
+        let l : d ≤ get_or t (33 * k) 0 = omega
+        (arith, run-letters r k (omega arith) (omega arith), word-length slot) in
         let m = rw u at (longest-more t d i (k - i)) in
         let a = rw u at (marks-more t d i (k - i)) in
         record {

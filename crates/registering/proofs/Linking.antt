@@ -104,7 +104,8 @@ module _ {t : List ℕ} {n : ℕ} {shared : List ℕ} {rows rows' : List (List �
 pub filled_on : {t : List ℕ} {n : ℕ} {shared : List ℕ} {rows : List (List ℕ)} {links : List ℕ} {count i : ℕ}
     (k gap : ℕ) → Filled t n shared rows links count count i
     → ((j : ℕ) → i < j → j < k → (r : ℕ) → r < count → first_of (get_or rows r []) < j
-    → j < first_of (get_or rows r []) + many_of (get_or rows r []) → ¬ (get_or shared j 0 ≡ depth_of (get_or rows r [])))
+    → j < first_of (get_or rows r []) + many_of (get_or rows r [])
+    → ¬ (get_or shared j 0 ≡ depth_of (get_or rows r [])))
     → ((j : ℕ) → i < j → j < k → 1 ≤ get_or shared j 0) → LinksTo t n shared rows links count k gap
 filled_on {t} {n} {shared} {rows} {links} {count} {i} k gap f none some = record {
   long = f.long;

@@ -31,7 +31,8 @@ module _ {t : List ℕ} {i : ℕ} (s : Slot t i) where
       rw (drop_of_length-le (word_at t i) h)
 
   mark_before : (d : ℕ) → d < get_or t (33 * i) 0
-      → (37 * rest_mark (drop (suc d) (word_at t i)) + get_or t (33 * i + suc d) 0) % 256 ≡ rest_mark (drop d (word_at t i))
+      → (37 * rest_mark (drop (suc d) (word_at t i)) + get_or t (33 * i + suc d) 0) % 256
+      ≡ rest_mark (drop d (word_at t i))
   unfolding rest_mark
   mark_before d h =
       let k : d < length (word_at t i) = omega (arith, word-length s) in

@@ -262,7 +262,8 @@ module _ {t : List ℕ} {n : ℕ} {rows : List (List ℕ)} (heights : List ℕ) 
       (λ r m. ap (λ k. eqb k h) (height r (omega (arith, (from_out 0 count m).1))))
       ∙ ap (select (λ n. eqb (longest n.rest) h)) all-nodes
 
-  pub places-nodes : (top : ℕ) → Low heights count top → map (node_in t rows) (places_below heights count top) ≡ nodes ws
+  pub places-nodes : (top : ℕ) → Low heights count top → map (node_in t rows) (places_below heights count top)
+      ≡ nodes ws
   unfolding places_below
   places-nodes top low =
       map_flat_map (node_in t rows) (λ k. places_of heights k 0 count) (down_from top)

@@ -73,7 +73,8 @@ module _ {shared row : List ℕ} where
       total = omega (arith, c.total, ap length (part-here shared row i h e));
     }
 
-    pub count_past : i < first_of row + many_of row → ¬ (get_or shared i 0 ≡ depth_of row) → Counting shared row arcs (i + 1)
+    pub count_past : i < first_of row + many_of row → ¬ (get_or shared i 0 ≡ depth_of row)
+        → Counting shared row arcs (i + 1)
     count_past h e = record {
       inside = omega arith;
       few = omega (arith, c.few);

@@ -42,7 +42,8 @@ longest-more t d i (suc n) =
     rw f (omega (arith, h))
 
 -- no longer than a word
-pub longest-low : (t : List ℕ) (d i n : ℕ) → ((k : ℕ) → i ≤ k → k < i + n → Slot t k) → longest (rests_from t d i n) ≤ 32
+pub longest-low : (t : List ℕ) (d i n : ℕ) → ((k : ℕ) → i ≤ k → k < i + n → Slot t k)
+    → longest (rests_from t d i n) ≤ 32
 unfolding rests_from longest
 longest-low t d i zero h = omega arith
 longest-low t d i (suc n) h =

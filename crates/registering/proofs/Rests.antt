@@ -142,7 +142,8 @@ module _ (t : List ℕ) (d i e j n : ℕ) where
 
 module _ (t : List ℕ) (i m d j n e : ℕ) where
   apart : (node_at t i m d ≡ node_at t j n e → ⊥) → same_node (node_at t i m d) (node_at t j n e) ≡ false
-  apart k = refuted (same_node (node_at t i m d) (node_at t j n e)) (λ q. k (node-eq (node_at t i m d) (node_at t j n e) q))
+  apart k = refuted (same_node (node_at t i m d) (node_at t j n e))
+      (λ q. k (node-eq (node_at t i m d) (node_at t j n e) q))
 
   pub nodes-many : ¬ (m ≡ n) → same_node (node_at t i m d) (node_at t j n e) ≡ false
   unfolding node_at
@@ -231,7 +232,8 @@ module _ {t : List ℕ} {n : ℕ} (row : List ℕ) {i m d high mark : ℕ} (r : 
 
   -- of the same letter and the same number of words
   pub same-letters : (row_node t row).letter ≡ get_or t (33 * i + d) 0 → many_of row ≡ m
-      → {b : Bool} → b ≡ same_words (rests_from t (depth_of row) (first_of row) (many_of row)) (rests_from t d i (many_of row))
+      → {b : Bool} → b ≡ same_words (rests_from t (depth_of row) (first_of row) (many_of row))
+      (rests_from t d i (many_of row))
       → b ≡ same_node (row_node t row) (node_at t i m d)
   unfolding row_node node_at
   same-letters e k q =

@@ -10,7 +10,7 @@ use native.Mathlib.Numerals.{add-one}
 use native.Mathlib.Omega.{arith}
 use lib.ListN.{length, get_or}
 use borrow.Author.Tests.{eq-eqb, ne_eqb}
-use Rattle.canonical.specs.Nodes.{Node, node, nodes, rest_of, letter_of, arcs_of}
+use Rattle.canonical.specs.Nodes.{Node, nodes, rest_of, letter_of, arcs_of}
 use Rattle.canonical.specs.Groups.{common}
 use Rattle.canonical.proofs.Continuations.{Below}
 use Rattle.canonical.proofs.Vertices.{vertex-letter}
@@ -50,7 +50,8 @@ pub record Tables (t : List ℕ) (n : ℕ) (shared : List ℕ) (rows : List (Lis
   pub numbers : Numbered t n rows (order_in numbered) (numbers_in numbered) count
   pub root : HasWords (get_or numbered 400 []) 0 n 0
   pub same : (r : ℕ) → r < count
-      → HasWords (get_or numbered r []) (first_of (get_or rows r [])) (many_of (get_or rows r [])) (depth_of (get_or rows r []))
+      → HasWords (get_or numbered r []) (first_of (get_or rows r [])) (many_of (get_or rows r []))
+      (depth_of (get_or rows r []))
 
 module _ {t : List ℕ} {n : ℕ} {shared : List ℕ} {rows : List (List ℕ)} {links : List ℕ} {numbered : List (List ℕ)}
     {count : ℕ} (q : Tables t n shared rows links numbered count) where

@@ -163,7 +163,8 @@ module _ {t : List ℕ} {n : ℕ} {shared : List ℕ} (w : Words t n) (s : Share
               rw (u.3, ← add-one d) (g.reach.have u.0 u.1 (omega (arith, u.2)))
 
       none : (j : ℕ) → i < j → j < i + m → (r : ℕ) → r < count → first_of (get_or rows r []) < j
-          → j < first_of (get_or rows r []) + many_of (get_or rows r []) → ¬ (get_or shared j 0 ≡ depth_of (get_or rows r []))
+          → j < first_of (get_or rows r []) + many_of (get_or rows r [])
+          → ¬ (get_or shared j 0 ≡ depth_of (get_or rows r []))
       none j a b r h c e q =
           let more = alike g j a b in
           elim (ℕ_discrete (first_of (get_or rows r [])) i) [

@@ -19,7 +19,7 @@ use Rattle.checking.proofs.Columns.{column-at}
 use Rattle.graph.specs.Graph.{sink}
 use Rattle.graph.specs.Conditions.{place_count, many_places}
 use Rattle.image.specs.Image.{list_bytes, image_of}
-use Rattle.canonical.specs.Nodes.{nodes, letter_of, rest_of, arcs_of, canonical_graph}
+use Rattle.canonical.specs.Nodes.{letter_of, rest_of, arcs_of, canonical_graph}
 use Rattle.canonical.specs.Canonical.{words_graph, words_image, outside_limits, outside_rows}
 use Rattle.sorting.specs.Slots.{words_from}
 use Rattle.sorting.proofs.SlotWords.{words-length}

@@ -1,6 +1,7 @@
 -- The register of nodes over a table of words in dictionary order: marks of words, rows of numbers, chains of nodes
 -- with one letter, and links from a node to those that follow it. No public contract cites them. Assumes nothing.
-use Rattle.std.specs.Prelude.{ℕ, zero, suc, ◌+◌, ◌*◌, ◌%◌, ◌≤◌, ◌<◌, ◌≡◌, true, false, cond, List, [], ◌∷◌, length, get_or, take, drop, set, eqb}
+use Rattle.std.specs.Prelude.{ℕ, zero, suc, ◌+◌, ◌*◌, ◌%◌, ◌≤◌, ◌<◌, ◌≡◌, true, false, cond, List, [], ◌∷◌, length}
+use Rattle.std.specs.Prelude.{get_or, take, drop, set, eqb}
 use Rattle.canonical.specs.Dictionary.{words_in_order, longest}
 use Rattle.canonical.specs.Nodes.{Node, node, same_node, node_of, reached}
 use Rattle.canonical.specs.Groups.{begins, common}

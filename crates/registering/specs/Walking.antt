@@ -25,7 +25,8 @@ fresh_to t n i d =
 pub record LinksTo (t : List ℕ) (n : ℕ) (shared : List ℕ) (rows : List (List ℕ)) (links : List ℕ) (count i gap : ℕ)
     : Type 0 where
   pub long : length links ≡ 2400
-  pub down : (r : ℕ) → r < count → ¬ (r ≡ gap) → depth_of (get_or rows r []) < get_or t (33 * first_of (get_or rows r [])) 0
+  pub down : (r : ℕ) → r < count → ¬ (r ≡ gap)
+      → depth_of (get_or rows r []) < get_or t (33 * first_of (get_or rows r [])) 0
       → Linked t n rows count (get_or links r 0) (first_of (get_or rows r [])) (depth_of (get_or rows r []) + 1)
   pub across : (j r : ℕ) → j < i → r < count → first_of (get_or rows r []) < j
       → j < first_of (get_or rows r []) + many_of (get_or rows r []) → get_or shared j 0 ≡ depth_of (get_or rows r [])
@@ -37,8 +38,10 @@ pub record LinksTo (t : List ℕ) (n : ℕ) (shared : List ℕ) (rows : List (Li
 pub data Gap (t : List ℕ) (n : ℕ) (shared : List ℕ) (rows : List (List ℕ)) (links : List ℕ) (count i d : ℕ)
     : ℕ → Type 0 where
   ahead : d ≡ get_or shared i 0 → Gap t n shared rows links count i d (400 + i)
-  within : {r : ℕ} → r < count → first_of (get_or rows r []) ≡ i → depth_of (get_or rows r []) ≡ d → get_or shared i 0 < d
-      → Linked t n rows count (get_or links (400 + i) 0) i (get_or shared i 0 + 1) → Gap t n shared rows links count i d r
+  within : {r : ℕ} → r < count → first_of (get_or rows r []) ≡ i → depth_of (get_or rows r []) ≡ d
+      → get_or shared i 0 < d
+      → Linked t n rows count (get_or links (400 + i) 0) i (get_or shared i 0 + 1)
+      → Gap t n shared rows links count i d r
 
 -- ---- the walk
 

@@ -109,7 +109,8 @@ module _ (v x work further : List ℕ) where
             ap table_answer sorted ∙ sym (unless-past (image_rows v x) (long_rows ws) (length ws) c.accepted)
 
         pub table-left : {answer : Answer ℕ} {left left' : List ℕ}
-            → Tabled (words_in_order (words_from u 2001 n)) u answer left' → left ≡ cleared work → Leaves answer left left'
+            → Tabled (words_in_order (words_from u 2001 n)) u answer left' → left ≡ cleared work
+            → Leaves answer left left'
         table-left t w = (
           t.answers ∙ answers-table ∙ sym answers-words,
           (w ∙ work-left, t.leaves ∙ rw (answers-table, sorted, zeroes) (sym further-left)),

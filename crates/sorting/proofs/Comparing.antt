@@ -29,7 +29,8 @@ module _ (a b : List ℕ) (i : ℕ) where
       → precedes (drop i a) (drop i b) ≡ ltb (get_or a i 0) (get_or b i 0)
   unfolding precedes
   precedes_differs h k n =
-      rw (drop-cons a i 0 h, drop-cons b i 0 k, ne_eqb (get_or a i 0) (get_or b i 0) n) (go (ltb (get_or a i 0) (get_or b i 0)))
+      rw (drop-cons a i 0 h, drop-cons b i 0 k, ne_eqb (get_or a i 0) (get_or b i 0) n) (go (ltb (get_or a i 0)
+      (get_or b i 0)))
     where
       go : (t : Bool) → t || false && precedes (drop (suc i) a) (drop (suc i) b) ≡ t
       go true = refl

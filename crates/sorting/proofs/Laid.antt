@@ -74,7 +74,8 @@ module _ (t r : List ℕ) (n k : ℕ) (h : k < n) (s : Rising t r 0 n) where
   abbrev last : List ℕ
   last = word_of t r (k - 1)
 
-  row-known : 1 ≤ k → precedes last hand ≡ false → words_in_order (row_words t r (k + 1)) ≡ words_in_order (row_words t r k)
+  row-known : 1 ≤ k → precedes last hand ≡ false → words_in_order (row_words t r (k + 1)) ≡ words_in_order (row_words
+      t r k)
   row-known l f =
       ap words_in_order (row_more t r k) ∙ order-known (row_words t r k) hand (there_already (before-total last hand))
     where

@@ -41,7 +41,8 @@ row_in t r (suc k) p h = elim (ℕ_discrete p k) [
 ]
 
 -- sorting keeps the words
-ordered_words : (t r u : List ℕ) (n : ℕ) → Ordered t r 0 n u → words_in_order (row_words t u n) ≡ words_in_order (row_words t r n)
+ordered_words : (t r u : List ℕ) (n : ℕ) → Ordered t r 0 n u
+    → words_in_order (row_words t u n) ≡ words_in_order (row_words t r n)
 ordered_words t r u n o = order_same (row_words t u n) (row_words t r n) (λ w. (to w, back w))
   where
     to : (w : List ℕ) → In w (row_words t u n) → In w (row_words t r n)

@@ -79,7 +79,8 @@ module _ (t : List ℕ) where
       ∙ bytes-from (suc i) n (λ k a b. s k (omega arith) (omega arith)) (λ k a b. z k (omega arith) (omega arith)))
 
   -- the first n slots of a table, with zeros behind the letters, are the bytes of the words in them
-  pub table-bytes : (n : ℕ) → Holds t n → ((i : ℕ) → i < n → Padded t i) → take (33 * n) t ≡ slot_bytes (words_from t 0 n)
+  pub table-bytes : (n : ℕ) → Holds t n → ((i : ℕ) → i < n → Padded t i)
+      → take (33 * n) t ≡ slot_bytes (words_from t 0 n)
   table-bytes n h z = bytes-from 0 n (λ k a b. h k (omega arith)) (λ k a b. z k (omega arith))
 
 -- ---- from bytes to slots
@@ -123,7 +124,8 @@ module _ {t : List ℕ} {m : ℕ} {ws : List (List ℕ)} (s : BytesFrom t m ws) 
 
   pub from-size : (i : ℕ) → i < length ws → get_or t (33 * (m + i)) 0 ≡ length (get_or ws i [])
   from-size i h =
-      ap (λ k. get_or t k 0) (sym (add-zero (33 * (m + i)))) ∙ from_byte i 0 h (omega arith) ∙ slot-first (get_or ws i [])
+      ap (λ k. get_or t k 0) (sym (add-zero (33 * (m + i)))) ∙ from_byte i 0 h (omega arith)
+      ∙ slot-first (get_or ws i [])
 
   pub from-slot : (i : ℕ) → i < length ws → Slot t (m + i)
   from-slot i h =

@@ -49,7 +49,8 @@ words-split t i (suc m) n =
     rw (e, f) (ap (λ l. word_at t i ∷ l) (words-split t (suc i) m n))
 
 -- those from the k-th on
-pub words-next : (t : List ℕ) (n k : ℕ) → k < n → words_from t k (n - k) ≡ word_at t k ∷ words_from t (k + 1) (n - (k + 1))
+pub words-next : (t : List ℕ) (n k : ℕ) → k < n
+    → words_from t k (n - k) ≡ word_at t k ∷ words_from t (k + 1) (n - (k + 1))
 unfolding words_from
 words-next t n k h =
     let e : n - k ≡ suc (n - (k + 1)) = omega arith in
@@ -78,11 +79,13 @@ word-length {t} {i} s =
     let b = s.short in
     omega (arith, length-take (get_or t (33 * i) 0) (drop (33 * i + 1) t), length-drop (33 * i + 1) t)
 
-pub letter_at_lem : (t : List ℕ) (i d : ℕ) → d < get_or t (33 * i) 0 → get_or (word_at t i) d 0 ≡ get_or t (33 * i + suc d) 0
+pub letter_at_lem : (t : List ℕ) (i d : ℕ) → d < get_or t (33 * i) 0
+    → get_or (word_at t i) d 0 ≡ get_or t (33 * i + suc d) 0
 unfolding word_at
 letter_at_lem t i d h =
     let e : 33 * i + 1 + d ≡ 33 * i + suc d = omega arith in
-    get_or-take (get_or t (33 * i) 0) (drop (33 * i + 1) t) d 0 h ∙ get_or-drop (33 * i + 1) t d 0 ∙ ap (λ k. get_or t k 0) e
+    get_or-take (get_or t (33 * i) 0) (drop (33 * i + 1) t) d 0 h ∙ get_or-drop (33 * i + 1) t d 0
+    ∙ ap (λ k. get_or t k 0) e
 
 -- the part of the table that it is
 pub word-part : (t : List ℕ) (i : ℕ)
@@ -133,7 +136,8 @@ copied_more {t} {at} {n} {slot} c h = record {
 module _ (t u : List ℕ) (i j : ℕ) (same : (b : ℕ) → b < 33 → get_or u (33 * i + b) 0 ≡ get_or t (33 * j + b) 0) where
   same_size : get_or u (33 * i) 0 ≡ get_or t (33 * j) 0
   same_size =
-      ap (λ k. get_or u k 0) (sym (add-zero (33 * i))) ∙ same 0 (omega arith) ∙ ap (λ k. get_or t k 0) (add-zero (33 * j))
+      ap (λ k. get_or u k 0) (sym (add-zero (33 * i))) ∙ same 0 (omega arith)
+      ∙ ap (λ k. get_or t k 0) (add-zero (33 * j))
 
   pub padded-same : Padded t j → Padded u i
   padded-same p b h k = same b k ∙ p b (omega (arith, same_size)) k

@@ -100,7 +100,8 @@ written-value bytes out e = rw e
 
 module _ {t u : List ℕ} {n q : ℕ} (w : Waiting t n) (d : Dictionary t n q u) where
   -- 17, as the code judges it
-  pub judged : ltb 2000 q || ltb 16000 (sum (map length (words_from u 0 q))) ≡ long_list (words_in_order (words_from t 2001 n))
+  pub judged : ltb 2000 q || ltb 16000 (sum (map length (words_from u 0 q))) ≡ long_list (words_in_order (words_from
+      t 2001 n))
   unfolding long_list
   judged = elim (dec_lt 2000 q) [
     | yes h ↦ rw (← d.many, lt-ltb 2000 q h)

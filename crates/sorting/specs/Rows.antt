@@ -1,6 +1,7 @@
 -- Rows of slot numbers, two bytes each, that are sorted by the words in their slots: places 0 to 3,999 are the row, the
 -- 4,000 behind them a spare one. No public contract cites them. Assumes nothing.
-use Rattle.std.specs.Prelude.{ℕ, zero, suc, ◌+◌, ◌*◌, ◌-◌, ◌≤◌, ◌<◌, ◌≡◌, ◌⊎◌, true, false, List, [], ◌∷◌, ◌++◌, length, get_or}
+use Rattle.std.specs.Prelude.{ℕ, zero, suc, ◌+◌, ◌*◌, ◌-◌, ◌≤◌, ◌<◌, ◌≡◌, ◌⊎◌, true, false, List, [], ◌∷◌, ◌++◌}
+use Rattle.std.specs.Prelude.{length, get_or}
 use Rattle.endian.specs.Rows.{number_at, NumberPut}
 use Rattle.canonical.specs.Dictionary.{precedes, words_in_order}
 use Rattle.sorting.specs.Slots.{word_at, Slot, Holds, Padded, words_from, Filled, Copied}

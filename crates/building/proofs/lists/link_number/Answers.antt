@@ -1,7 +1,6 @@
 -- `lists::link_number` meets its contract: the entry of a row is that of its column. Assumes nothing.
 use Prim.Native.Nat.{◌+◌}
 use mathlib.Core.Path.{sym}
-use borrow.Author.Rules.{rules}
 use lib.ListN.{get_or}
 use Rattle.checking.proofs.Columns.{column-at}
 use Rattle.building.proofs.lists.link_number.Goals as goal

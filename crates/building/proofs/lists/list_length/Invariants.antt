@@ -1,7 +1,5 @@
 use Prim.Native.Nat.{◌-◌}
-use mathlib.Core.Logic.{⊎_elim}
-use native.Mathlib.Omega.{arith}
-use Rattle.registering.proofs.Partings.{Counting, count-start, count-here, count_past, count-done}
+use Rattle.registering.proofs.Partings.{Counting}
 use Rattle.building.proofs.lists.list_length.Given as goal
 
 abbrev pub invariant-loop-i : goal.invariant-loop-i

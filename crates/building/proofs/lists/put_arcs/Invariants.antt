@@ -1,9 +1,6 @@
-use Prim.Native.Nat.{◌+◌, ◌*◌, ◌-◌, ◌≤◌, ◌<◌}
-use mathlib.Core.Logic.{⊎_elim}
-use native.Mathlib.Omega.{arith}
-use lib.ListN.{length}
+use Prim.Native.Nat.{◌-◌}
 use Rattle.registering.specs.Numbering.{numbers_in}
-use Rattle.registering.proofs.Partings.{Putting, put-start, part_room, put_here, put_past, put_done}
+use Rattle.registering.proofs.Partings.{Putting}
 use Rattle.building.proofs.lists.put_arcs.Given as goal
 
 abbrev pub invariant-loop-i : goal.invariant-loop-i

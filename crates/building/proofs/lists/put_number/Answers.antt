@@ -1,7 +1,6 @@
 -- `lists::put_number` meets its contract: its two bytes are the number's. Assumes nothing.
 use Prim.Native.Nat.{◌%◌}
 use native.Mathlib.Omega.{arith}
-use borrow.Author.Rules.{rules}
 use lib.ListN.{length-set}
 use Rattle.registering.proofs.Putting.{put-u16}
 use Rattle.building.proofs.lists.put_number.Goals as goal

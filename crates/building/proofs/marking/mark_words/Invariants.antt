@@ -1,7 +1,5 @@
 use Prim.Native.Nat.{◌-◌}
-use native.Mathlib.Omega.{arith}
-use Rattle.registering.proofs.Marks.{MarkedTo, marks-start, slot_kept, marks-next, marks-all}
-use borrow.Author.Rules.{rules}
+use Rattle.registering.proofs.Marks.{MarkedTo}
 use Rattle.building.proofs.marking.mark_words.Given as goal
 
 abbrev pub invariant-loop-i : goal.invariant-loop-i

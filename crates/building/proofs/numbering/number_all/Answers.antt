@@ -4,53 +4,46 @@ use Prim.Native.Nat.{suc, ◌-◌}
 use mathlib.Core.Path.{◌≡◌, ap}
 use mathlib.Core.List.{◌++◌}
 use native.Mathlib.Omega.{arith}
-use borrow.Author.Rules.{rules}
-use Rattle.registering.specs.Numbering.{heights_in, places_of, places_below, PlacedIn}
+use Rattle.registering.specs.Numbering.{heights_in, places_of, places_below}
 use Rattle.registering.proofs.Numbers.{placed-all, places-next, places-end}
 use Rattle.registering.proofs.Placing.{rows_on, placed_first, placed-own, placed_on}
 use Rattle.building.proofs.numbering.number_all.Goals as goal
-use Rattle.building.proofs.numbering.number_all.Tie as tie
-use Rattle.building.proofs.numbering.number_all.Lts as lts
-use Rattle.building.proofs.numbering.number_all.Reads as reads
-
-abbrev start : lts.At-loop tie.the-claims reads.Pre reads.Post goal.the-invariant-loop-h goal.the-decreases-loop-h tie.handed_clauses → goal.Start
-start c = c.before.before.before
 
 pub number_level-k-requires : goal.number_level-k-requires
 number_level-k-requires c =
-    let l = c.before.before in
-    let s = start l in
-    let i = l.loop-h.invariant in
-    let count = s.args.count in
-    let heights = heights_in s.args.rows.now in
+    let i = c.loop-h.invariant in
+    let count = c.args.count in
+    let heights = heights_in c.args.rows.now in
     let h = c.loop-h-test.true in
-    let next = l.loop-h.h - 1 in
-    let e : l.loop-h.h ≡ suc next = omega arith in record {
-      rows = rows_on i.same s.pre;
-      placed_in = placed-own i.same (λ l. places_of l next 0 count ++ places_below l count next)
+    let next = c.loop-h.h - 1 in
+    let e : c.loop-h.h ≡ suc next = omega arith in record {
+      rows = rows_on i.same c.requires;
+      placed_in = placed-own i.same (λ c. places_of c next 0 count ++ places_below c count next)
           (rw (ap (places_below heights count) e, places-next heights count next) at i.placed);
     }
 
 pub loop-h-preserved : goal.loop-h-preserved
 loop-h-preserved c =
-    let l = c.before.before.before in
-    placed_on l.loop-h.invariant.same (λ m. places_below m (start l).args.count (l.loop-h.h - 1))
+    placed_on c.loop-h.invariant.same (λ m. places_below m c.args.count (c.loop-h.h - 1))
     c.number_level-k.ensures
 
 pub returns : goal.returns
 returns c =
     let l = c.loop-h in
-    let a = (start c.before).args in
+    let a = c.args in
     let heights = heights_in a.rows.now in
     let z : l.h ≡ 0 = omega (arith, c.loop-h-test.false) in
     let none = rw (ap (places_below heights a.count) z, places-end heights a.count) at l.invariant in
     rw (placed-all none.placed) at none
 
 pub top_of-h-requires : goal.top_of-h-requires
-top_of-h-requires c = c.requires
+top_of-h-requires c =
+    c.requires
 
 pub loop-h-init : goal.loop-h-init
-loop-h-init c = placed_first c.requires c.top_of-h.result c.top_of-h.ensures.0
+loop-h-init c =
+    placed_first c.requires c.top_of-h.result c.top_of-h.ensures.0
 
 pub loop-h-smaller : goal.loop-h-smaller
-loop-h-smaller c = let h = c.loop-h-test.true in omega arith
+loop-h-smaller c =
+    let h = c.loop-h-test.true in omega arith

@@ -1,11 +1,4 @@
-use Prim.Native.Nat.{◌-◌, ◌≤◌, ◌<◌}
-use mathlib.Core.Logic.{⊎_elim}
-use mathlib.Core.List.{[]}
-use native.Mathlib.Decide.{ℕ_discrete}
-use native.Mathlib.Omega.{arith}
-use lib.ListN.{get_or}
-use Rattle.checking.proofs.Columns.{column-at}
-use Rattle.registering.specs.Register.{longest_of}
+use Prim.Native.Nat.{◌-◌, ◌≤◌}
 use Rattle.registering.specs.Numbering.{heights_in, Low}
 use Rattle.building.proofs.numbering.top_of.Given as goal
 

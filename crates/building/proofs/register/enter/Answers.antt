@@ -13,50 +13,44 @@ overflow_mul-at c =
 
 pub overflow_add-at : goal.overflow_add-at
 overflow_add-at c =
-    let s = c.before.before.before.before in
-    let h = group-small s.requires.words.0 s.requires.word_group in
+    let h = group-small c.requires.words.0 c.requires.word_group in
     omega (arith, h.0, h.2)
 
 pub bounds-words-at : goal.bounds-words-at
 bounds-words-at c =
-    let s = c.before.before.before.before.before in
-    let w = s.requires.words.0 in
-    let g = s.requires.word_group in
-    let slot = w.holds s.args.a.first (omega (arith, g.reach.inside, g.reach.one)) in
+    let w = c.requires.words.0 in
+    let g = c.requires.word_group in
+    let slot = w.holds c.args.a.first (omega (arith, g.reach.inside, g.reach.one)) in
     omega (arith, slot.room, slot.short, g.letters)
 
 pub find-r-requires : goal.find-r-requires
 find-r-requires c =
-    let p = c.requires in record { words = (p.words.0, p.words.1); chained = p.chained; word_group = p.word_group; letter_value = refl }
+    let p = c.requires in record {
+      words = (p.words.0, p.words.1);
+      chained = p.chained;
+      word_group = p.word_group;
+      letter_value = refl;
+    }
 
 pub append-requires : goal.append-requires
 append-requires c =
-    let t = c.before.before.before in
-    let s = t.before.before.before.before.before.before.before.before.before in
-    let h = group-small s.requires.words.0 s.requires.word_group in
-    (t.if-r-lt-NODES.true, h.0, h.1, h.2, h.3, h.4)
+    let h = group-small c.requires.words.0 c.requires.word_group in
+    (c.if-r-lt-NODES.true, h.0, h.1, h.2, h.3, h.4)
 
 pub returns-then-r-lt-NODES : goal.returns-then-r-lt-NODES
 returns-then-r-lt-NODES c =
-    let e = c.before.before.before.before in
-    let q = e.before.before in
-    let k = q.before.before.before in
-    let s = k.before.before.before.before in
-    let a = s.args.a in
+    let a = c.args.a in
     rw (c.append.ensures.rows_after, c.append.ensures.chains_after)
-    (enter-new s.requires.words.1 s.requires.chained s.requires.word_group
-    (omega (arith, k.shared_slice_known-2-1.given (33 * a.first + a.depth)))
-    (omega (arith, e.if-count-r.true, e.if-r-lt-NODES.true))
-    q.find-r.ensures
-    e.if-count-r.true)
+    (enter-new c.requires.words.1 c.requires.chained c.requires.word_group
+    (omega (arith, c.type_inv.words (33 * a.first + a.depth)))
+    (omega (arith, c.if-count-r.true, c.if-r-lt-NODES.true))
+    c.find-r.ensures
+    c.if-count-r.true)
 
 pub returns-else-r-lt-NODES : goal.returns-else-r-lt-NODES
 returns-else-r-lt-NODES c =
-    let t = c.before.before in
-    let s = t.before.before.before.before.before.before.before.before in
-    enter-full t.find-r.ensures s.requires.words.1 t.if-count-r.true c.if-r-lt-NODES.false
+    enter-full c.find-r.ensures c.requires.words.1 c.if-count-r.true c.if-r-lt-NODES.false
 
 pub returns-else-count-r : goal.returns-else-count-r
 returns-else-count-r c =
-    let s = c.before.before.before.before.before.before.before.before.before in
-    enter-known c.find-r.ensures s.requires.chained c.if-count-r.false
+    enter-known c.find-r.ensures c.requires.chained c.if-count-r.false

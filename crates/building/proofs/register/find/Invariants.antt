@@ -1,9 +1,5 @@
-use Prim.Native.Nat.{◌-◌}
-use mathlib.Core.Path.{sym, ◌∙◌}
-use native.Mathlib.Omega.{arith}
 use Rattle.registering.specs.Register.{node_at}
-use Rattle.registering.proofs.Chains.{Passed, node-letter, passed_start, passed-next, passed_less}
-use Rattle.registering.proofs.Chains.{passed-found, passed_none}
+use Rattle.registering.proofs.Chains.{Passed}
 use Rattle.building.proofs.register.find.Given as goal
 
 abbrev pub invariant-loop-place : goal.invariant-loop-place

@@ -1,7 +1,5 @@
-use Prim.Native.Nat.{◌+◌, ◌*◌, ◌-◌, ◌<◌}
-use native.Mathlib.Omega.{arith}
-use lib.ListN.{length}
-use Rattle.registering.proofs.Rests.{EqualTo, equal-start, equal_next, equal_differs, equal_ends, other-lengths}
+use Prim.Native.Nat.{◌-◌}
+use Rattle.registering.proofs.Rests.{EqualTo}
 use Rattle.building.proofs.register.same_rest.Given as goal
 
 abbrev pub invariant-loop-k : goal.invariant-loop-k

@@ -1,11 +1,6 @@
 use Prim.Native.Nat.{◌≤◌, ◌-◌}
 use mathlib.Core.Path.{◌≡◌}
-use native.Mathlib.Omega.{arith}
-use borrow.Author.Tests.{not-true, not-false}
-use Rattle.registering.proofs.Rests.{Whole, Compared, rests_start, rests_equal, rests_differ, rests_end}
-use borrow.Author.Rules.{rules}
-use mathlib.Core.Path.{ap}
-use mathlib.Core.Bool.{not}
+use Rattle.registering.proofs.Rests.{Whole, Compared}
 use Rattle.building.proofs.register.same_rests.Given as goal
 
 abbrev pub invariant-loop-k : goal.invariant-loop-k

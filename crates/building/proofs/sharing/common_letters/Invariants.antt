@@ -1,9 +1,5 @@
-use Prim.Native.Nat.{◌-◌, ◌<◌}
-use mathlib.Core.Path.{◌∙◌}
-use native.Mathlib.Omega.{arith}
-use lib.ListN.{length}
-use Rattle.registering.proofs.CommonLetters.{Alike, alike-start, alike_next, alike_differs, alike-ends}
-use Rattle.registering.proofs.CommonLetters.{first_shares, shared_words}
+use Prim.Native.Nat.{◌-◌}
+use Rattle.registering.proofs.CommonLetters.{Alike}
 use Rattle.building.proofs.sharing.common_letters.Given as goal
 
 abbrev pub invariant-loop-d : goal.invariant-loop-d

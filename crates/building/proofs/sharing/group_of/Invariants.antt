@@ -1,9 +1,5 @@
-use Prim.Native.Nat.{ℕ, ◌+◌, ◌*◌, ◌-◌, ◌≤◌, ◌<◌}
-use mathlib.Core.Path.{refl}
-use mathlib.Core.Logic.{inl, inr, ⊎_elim}
-use native.Mathlib.Omega.{arith}
-use lib.ListN.{length, get_or}
-use Rattle.registering.proofs.CommonLetters.{Grouping, grouping_start, grouping_low, grouping_more, grouped}
+use Prim.Native.Nat.{◌-◌}
+use Rattle.registering.proofs.CommonLetters.{Grouping}
 use Rattle.building.proofs.sharing.group_of.Given as goal
 
 abbrev pub invariant-loop-k : goal.invariant-loop-k

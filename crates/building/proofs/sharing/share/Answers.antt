@@ -1,8 +1,7 @@
 -- `sharing::share` meets its contract: the words passed have their entries, and an entry more leaves these. The measure
 -- is the words left. Assumes nothing.
-use Prim.Native.Nat.{◌-◌}
 use native.Mathlib.Omega.{arith}
-use Rattle.registering.proofs.CommonLetters.{SharedTo, shared_none, shared_more, shared_all}
+use Rattle.registering.proofs.CommonLetters.{shared_none, shared_more, shared_all}
 use borrow.Author.Rules.{rules}
 use Rattle.building.proofs.sharing.share.Goals as goal
 

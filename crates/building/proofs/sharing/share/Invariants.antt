@@ -1,7 +1,5 @@
 use Prim.Native.Nat.{◌-◌}
-use native.Mathlib.Omega.{arith}
-use Rattle.registering.proofs.CommonLetters.{SharedTo, shared_none, shared_more, shared_all}
-use borrow.Author.Rules.{rules}
+use Rattle.registering.proofs.CommonLetters.{SharedTo}
 use Rattle.building.proofs.sharing.share.Given as goal
 
 abbrev pub invariant-loop-i : goal.invariant-loop-i

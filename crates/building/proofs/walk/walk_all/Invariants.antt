@@ -1,8 +1,5 @@
 use Prim.Native.Nat.{◌-◌, ◌≤◌}
-use mathlib.Core.Path.{◌≡◌}
-use native.Mathlib.Omega.{arith}
 use Rattle.registering.specs.Walking.{Walked}
-use Rattle.registering.proofs.Walking.{walk_first, walk-done, walk-over}
 use Rattle.building.proofs.walk.walk_all.Given as goal
 
 abbrev pub invariant-loop-i : goal.invariant-loop-i

@@ -1,11 +1,5 @@
-use Prim.Native.Nat.{◌+◌, ◌-◌, ◌*◌, ◌≤◌, ◌<◌}
-use native.Mathlib.Omega.{arith}
-use lib.ListN.{get_or}
-use Rattle.registering.specs.Register.{Group, Entered}
+use Prim.Native.Nat.{◌-◌, ◌≤◌}
 use Rattle.registering.specs.Walking.{Walking}
-use Rattle.registering.proofs.Linking.{gap-low, gap_shared}
-use Rattle.registering.proofs.Walking.{shared_short, walk_start, walk_end, step-known, step-full, step_added}
-use Rattle.registering.proofs.Walking.{entered-low}
 use Rattle.building.proofs.walk.walk_word.Given as goal
 
 abbrev pub invariant-loop-d : goal.invariant-loop-d

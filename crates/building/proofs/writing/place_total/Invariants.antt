@@ -1,17 +1,14 @@
-use Prim.Native.Nat.{◌+◌, ◌*◌, ◌-◌, ◌≤◌, ◌<◌}
-use mathlib.Core.Path.{◌≡◌, ap, sym}
+use Prim.Native.Nat.{◌*◌, ◌-◌, ◌≤◌}
+use mathlib.Core.Path.{◌≡◌}
 use mathlib.Core.List.{map}
-use native.Mathlib.Omega.{arith}
-use lib.ListN.{length, get_or}
 use Rattle.endian.specs.Lists.{sum}
-use Rattle.voice.specs.Voice.{letter_count, states}
-use Rattle.voice.proofs.Letters.{states-range, states_there}
+use Rattle.voice.specs.Voice.{states}
 use Rattle.registering.specs.Image.{letters_from}
-use Rattle.registering.proofs.Images.{node-read, states-none, states-more}
 use Rattle.building.proofs.writing.place_total.Given as goal
 
 abbrev pub invariant-loop-node : goal.invariant-loop-node
-invariant-loop-node l = (l.node ≤ l.count) × (l.places ≡ sum (map (states l.voice) (letters_from l.words l.rows 1 l.node))) × (l.places ≤ 4 * l.node)
+invariant-loop-node l = (l.node ≤ l.count) × (l.places ≡ sum (map (states l.voice) (letters_from l.words l.rows 1 l.node)))
+    × (l.places ≤ 4 * l.node)
 
 abbrev pub decreases-loop-node : goal.decreases-loop-node
 decreases-loop-node l = l.count - l.node

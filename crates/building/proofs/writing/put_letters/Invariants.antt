@@ -1,14 +1,13 @@
-use Prim.Native.Nat.{◌+◌, ◌-◌, ◌≤◌, ◌<◌}
-use mathlib.Core.Path.{◌≡◌, refl, sym, ◌∙◌}
-use native.Mathlib.Omega.{arith}
-use lib.ListN.{length, length-set}
+use Prim.Native.Nat.{◌+◌, ◌-◌, ◌≤◌}
+use mathlib.Core.Path.{◌≡◌}
+use lib.ListN.{length}
 use Rattle.registering.specs.Image.{Put, letters_from}
-use Rattle.registering.proofs.Putting.{put-none, put_both, put_byte}
-use Rattle.registering.proofs.Images.{node-read, letters-none, letters-more}
 use Rattle.building.proofs.writing.put_letters.Given as goal
 
 abbrev pub invariant-loop-node : goal.invariant-loop-node
-invariant-loop-node l = (l.node ≤ l.count) × Put (letters_from l.words l.rows 1 l.node) 2 l.initial.out l.out (2 + l.node) × (length l.out ≡ length l.initial.out)
+invariant-loop-node l = (l.node ≤ l.count)
+    × Put (letters_from l.words l.rows 1 l.node) 2 l.initial.out l.out (2 + l.node)
+    × (length l.out ≡ length l.initial.out)
 
 abbrev pub decreases-loop-node : goal.decreases-loop-node
 decreases-loop-node l = l.count - l.node

@@ -1,11 +1,9 @@
 -- `laying::lay_out` meets its contract: place after place the words stand laid out. The measure is the places left.
 -- Assumes nothing.
-use Prim.Native.Nat.{◌≤◌, ◌-◌}
 use mathlib.Core.Path.{◌≡◌, subst}
 use native.Mathlib.Omega.{arith}
 use Rattle.sorting.specs.Rows.{LaidOut}
 use Rattle.sorting.proofs.Laid.{laid-start, laid-slot, laid_next, laid-few}
-use borrow.Author.Rules.{rules}
 use Rattle.sorting.proofs.laying.lay_out.Goals as goal
 
 pub loop-k-init : goal.loop-k-init
@@ -20,7 +18,11 @@ lay_word-q-requires c =
     let few = l.loop-k.invariant.1 in
     let o = l.loop-k.invariant.2 in
     let s = l.before.before.before in
-    let g = s.requires.gathered in record { q_bound = (omega arith, omega arith, s.requires.n_bound.1, omega (arith, o.long)); slot = laid-slot g o _ k; slot_2 = λ h. laid-slot g o _ (omega arith) }
+    let g = s.requires.gathered in record {
+      q_bound = (omega arith, omega arith, s.requires.n_bound.1, omega (arith, o.long));
+      slot = laid-slot g o _ k;
+      slot_2 = λ h. laid-slot g o _ (omega arith);
+    }
 
 pub loop-k-preserved : goal.loop-k-preserved
 loop-k-preserved c =

@@ -1,11 +1,9 @@
 -- `laying::number_slots` meets its contract: place after place has its number. The measure is the places left. Assumes
 -- nothing.
-use Prim.Native.Nat.{◌≤◌, ◌-◌}
 use mathlib.Core.Path.{◌≡◌, subst}
 use native.Mathlib.Omega.{arith}
 use Rattle.sorting.specs.Rows.{Numbered}
 use Rattle.sorting.proofs.Numbering.{numbered-start, numbered_more}
-use borrow.Author.Rules.{rules}
 use Rattle.sorting.proofs.laying.number_slots.Goals as goal
 
 pub loop-k-init : goal.loop-k-init

@@ -1,9 +1,5 @@
 use Prim.Native.Nat.{◌≤◌, ◌-◌}
-use mathlib.Core.Path.{◌≡◌, subst}
-use native.Mathlib.Omega.{arith}
 use Rattle.sorting.specs.Rows.{Numbered}
-use Rattle.sorting.proofs.Numbering.{numbered-start, numbered_more}
-use borrow.Author.Rules.{rules}
 use Rattle.sorting.proofs.laying.number_slots.Given as goal
 
 abbrev pub invariant-loop-k : goal.invariant-loop-k

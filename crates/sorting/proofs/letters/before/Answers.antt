@@ -1,11 +1,8 @@
 -- `letters::before` meets its contract: the letters passed are the same, so the order is that of what is left. The
 -- measure is the letters left. Assumes nothing.
-use Prim.Native.Nat.{◌≤◌, ◌-◌}
-use mathlib.Core.Path.{◌≡◌, refl, sym, ◌∙◌}
+use mathlib.Core.Path.{refl, sym, ◌∙◌}
 use native.Mathlib.Omega.{arith}
-use lib.ListN.{length, drop}
 use borrow.Author.Rules.{rules}
-use Rattle.canonical.specs.Dictionary.{precedes}
 use Rattle.sorting.proofs.Comparing.{precedes-next, precedes_differs, precedes-none, precedes-ends}
 use Rattle.sorting.proofs.letters.before.Goals as goal
 

@@ -1,9 +1,5 @@
 use Prim.Native.Nat.{◌≤◌, ◌-◌}
-use mathlib.Core.Path.{sym, subst}
-use native.Mathlib.Omega.{arith}
-use Rattle.sorting.specs.Slots.{Slot}
-use Rattle.sorting.proofs.Rising.{Merging, merging_start, merging_next, merging_end}
-use borrow.Author.Rules.{rules}
+use Rattle.sorting.proofs.Rising.{Merging}
 use Rattle.sorting.proofs.ordering.merge.Given as goal
 
 abbrev pub invariant-loop-k : goal.invariant-loop-k

@@ -2,7 +2,6 @@
 use mathlib.Core.Path.{sym, ap, ap₂, subst, ◌∙◌}
 use Rattle.canonical.specs.Dictionary.{precedes}
 use Rattle.sorting.specs.Slots.{word_at, Slot}
-use borrow.Author.Rules.{rules}
 use Rattle.sorting.proofs.ordering.stands_before.Goals as goal
 
 pub word-requires : goal.word-requires

@@ -1,11 +1,9 @@
 -- `rows::copy_back` meets its contract: place after place stands in the row. The measure is the places left. Assumes
 -- nothing.
-use Prim.Native.Nat.{◌≤◌, ◌-◌}
 use mathlib.Core.Path.{◌≡◌, subst}
 use native.Mathlib.Omega.{arith}
 use Rattle.sorting.specs.Rows.{Back}
 use Rattle.sorting.proofs.Rising.{back_start, back_more}
-use borrow.Author.Rules.{rules}
 use Rattle.sorting.proofs.rows.copy_back.Goals as goal
 
 pub loop-k-init : goal.loop-k-init

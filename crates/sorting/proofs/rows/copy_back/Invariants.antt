@@ -1,9 +1,5 @@
 use Prim.Native.Nat.{◌≤◌, ◌-◌}
-use mathlib.Core.Path.{◌≡◌, subst}
-use native.Mathlib.Omega.{arith}
 use Rattle.sorting.specs.Rows.{Back}
-use Rattle.sorting.proofs.Rising.{back_start, back_more}
-use borrow.Author.Rules.{rules}
 use Rattle.sorting.proofs.rows.copy_back.Given as goal
 
 abbrev pub invariant-loop-k : goal.invariant-loop-k

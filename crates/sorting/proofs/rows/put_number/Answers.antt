@@ -2,7 +2,6 @@
 use native.Mathlib.Omega.{arith}
 use lib.ListN.{length-set}
 use Rattle.endian.proofs.Stores.{number_put}
-use borrow.Author.Rules.{rules}
 use Rattle.sorting.proofs.rows.put_number.Goals as goal
 
 pub returns : goal.returns

@@ -1,6 +1,6 @@
 -- `slots::copied` meets its contract: the bytes passed stand in the copy. The measure is the bytes left. Assumes
 -- nothing.
-use Prim.Native.Nat.{◌*◌, ◌≤◌, ◌-◌}
+use Prim.Native.Nat.{◌*◌}
 use mathlib.Core.Path.{◌≡◌, refl, subst}
 use native.Mathlib.Omega.{arith}
 use Rattle.sorting.specs.Slots.{Copied}

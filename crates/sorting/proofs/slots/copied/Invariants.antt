@@ -1,9 +1,5 @@
 use Prim.Native.Nat.{◌*◌, ◌≤◌, ◌-◌}
-use mathlib.Core.Path.{◌≡◌, refl, subst}
-use native.Mathlib.Omega.{arith}
 use Rattle.sorting.specs.Slots.{Copied}
-use Rattle.sorting.proofs.SlotWords.{copied_more}
-use borrow.Author.Rules.{rules}
 use Rattle.sorting.proofs.slots.copied.Given as goal
 
 abbrev pub invariant-loop-b : goal.invariant-loop-b

@@ -1,5 +1,5 @@
 -- `slots::fill` meets its contract: the bytes passed stand in the slot. The measure is the bytes left. Assumes nothing.
-use Prim.Native.Nat.{◌*◌, ◌≤◌, ◌-◌}
+use Prim.Native.Nat.{◌*◌}
 use mathlib.Core.Path.{◌≡◌, subst}
 use native.Mathlib.Omega.{arith}
 use Rattle.sorting.specs.Slots.{Filled}

@@ -1,9 +1,5 @@
 use Prim.Native.Nat.{◌*◌, ◌≤◌, ◌-◌}
-use mathlib.Core.Path.{◌≡◌, subst}
-use native.Mathlib.Omega.{arith}
 use Rattle.sorting.specs.Slots.{Filled}
-use Rattle.sorting.proofs.SlotWords.{filled-start, filled_more}
-use borrow.Author.Rules.{rules}
 use Rattle.sorting.proofs.slots.fill.Given as goal
 
 abbrev pub invariant-loop-b : goal.invariant-loop-b

@@ -1,6 +1,5 @@
 -- `slots::word` meets its contract: the part of the table behind the slot's first byte, up to the word's end. Assumes
 -- nothing.
-use borrow.Author.Rules.{rules}
 use Rattle.sorting.proofs.SlotWords.{word-part}
 use Rattle.sorting.proofs.slots.word.Goals as goal
 

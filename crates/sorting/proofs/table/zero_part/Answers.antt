@@ -1,5 +1,4 @@
 -- `table::zero_part` meets its contract: the part that is lent on is made zero. Assumes nothing.
-use borrow.Author.Rules.{rules}
 use Rattle.sorting.proofs.Tabling.{part-zeroed}
 use Rattle.sorting.proofs.table.zero_part.Goals as goal
 
