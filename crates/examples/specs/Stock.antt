@@ -3,7 +3,8 @@
 use Rattle.std.specs.Prelude.{ℕ, ◌≡◌, true, false, List, [], ◌∷◌, ◌++◌, map, replicate}
 use Rattle.call.specs.declared.Refusal.TheVariants.{WorkSpace, SameLetters, Output, Items}
 use Rattle.call.specs.Table.{value, refused, number}
-use Rattle.codes.specs.Items.{items_of, runs_past, bad_items, words_to_codes_answer, words_to_codes_out, words_to_codes_work}
+use Rattle.codes.specs.Items.{items_of, runs_past, bad_items, words_to_codes_answer, words_to_codes_out}
+use Rattle.codes.specs.Items.{words_to_codes_work}
 use Rattle.codes.specs.Stock.{list_of}
 use Rattle.examples.specs.SmallLexicon.{voice, P, Q, two_as, two_branches, work}
 

@@ -35,7 +35,8 @@ module _ (v y : List ℕ) (h : Accepted v y) where
       let at = at_code (sound-images (accepted h)) ((T.full s.path).1 s.full) in
       let word : word_of_code v (graph_of y) code ≡ spelled v w =
       T.word-of-code code at.0 ∙ ap (word_of_path v (graph_of y)) at.1 ∙ ap (spelled v) s.spells in
-      ap (λ z. code_of (graph_of y) (path_of_word v (graph_of y) z)) (sym word) ∙ (code_theorems v y h).code_back code at.0
+      ap (λ z. code_of (graph_of y) (path_of_word v (graph_of y) z)) (sym word)
+      ∙ (code_theorems v y h).code_back code at.0
 
   found : {w : List ℕ} → Spells (graph_of y) w → is_none (path_of_word v (graph_of y) (spelled v w)) ≡ false
   unfolding word_of_path
@@ -52,7 +53,8 @@ module _ (v y : List ℕ) (h : Accepted v y) where
       → word_to_code_answer v y (spelled v w) work ≡ value (path_code (graph_of y) s.path)
   unfolding word_to_code_answer word_to_code_rows first_rows space_rows
   looked-up {w} s work room =
-      unless-value (word_to_code_rows v y (spelled v w) work) (code_of (graph_of y) (path_of_word v (graph_of y) (spelled v w)))
+      unless-value (word_to_code_rows v y (spelled v w) work)
+      (code_of (graph_of y) (path_of_word v (graph_of y) (spelled v w)))
       (none_join (first_rows v y work) _
       (none_join (space_rows work) (image_rows v y)
       (passed_none (space_rows work) (le-ltb (length work) work_space room, tt)) h)

@@ -84,15 +84,19 @@ module _ (v x : List ℕ) where
     -- applies: with a lexicon,
     lexicon_calls_answer :
         AnswersBy (first_rows v x work) (word_count g) (check_answer v x work)
-        × AnswersBy (word_to_code_rows v x word work) (code_of g (path_of_word v g word)) (word_to_code_answer v x word work)
+        × AnswersBy (word_to_code_rows v x word work) (code_of g (path_of_word v g word))
+        (word_to_code_answer v x word work)
         × AnswersBy (words_to_codes_rows v x items work out) (length (items_of items))
         (words_to_codes_answer v x items work out)
-        × AnswersBy (code_to_word_rows v x c work out) (length (word_of_code v g c)) (code_to_word_answer v x c work out)
+        × AnswersBy (code_to_word_rows v x c work out) (length (word_of_code v g c))
+        (code_to_word_answer v x c work out)
         × AnswersBy (list_rows v x work out) (length (listing v g)) (list_answer v x work out)
-        × AnswersBy (decode_rows v x frames n work out) (length (hits v g frames n)) (decode_answer v x frames n work out)
+        × AnswersBy (decode_rows v x frames n work out) (length (hits v g frames n))
+        (decode_answer v x frames n work out)
         × AnswersBy (canonical_rows v x work further out) (length (canonical_image v x))
         (canonical_answer v x work further out)
-    unfolding check_answer word_to_code_answer words_to_codes_answer code_to_word_answer list_answer decode_answer canonical_answer
+    unfolding check_answer word_to_code_answer words_to_codes_answer code_to_word_answer list_answer decode_answer
+        canonical_answer
     lexicon_calls_answer =
         (answers_by, answers_by, answers_by, answers_by, answers_by, answers_by, answers_by)
 
@@ -177,7 +181,8 @@ module _ (v x : List ℕ) where
     no_word = (code_theorems v x accepted).no_word
 
     -- Word to code and code to word undo each other, over all words and all numbers below the word count.
-    lookups_undo : ((word : List ℕ) → LexiconWord v g word → word_of_code v g (code_of g (path_of_word v g word)) ≡ word)
+    lookups_undo : ((word : List ℕ) → LexiconWord v g word → word_of_code v g (code_of g (path_of_word v g word))
+        ≡ word)
         × ((c : ℕ) → c < word_count g → code_of g (path_of_word v g (word_of_code v g c)) ≡ c)
     lookups_undo = ((code_theorems v x accepted).word_back, (code_theorems v x accepted).code_back)
 

@@ -1,7 +1,6 @@
 -- `input::after_image` meets its contract: what is left, or nothing, by the laws of the cut. Assumes nothing.
 use mathlib.Core.Path.{sym}
 use native.Mathlib.Omega.{arith}
-use borrow.Author.Rules.{rules}
 use Rattle.report.proofs.Cut.{after_none, after-rest}
 use Rattle.report.proofs.input.after_image.Goals as goal
 

@@ -1,6 +1,5 @@
 -- `input::count` meets its contract: the first byte, or 0. Assumes nothing.
 use native.Mathlib.Omega.{arith}
-use borrow.Author.Rules.{rules}
 use Rattle.report.proofs.Cut.{first-missing}
 use Rattle.report.proofs.input.count.Goals as goal
 
@@ -8,4 +7,4 @@ pub returns-then-rest-eq0 : goal.returns-then-rest-eq0
 returns-then-rest-eq0 c = first-missing c.args.rest.now (omega arith)
 
 pub overflow_cast-result : goal.overflow_cast-result
-overflow_cast-result c = omega (arith, c.shared_slice_known-1.given 0)
+overflow_cast-result c = omega (arith, c.type_inv.rest 0)

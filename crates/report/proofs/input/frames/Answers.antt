@@ -1,7 +1,6 @@
 -- `input::frames` meets its contract: all but the first byte. Assumes nothing.
 use mathlib.Core.Path.{sym}
 use native.Mathlib.Omega.{arith}
-use borrow.Author.Rules.{rules}
 use lib.ListN.{drop_of_length-le}
 use Rattle.report.proofs.Cut.{to_end}
 use Rattle.report.proofs.input.frames.Goals as goal

@@ -1,7 +1,6 @@
 -- `input::image` meets its contract: each case of the code is a law of the cut. Assumes nothing.
 use mathlib.Core.Path.{sym}
 use native.Mathlib.Omega.{arith}
-use borrow.Author.Rules.{rules}
 use Rattle.report.proofs.Cut.{image-none, image-short, image-whole}
 use Rattle.report.proofs.input.image.Goals as goal
 

@@ -1,7 +1,6 @@
 -- `lines::code_at` meets its contract: the four bytes hold the number. Assumes nothing.
 use mathlib.Core.Path.{◌∙◌}
 use native.Mathlib.Omega.{arith}
-use borrow.Author.Rules.{rules}
 use Rattle.report.proofs.Hits.{u32_four}
 use Rattle.report.proofs.lines.code_at.Goals as goal
 

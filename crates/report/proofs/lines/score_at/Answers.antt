@@ -1,7 +1,6 @@
 -- `lines::score_at` meets its contract: the four bytes hold the number. Assumes nothing.
 use mathlib.Core.Path.{◌∙◌}
 use native.Mathlib.Omega.{arith}
-use borrow.Author.Rules.{rules}
 use Rattle.report.proofs.Hits.{i32_four, i32-again}
 use Rattle.report.proofs.lines.score_at.Goals as goal
 

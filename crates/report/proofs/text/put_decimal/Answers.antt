@@ -14,11 +14,8 @@ returns-then-v-eq0 c =
 
 pub put_digits-requires : goal.put_digits-requires
 put_digits-requires c =
-    let s = c.before.before.before in
-    omega (arith, s.requires, digits-short 10 s.args.v s.args.v (omega (arith, s.ranges.v)))
+    let v = c.args.v in
+    omega (arith, c.requires, digits-short 10 v v (omega (arith, c.ranges.v)))
 
 pub returns : goal.returns
-returns c =
-    let q = c.before.before.before in
-    let h = q.if-v-eq0.false in
-    rw (decimal-digits q.args.v (omega arith)) q.put_digits.ensures
+returns c = rw (decimal-digits c.args.v (omega (arith, c.if-v-eq0.false))) c.put_digits.ensures

@@ -1,26 +1,19 @@
--- `text::put_refusal` meets its contract: the number is put behind its label, and then the end of the line. Assumes nothing.
--- what is left of the room
-use Prim.Native.Nat.{◌+◌, ◌≤◌}
+-- `text::put_refusal` meets its contract: the number is put behind its label, and then the end of the line. Assumes
+-- nothing.
 use native.Mathlib.Omega.{arith}
-use borrow.Author.Rules.{rules}
-use lib.ListN.{length}
 use Rattle.report.specs.Report.{refused_text}
 use Rattle.report.proofs.Digits.{labelled_short}
 use Rattle.report.proofs.Putting.{put-more}
 use Rattle.report.proofs.text.put_refusal.Goals as goal
-use Rattle.report.proofs.text.put_refusal.Tie as tie
-use Rattle.report.proofs.text.put_refusal.Lts as lts
-use Rattle.report.proofs.text.put_refusal.Reads as reads
 
-room : (c : lts.After-put_labelled tie.the-claims reads.Pre reads.Post) → c.put_labelled-end.result + 1 ≤ length c.put_labelled-end.new.out
-room c =
-    let s = c.before.before.before.before in
+-- what is left of the room
+pub put_byte-requires : goal.put_byte-requires
+put_byte-requires c =
     let p = c.put_labelled-end in
-    omega (arith, s.requires, p.ensures.ends, p.auto.out, labelled_short refused_text s.args.number s.ranges.number.fits)
+    let short = labelled_short refused_text c.args.number c.ranges.number.fits in
+    omega (arith, c.requires, p.ensures.ends, p.auto.out, short)
 
 pub returns : goal.returns
 returns c =
-    let q = c.before.before.before in
-    let p = q.before.before.before.before in
-    let h = p.requires in
-    put-more (omega arith) p.put_labelled-end.ensures q.put_byte.ensures
+    let h = c.requires in
+    put-more (omega arith) c.put_labelled-end.ensures c.put_byte.ensures

@@ -1,8 +1,5 @@
-use Prim.Native.Nat.{◌+◌, ◌-◌, ◌≤◌, ◌<◌}
-use native.Mathlib.Omega.{arith}
-use borrow.Author.Rules.{rules}
-use Rattle.lexicon.specs.Lexicon.{node_count}
-use Rattle.report.proofs.Arcs.{VerticesPut, vertices-start, line-room, vertices-next, vertices-end}
+use Prim.Native.Nat.{◌+◌, ◌-◌}
+use Rattle.report.proofs.Arcs.{VerticesPut}
 use Rattle.report.proofs.vertices.put_vertices.Given as goal
 
 abbrev pub invariant-loop-vertex : goal.invariant-loop-vertex
