@@ -1,20 +1,23 @@
 // The program arcs: reads a lexicon image from standard input, and writes to standard output what crates/report says.
 //
-// Input is read up to 65,535 bytes, as hits reads an image; the longest lexicon has 9,206.
+// Input is read up to 65,535 bytes, as hits reads an image; the longest lexicon has 9,206. What is printed lies in the
+// page. The proof rests on what the C library's `read` and `write` are assumed to do.
 #![tactic(auto)]
 
+use reading::read_full;
 use report::arcs_page;
+use std::io;
 
 // Room for an image.
 fn image_space() -> [u8; 65535] {
     [0; 65535]
 }
 
-fn main() {
+fn main(rt: HostRuntime) -> io::Result<()> {
     let mut image = image_space();
-    let got = io::read_full(0, &mut image);
+    let got = read_full(&mut rt.stdin(), &mut image)?;
     let page = arcs_page(&image[..got]);
     let text = page.text;
     let length = page.length;
-    io::write_all(1, &text[..length]);
+    rt.write_all(&text[..length])
 }

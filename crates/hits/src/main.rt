@@ -1,21 +1,25 @@
 // The program hits: reads standard input, and writes to standard output what crates/report says.
 //
-// Input is read up to 132,076 bytes: two images of at most 65,535 bytes after their lengths, n, and 1,001 frames. More bytes can only be frames
-// after the 1,001st, and with so many the answer is fixed already (`CutReportsTheSame`, report/specs/Theorems).
+// Input is read up to 132,076 bytes: two images of at most 65,535 bytes after their lengths, n, and 1,001 frames. More
+// bytes can only be frames after the 1,001st, and with so many the answer is fixed already (`CutReportsTheSame`,
+// report/specs/Theorems). What is printed lies in the page. The proof rests on what the C library's `read` and `write`
+// are assumed to do.
 #![tactic(auto)]
 
+use reading::read_full;
 use report::report;
+use std::io;
 
 // Room for all input that matters.
 fn input_space() -> [u8; 132076] {
     [0; 132076]
 }
 
-fn main() {
+fn main(rt: HostRuntime) -> io::Result<()> {
     let mut input = input_space();
-    let got = io::read_full(0, &mut input);
+    let got = read_full(&mut rt.stdin(), &mut input)?;
     let page = report(&input[..got]);
     let text = page.text;
     let length = page.length;
-    io::write_all(1, &text[..length]);
+    rt.write_all(&text[..length])
 }
