@@ -45,9 +45,11 @@ module _ (v x : List ℕ) (h : Accepted v x) where
   -- bytes that spell a word have a code below W
   code-limit : (word : List ℕ) → is_none (path_of_word v (graph_of x) word) ≡ false
       → code_of (graph_of x) (path_of_word v (graph_of x) word) < word_count (graph_of x)
-  code-limit word e = go (code_of (graph_of x) (path_of_word v (graph_of x) word)) ((code_theorems v x h).code_below word)
+  code-limit word e =
+      go (code_of (graph_of x) (path_of_word v (graph_of x) word)) ((code_theorems v x h).code_below word)
     where
-      go : (code : ℕ) → (LexiconWord v (graph_of x) word → code < word_count (graph_of x)) → code < word_count (graph_of x)
+      go : (code : ℕ) → (LexiconWord v (graph_of x) word → code < word_count (graph_of x))
+          → code < word_count (graph_of x)
       go code below = elim (dec_le (word_count (graph_of x)) code) [
         | yes p ↦ absurd (true≢false (sym (((code_theorems v x h).no_word word).1 (λ w. omega (arith, below w))) ∙ e))
         | no q ↦ omega arith
@@ -69,7 +71,8 @@ pub word-to-code-fits : (v x word work : List ℕ) → FitsInt (word_to_code_ans
 unfolding word_to_code_answer word_to_code_rows
 word-to-code-fits v x word work = record {
   below = λ n e.
-      let p = value-passed (word_to_code_rows v x word work) (code_of (graph_of x) (path_of_word v (graph_of x) word)) n e in
+      let p = value-passed (word_to_code_rows v x word work)
+      (code_of (graph_of x) (path_of_word v (graph_of x) word)) n e in
       let r = none-parts (first_rows v x work) _ p.0 in
       let h = images-accepted v x work r.0 in
       omega (arith, p.1, words-limit (accepted h), code-limit v x h word (none-says _ r.1).0);

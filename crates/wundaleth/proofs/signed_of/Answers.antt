@@ -4,14 +4,10 @@ use Prim.Native.Nat.{ℕ, ◌^◌, ◌<◌}
 use native.Mathlib.Omega.{arith}
 use lib.IntN.{pos, neg_ℤ}
 use mir.Syntax.{w32}
-use borrow.Author.Rules.{rules}
 use Rattle.endian.proofs.Signed.{to_z_low, from-zero-fits, negated_fits}
 use Rattle.call.specs.Table.{answer_of, signed_answer}
 use Rattle.wundaleth.proofs.Negative.{negative_is}
 use Rattle.wundaleth.proofs.signed_of.Goals as goal
-
-small : (c : goal.In-Value) → c.answer.given.0.0 < 2 ^ 31
-small c = c.requires.below _ (ap answer_of c.answer.given.1)
 
 pub overflow_sub-result : goal.overflow_sub-result
 overflow_sub-result c =
@@ -19,13 +15,15 @@ overflow_sub-result c =
     search (from-zero-fits w32 c.number-number.result h, negated_fits w32 c.number-number.result h)
 
 pub returns-in-Value : goal.returns-in-Value
-returns-in-Value c = to_z_low w32 _ (small c) ∙ sym (ap (λ a. signed_answer (answer_of a)) c.answer.given.1)
+returns-in-Value c =
+    to_z_low w32 _ (c.requires.below _ (ap answer_of c.in-Value.is))
+    ∙ sym (ap (λ a. signed_answer (answer_of a)) c.in-Value.is)
 
 pub returns-in-Refused : goal.returns-in-Refused
 returns-in-Refused c =
     negative_is w32 c.number-number.result (omega arith)
     ∙ ap (λ (k : ℕ). neg_ℤ (pos k)) c.number-number.ensures
-    ∙ sym (ap (λ a. signed_answer (answer_of a)) c.answer-in-Refused-1.given.1)
+    ∙ sym (ap (λ a. signed_answer (answer_of a)) c.in-Refused.is)
 
 pub overflow_cast-result : goal.overflow_cast-result
-overflow_cast-result c = record { sfits = small c }
+overflow_cast-result c = record { sfits = c.requires.below _ (ap answer_of c.in-Value.is) }
