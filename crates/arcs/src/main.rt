@@ -1,7 +1,7 @@
 // The program arcs: reads a lexicon image from standard input, and writes to standard output what crates/report says.
 //
 // Input is read up to 65,535 bytes, as hits reads an image; the longest lexicon has 9,206. What is printed lies in the
-// page. The proof rests on what the C library's `read` and `write` are assumed to do.
+// page. The proof rests on what the standard library says of reads and writes.
 #![tactic(auto)]
 
 use reading::read_full;

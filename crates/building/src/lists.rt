@@ -88,7 +88,8 @@ pub(crate) fn put_list(
     at: usize,
 ) -> usize
     requires readable { Readable shared.now links.now row.now }
-    requires first_in_bounds { at + length (list_bytes (list_of shared.now links.now (numbers_in rows.now) row.now first))
+    requires first_in_bounds { at
+        + length (list_bytes (list_of shared.now links.now (numbers_in rows.now) row.now first))
         ≤ length out.old }
     ensures { Put (list_bytes (list_of shared.now links.now (numbers_in rows.now)
         row.now first)) at out.old out.new result }

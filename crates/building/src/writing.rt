@@ -71,7 +71,8 @@ fn put_lists(
     out: &mut [u8],
 ) -> usize
     requires listed { Listed words.now shared.now links.now rows.now count }
-    requires count_in_bounds { 2 + count + length (lists_from words.now shared.now links.now rows.now count 0 (suc count))
+    requires count_in_bounds { 2 + count
+        + length (lists_from words.now shared.now links.now rows.now count 0 (suc count))
         ≤ length out.old }
     ensures { Put (lists_from words.now shared.now links.now
         rows.now count 0 (suc count)) (2 + count) out.old out.new result }

@@ -13,7 +13,7 @@ pub const WORK_SPACE: usize = 64000;
 pub const FURTHER_SPACE: usize = 262144;
 
 // The refusals, in the order of the tables of documents 01 and 02.
-#[derive(Drop)]
+#[derive(Clone, Copy)]
 pub enum Refusal {
     // 1: work space under 64,000 bytes, or a further one under 262,144
     WorkSpace,
@@ -56,7 +56,7 @@ pub enum Refusal {
 }
 
 // What a call answers: a number, or the first refusal that applies.
-#[derive(Drop)]
+#[derive(Clone, Copy)]
 pub enum Answer {
     Value(u32),
     Refused(Refusal),

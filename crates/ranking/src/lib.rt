@@ -7,7 +7,7 @@ ghost use Rattle.ranking.specs.Mean.{with_sign, mean_of, mean_answer};
 use call::Refusal;
 
 // A mean may be negative, so that it has an answer of its own.
-#[derive(Drop)]
+#[derive(Clone, Copy)]
 pub enum MeanScore {
     Value(i32),
     Refused(Refusal),

@@ -27,7 +27,7 @@ mod text;
 mod vertices;
 
 // What hits prints, and how many bytes of it there are.
-#[derive(Drop)]
+#[derive(Clone, Copy)]
 pub struct Page {
     pub text: [u8; 640],
     pub length: usize,
@@ -119,7 +119,7 @@ pub fn report(input: &[u8]) -> Page
 }
 
 // What arcs prints, and how many bytes of it there are.
-#[derive(Drop)]
+#[derive(Clone, Copy)]
 pub struct ArcsPage {
     pub text: [u8; 60000],
     pub length: usize,

@@ -12,7 +12,7 @@ ghost use Rattle.voice.specs.Sections.{field_verdict, first_bad, letters_part, s
 use call::inside;
 use endian::u16_at;
 
-#[derive(Drop)]
+#[derive(Clone, Copy)]
 pub enum Verdict {
     WellFormed,
     // the bytes end inside a field, or go on after the last
