@@ -11,7 +11,7 @@ ghost use Rattle.registering.specs.Image.{Lettered, Measured, Listed, Voiced, Dr
 use crate::lists::{list_length, put_list, put_number};
 use crate::numbering::number_all;
 use crate::vertices::{ROOT, first_arc, letter_of, place_of};
-use call::{Answer, Refusal};
+use call::Refusal;
 
 // The most places of a lexicon.
 const PLACES: usize = 1000;
@@ -122,7 +122,7 @@ pub(crate) fn build_image(
     links: &[u16; 2400],
     count: usize,
     out: &mut [u8],
-) -> Answer
+) -> Result<u32, Refusal>
     requires { Drawn voice.now words.now n shared.now rows.old links.now count }
     ensures { ImageAnswered voice.now (words_from words.now 0 n) (answer_of result)
         out.old out.new }
@@ -131,12 +131,12 @@ pub(crate) fn build_image(
     rows[ROOT] = [0, n as u16, 0, 0, 0, 0];
     number_all(rows, count);
     if PLACES < place_total(voice, words, rows, count) {
-        return Answer::Refused(Refusal::CanonicalImage);
+        return Err(Refusal::CanonicalImage);
     }
     let size = image_size(shared, rows, count);
     if out.len() < size {
-        return Answer::Refused(Refusal::Output);
+        return Err(Refusal::Output);
     }
     put_image(words, shared, links, rows, count, out);
-    Answer::Value(size as u32)
+    Ok(size as u32)
 }

@@ -55,13 +55,6 @@ pub enum Refusal {
     Items,
 }
 
-// What a call answers: a number, or the first refusal that applies.
-#[derive(Clone, Copy)]
-pub enum Answer {
-    Value(u32),
-    Refused(Refusal),
-}
-
 impl Refusal {
     // The number of the table.
     pub fn number(self) -> u8

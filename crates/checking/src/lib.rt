@@ -18,8 +18,7 @@ use crate::orphans::has_orphan;
 use crate::pairs::{PAIR_BYTES, has_same_letters};
 use crate::places::place_count;
 use crate::vertices::put_rows;
-use call::{Answer, Refusal, WORK_SPACE, clear};
-use voice::Verdict;
+use call::{Refusal, WORK_SPACE, clear};
 
 mod counts;
 mod heights;
@@ -54,7 +53,7 @@ fn judge_graph(
     pairs: &mut [u8],
     offsets: &mut [u16; 402],
     counts: &mut [u32; 402],
-) -> Answer
+) -> Result<u32, Refusal>
     requires voice_value { voice_verdict voice.now ≡ well_formed }
     requires lexicon_value { lexicon_verdict (letter_count voice.now) lexicon.now ≡ well_formed }
     requires blank { Blank pairs.old offsets.old counts.old }
@@ -63,23 +62,23 @@ fn judge_graph(
 {
     find_offsets(lexicon, offsets);
     if has_orphan(lexicon, offsets) {
-        return Answer::Refused(Refusal::Orphan);
+        return Err(Refusal::Orphan);
     }
     if PLACES < place_count(voice, lexicon) {
-        return Answer::Refused(Refusal::Places);
+        return Err(Refusal::Places);
     }
     if LETTERS < longest_word(lexicon, offsets) {
-        return Answer::Refused(Refusal::LongWord);
+        return Err(Refusal::LongWord);
     }
     count_paths(lexicon, offsets, counts);
     let words = counts[0];
     if WORDS < words {
-        return Answer::Refused(Refusal::WordCount);
+        return Err(Refusal::WordCount);
     }
     if has_same_letters(lexicon, offsets, pairs) {
-        return Answer::Refused(Refusal::SameLetters);
+        return Err(Refusal::SameLetters);
     }
-    Answer::Value(words)
+    Ok(words)
 }
 
 // Rows 4 to 10, or W: the lexicon is judged with the L of a well-formed voice model.
@@ -89,17 +88,14 @@ fn judge_lexicon(
     pairs: &mut [u8],
     offsets: &mut [u16; 402],
     counts: &mut [u32; 402],
-) -> Answer
+) -> Result<u32, Refusal>
     requires voice_value { voice_verdict voice.now ≡ well_formed }
     requires blank { Blank pairs.old offsets.old counts.old }
     ensures { ImagesJudged (lexicon_rows voice.now lexicon.now) (answer_of result)
         lexicon.now offsets.new counts.new }
 {
-    match lexicon::judge(lexicon, voice[0] as usize) {
-        Verdict::WrongLength => Answer::Refused(Refusal::LexiconLength),
-        Verdict::OutOfRange => Answer::Refused(Refusal::LexiconRange),
-        Verdict::WellFormed => judge_graph(voice, lexicon, pairs, offsets, counts),
-    }
+    lexicon::judge(lexicon, voice[0] as usize)?;
+    judge_graph(voice, lexicon, pairs, offsets, counts)
 }
 
 // Rows 2 to 10, or W.
@@ -109,28 +105,30 @@ fn judge_images(
     pairs: &mut [u8],
     offsets: &mut [u16; 402],
     counts: &mut [u32; 402],
-) -> Answer
+) -> Result<u32, Refusal>
     requires { Blank pairs.old offsets.old counts.old }
     ensures { ImagesJudged (image_rows voice.now lexicon.now) (answer_of result)
         lexicon.now offsets.new counts.new }
 {
-    match voice::judge(voice) {
-        Verdict::WrongLength => Answer::Refused(Refusal::VoiceLength),
-        Verdict::OutOfRange => Answer::Refused(Refusal::VoiceRange),
-        Verdict::WellFormed => judge_lexicon(voice, lexicon, pairs, offsets, counts),
-    }
+    voice::judge(voice)?;
+    judge_lexicon(voice, lexicon, pairs, offsets, counts)
 }
 
 // Checks both images, answers W, and leaves the row of each vertex for the work that follows. A refusal leaves the
 // table as it was.
-pub fn open(voice: &[u8], lexicon: &[u8], work: &mut [u8], vertices: &mut [[u32; 4]; 402]) -> Answer
+pub fn open(
+    voice: &[u8],
+    lexicon: &[u8],
+    work: &mut [u8],
+    vertices: &mut [[u32; 4]; 402],
+) -> Result<u32, Refusal>
     ensures result_value { answer_of result ≡ check_answer voice.now lexicon.now work.old }
     ensures work_after { work.new ≡ check_work voice.now lexicon.now work.old }
     ensures vertices_after { vertices.new
         ≡ opened_vertices (answer_of result) lexicon.now vertices.old }
 {
     if work.len() < WORK_SPACE {
-        return Answer::Refused(Refusal::WorkSpace);
+        return Err(Refusal::WorkSpace);
     }
     let mut offsets = [0u16; 402];
     let mut counts = [0u32; 402];
@@ -142,17 +140,13 @@ pub fn open(voice: &[u8], lexicon: &[u8], work: &mut [u8], vertices: &mut [[u32;
         &mut counts,
     );
     clear(work);
-    match answer {
-        Answer::Value(_) => {
-            put_rows(lexicon, &offsets, &counts, vertices);
-            answer
-        }
-        Answer::Refused(_) => answer,
-    }
+    let words = answer?;
+    put_rows(lexicon, &offsets, &counts, vertices);
+    Ok(words)
 }
 
 // Checks both images and answers W.
-pub fn check(voice: &[u8], lexicon: &[u8], work: &mut [u8]) -> Answer
+pub fn check(voice: &[u8], lexicon: &[u8], work: &mut [u8]) -> Result<u32, Refusal>
     ensures result_value { answer_of result ≡ check_answer voice.now lexicon.now work.old }
     ensures work_after { work.new ≡ check_work voice.now lexicon.now work.old }
 {

@@ -8,7 +8,7 @@ ghost use Rattle.graph.specs.Words.{spelled};
 ghost use Rattle.codes.specs.Steps.{Tabled, Stepped, letters_of_code, Spellable, Spelled, Printable, room_answer};
 
 use crate::image::number_at;
-use call::{Answer, Refusal};
+use call::Refusal;
 use checking::{ARCS_AT, PATHS};
 
 // The vertex that an arc leads to, and what is left of a code behind the arc.
@@ -69,7 +69,12 @@ pub(crate) fn spell(
 }
 
 // Writes the first n letters at the output's start, as print bytes, or answers 16 where they have no room.
-pub(crate) fn put_word(voice: &[u8], out: &mut [u8], letters: &[u8; 32], n: usize) -> Answer
+pub(crate) fn put_word(
+    voice: &[u8],
+    out: &mut [u8],
+    letters: &[u8; 32],
+    n: usize,
+) -> Result<u32, Refusal>
     requires { (n ≤ 32) × (length letters.now ≡ 32) × Printable voice.now (take n letters.now) }
     ensures result_value { answer_of result ≡ room_answer (spelled voice.now (take n letters.now))
         out.old }
@@ -77,12 +82,12 @@ pub(crate) fn put_word(voice: &[u8], out: &mut [u8], letters: &[u8; 32], n: usiz
         (spelled voice.now (take n letters.now)) out.old }
 {
     if out.len() < n {
-        return Answer::Refused(Refusal::Output);
+        return Err(Refusal::Output);
     }
     let mut i = 0;
     while i < n {
         out[i] = voice[1 + 2 * letters[i] as usize];
         i += 1;
     }
-    Answer::Value(n as u32)
+    Ok(n as u32)
 }

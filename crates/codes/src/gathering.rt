@@ -7,7 +7,7 @@ ghost use Rattle.codes.specs.Gathering.{slot_of};
 ghost use Rattle.codes.specs.Slots.{Gatherable, SlotsAnswered};
 
 use crate::descent::spell;
-use call::{Answer, Refusal};
+use call::Refusal;
 
 // The bytes of a slot: the length of a word, and room for its letters.
 const SLOT: usize = 33;
@@ -38,21 +38,21 @@ pub(crate) fn put_slots(
     vertices: &[[u32; 4]; 402],
     words: u32,
     out: &mut [u8],
-) -> Answer
+) -> Result<u32, Refusal>
     requires { Gatherable lexicon.now vertices.now words }
     ensures { SlotsAnswered (graph_of lexicon.now) (answer_of result) out.old
         out.new }
 {
     if WORDS < words {
-        return Answer::Refused(Refusal::WordList);
+        return Err(Refusal::WordList);
     }
     if out.len() < SLOT * words as usize {
-        return Answer::Refused(Refusal::Output);
+        return Err(Refusal::Output);
     }
     let mut code = 0;
     while code < words {
         put_slot(lexicon, vertices, code, out, SLOT * code as usize);
         code += 1;
     }
-    Answer::Value(words)
+    Ok(words)
 }

@@ -9,7 +9,7 @@ ghost use Rattle.codes.specs.Lines.{lines_from, lines_over, WalksFrom, RoomForLi
 ghost use Rattle.codes.specs.Lines.{CountedFrom, BytesAnswered};
 
 use crate::image::{number_at, print_byte};
-use call::{Answer, Refusal};
+use call::Refusal;
 use checking::{ARCS_AT, PATHS};
 
 // Writes the first letters of the word and byte 10 from an offset on, and answers where they end.
@@ -123,16 +123,16 @@ pub(crate) fn put_listing(
     lexicon: &[u8],
     vertices: &[[u32; 4]; 402],
     out: &mut [u8],
-) -> Answer
+) -> Result<u32, Refusal>
     requires { OpenedImages voice.now lexicon.now vertices.now }
     ensures { BytesAnswered (listing voice.now (graph_of lexicon.now)) (answer_of result)
         out.old out.new }
 {
     let size = listing_size(lexicon, vertices);
     if out.len() < size as usize {
-        return Answer::Refused(Refusal::Output);
+        return Err(Refusal::Output);
     }
     let mut word = [0u8; 32];
     vertex_step(voice, lexicon, vertices, 0, &mut word, 0, out, 0);
-    Answer::Value(size)
+    Ok(size)
 }

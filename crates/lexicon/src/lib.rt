@@ -3,12 +3,15 @@
 
 ghost use Rattle.std.specs.Prelude.{◌≡◌, ◌+◌, ◌*◌, ◌≤◌, min, length};
 ghost use Rattle.endian.specs.Bytes.{u16};
+ghost use Rattle.call.specs.Table.{refusal_of};
 ghost use Rattle.voice.specs.Fields.{verdict_of};
-ghost use Rattle.lexicon.specs.Lexicon.{arcs_at, successor_part, lexicon_refusal, lexicon_refused};
+ghost use Rattle.lexicon.specs.Lexicon.{arcs_at, listed, numbers_of, successor_part};
+ghost use Rattle.lexicon.specs.Lexicon.{lexicon_verdict, lexicon_refused};
 
-use crate::fields::{Found, arcs, nodes, reserve};
-use endian::u16_at;
-use voice::Verdict;
+use crate::fields::{arcs, nodes, reserve};
+use call::Refusal;
+use endian::{u16_at, u16_of};
+use voice::Fault;
 
 mod fields;
 
@@ -61,16 +64,42 @@ pub fn successors(lexicon: &[u8], vertex: usize) -> &[u8]
     &lexicon[start..end]
 }
 
-// The verdict on any bytes as a lexicon of words in so many letters, well formed, or 4, or 5: the first field that is
-// missing or out of its range decides, and bytes after the last come last.
-pub fn judge(lexicon: &[u8], letters: usize) -> Verdict
-    ensures { lexicon_refusal (verdict_of result) ≡ lexicon_refused letters lexicon.now }
+// The numbers of the list that stands at an offset, behind its count, two bytes each, for any bytes and any offset: none
+// where the bytes end before the list does.
+pub fn list_at(lexicon: &[u8], at: usize) -> &[[u8; 2]]
+    ensures { numbers_of result.now ≡ listed lexicon.now at }
 {
-    match nodes(lexicon, letters) {
-        Found::Bad(v) => v,
-        Found::Good(n) => match arcs(lexicon, n) {
-            Found::Bad(v) => v,
-            Found::Good(at) => reserve(lexicon, at),
-        },
+    let Some(list) = lexicon.get(at..) else {
+        return &[];
+    };
+    let Some((&[lo, hi], rest)) = list.split_first_chunk::<2>() else {
+        return &[];
+    };
+    let count = u16_of(lo, hi) as usize;
+    let (numbers, _) = rest.as_chunks::<2>();
+    if numbers.len() < count {
+        return &[];
+    }
+    &numbers[..count]
+}
+
+// All fields, section by section: the first that is missing or out of its range decides, and bytes after the last come
+// last.
+fn judge_fields(lexicon: &[u8], letters: usize) -> Result<(), Fault>
+    ensures { verdict_of result ≡ lexicon_verdict letters lexicon.now }
+{
+    let n = nodes(lexicon, letters)?;
+    let end = arcs(lexicon, n)?;
+    reserve(lexicon, end)
+}
+
+// Whether any bytes are a well-formed lexicon of words in so many letters; if not, 4 or 5.
+pub fn judge(lexicon: &[u8], letters: usize) -> Result<(), Refusal>
+    ensures { refusal_of result ≡ lexicon_refused letters lexicon.now }
+{
+    match judge_fields(lexicon, letters) {
+        Ok(()) => Ok(()),
+        Err(Fault::WrongLength) => Err(Refusal::LexiconLength),
+        Err(Fault::OutOfRange) => Err(Refusal::LexiconRange),
     }
 }

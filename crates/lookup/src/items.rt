@@ -9,7 +9,7 @@ ghost use Rattle.lookup.specs.Seeking.{prints_column, Seekable};
 ghost use Rattle.lookup.specs.Items.{count_answer, sought_bytes};
 
 use crate::seeking::look_up;
-use call::{Answer, Refusal};
+use call::Refusal;
 use endian::u32_bytes;
 
 // The most items of a list (row 19).
@@ -19,7 +19,7 @@ const ITEMS: u32 = 1000;
 pub(crate) const ANSWER: usize = 8;
 
 // The number of items, or 19: the list is read to its end before any item is looked up.
-pub(crate) fn count_items(items: &[u8]) -> Answer
+pub(crate) fn count_items(items: &[u8]) -> Result<u32, Refusal>
     ensures { answer_of result ≡ count_answer items.now }
 {
     let mut at = 0;
@@ -27,15 +27,15 @@ pub(crate) fn count_items(items: &[u8]) -> Answer
     while at < items.len() {
         let end = at + 1 + items[at] as usize;
         if count == ITEMS {
-            return Answer::Refused(Refusal::Items);
+            return Err(Refusal::Items);
         }
         if items.len() < end {
-            return Answer::Refused(Refusal::Items);
+            return Err(Refusal::Items);
         }
         at = end;
         count += 1;
     }
-    Answer::Value(count)
+    Ok(count)
 }
 
 fn put_bytes(out: &mut [u8], at: usize, bytes: [u8; 4])
@@ -58,13 +58,13 @@ fn put_numbers(out: &mut [u8], at: usize, refusal: u32, code: u32)
 }
 
 // Writes the answer to an item.
-fn put_answer(out: &mut [u8], at: usize, answer: Answer)
+fn put_answer(out: &mut [u8], at: usize, answer: Result<u32, Refusal>)
     requires { at + 8 ≤ length out.old }
     ensures { out.new ≡ sets out.old at (answer_bytes (answer_of answer)) }
 {
     match answer {
-        Answer::Value(code) => put_numbers(out, at, 0, code),
-        Answer::Refused(refusal) => {
+        Ok(code) => put_numbers(out, at, 0, code),
+        Err(refusal) => {
             let number = refusal.number();
             put_numbers(out, at, number as u32, 0)
         }

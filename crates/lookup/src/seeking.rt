@@ -11,7 +11,7 @@ ghost use Rattle.lookup.specs.Trying.{Trying, Tried, LedOn, Seeking};
 
 use crate::image::{END, PRINT, number_at};
 use crate::marks::{NONE, ROW, clear_marks, set_mark};
-use call::{Answer, Refusal};
+use call::Refusal;
 use checking::{ARCS_AT, LETTERS, PATHS};
 
 // What a search finds where there is no way: no code is as great.
@@ -127,19 +127,19 @@ pub(crate) fn look_up(
     vertices: &[[u32; 4]; 402],
     word: &[u8],
     marks: &mut [u8],
-) -> Answer
+) -> Result<u32, Refusal>
     requires { Seekable lexicon.now vertices.now × (marks.old ≡ replicate 26534 0) }
     ensures result_value { answer_of result ≡ sought_answer (prints_column vertices.now) (graph_of lexicon.now)
         word.now }
     ensures marks_after { marks.new ≡ replicate 26534 0 }
 {
     if (LETTERS as usize) < word.len() {
-        return Answer::Refused(Refusal::NoWord);
+        return Err(Refusal::NoWord);
     }
     let found = seek(lexicon, vertices, word, marks);
     clear_marks(marks, found.last);
     if found.code == NOWHERE {
-        return Answer::Refused(Refusal::NoWord);
+        return Err(Refusal::NoWord);
     }
-    Answer::Value(found.code)
+    Ok(found.code)
 }

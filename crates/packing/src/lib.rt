@@ -13,7 +13,7 @@ ghost use Rattle.packing.specs.Width.{width, width_answer};
 ghost use Rattle.packing.specs.Offsets.{overlay, CodeOffset, CodeLimits, PackedFits, RightSize, CodeInBytes};
 
 use crate::bits::{code_at, put_code};
-use call::{Answer, Refusal, inside, zero};
+use call::{Refusal, inside, zero};
 use endian::u32_bytes;
 
 mod bits;
@@ -39,13 +39,13 @@ fn width_of(words: u32) -> u32
 }
 
 // The same for any number of words; 9 for 0 and above 1,048,576.
-pub fn width(words: u32) -> Answer
+pub fn width(words: u32) -> Result<u32, Refusal>
     ensures { answer_of result ≡ width_answer words }
 {
     if !inside(words as usize, 1, WORDS) {
-        return Answer::Refused(Refusal::WordCount);
+        return Err(Refusal::WordCount);
     }
-    Answer::Value(width_of(words))
+    Ok(width_of(words))
 }
 
 // Where a code begins.
@@ -90,23 +90,23 @@ fn has_bad_code(words: u32, codes: &[u32]) -> bool
 }
 
 // The rows of packing in the table's order, all judged before a byte is written, or the bytes that the codes take.
-fn judge_pack(words: u32, codes: &[u32], out: &[u8]) -> Answer
+fn judge_pack(words: u32, codes: &[u32], out: &[u8]) -> Result<u32, Refusal>
     ensures { answer_of result ≡ pack_answer words codes.now out.now }
 {
     if !inside(words as usize, 1, WORDS) {
-        return Answer::Refused(Refusal::WordCount);
+        return Err(Refusal::WordCount);
     }
     if !inside(codes.len(), 1, CODES) {
-        return Answer::Refused(Refusal::Count);
+        return Err(Refusal::Count);
     }
     if has_bad_code(words, codes) {
-        return Answer::Refused(Refusal::Code);
+        return Err(Refusal::Code);
     }
     let size = packed_size(codes.len(), width_of(words));
     if out.len() < size {
-        return Answer::Refused(Refusal::Output);
+        return Err(Refusal::Output);
     }
-    Answer::Value(size as u32)
+    Ok(size as u32)
 }
 
 // Makes the first n bytes zero, so that the padding is.
@@ -132,18 +132,13 @@ fn put_codes(out: &mut [u8], b: u32, codes: &[u32])
 }
 
 // Packs the codes and answers the bytes written.
-pub fn pack(words: u32, codes: &[u32], out: &mut [u8]) -> Answer
+pub fn pack(words: u32, codes: &[u32], out: &mut [u8]) -> Result<u32, Refusal>
     ensures result_value { answer_of result ≡ pack_answer words codes.now out.old }
     ensures out_after { out.new ≡ pack_out words codes.now out.old }
 {
-    let answer = judge_pack(words, codes, &out[..]);
-    match answer {
-        Answer::Value(_) => {
-            put_codes(out, width_of(words), codes);
-            answer
-        }
-        Answer::Refused(_) => answer,
-    }
+    let size = judge_pack(words, codes, &out[..])?;
+    put_codes(out, width_of(words), codes);
+    Ok(size)
 }
 
 // Row 14. The padding, from where code n would begin, is read as one number: it is 0 where all its bits are.
@@ -184,27 +179,27 @@ fn has_bad_unpacked(words: u32, n: usize, packed: &[u8], b: u32) -> bool
 }
 
 // The rows of unpacking in the table's order, all judged before a byte is written, or n.
-fn judge_unpack(words: u32, n: u32, packed: &[u8], out: &[u8]) -> Answer
+fn judge_unpack(words: u32, n: u32, packed: &[u8], out: &[u8]) -> Result<u32, Refusal>
     ensures { answer_of result ≡ unpack_answer words n packed.now out.now }
 {
     let count = n as usize;
     if !inside(words as usize, 1, WORDS) {
-        return Answer::Refused(Refusal::WordCount);
+        return Err(Refusal::WordCount);
     }
     if !inside(count, 1, CODES) {
-        return Answer::Refused(Refusal::Count);
+        return Err(Refusal::Count);
     }
     let b = width_of(words);
     if is_bad_packed(count, packed, b) {
-        return Answer::Refused(Refusal::Packed);
+        return Err(Refusal::Packed);
     }
     if has_bad_unpacked(words, count, packed, b) {
-        return Answer::Refused(Refusal::Code);
+        return Err(Refusal::Code);
     }
     if out.len() < 4 * count {
-        return Answer::Refused(Refusal::Output);
+        return Err(Refusal::Output);
     }
-    Answer::Value(n)
+    Ok(n)
 }
 
 // Puts a number as u32, little-endian.
@@ -232,16 +227,11 @@ fn put_unpacked(out: &mut [u8], n: usize, packed: &[u8], b: u32)
 }
 
 // Unpacks n codes, writes each as u32, and answers n.
-pub fn unpack(words: u32, n: u32, packed: &[u8], out: &mut [u8]) -> Answer
+pub fn unpack(words: u32, n: u32, packed: &[u8], out: &mut [u8]) -> Result<u32, Refusal>
     ensures result_value { answer_of result ≡ unpack_answer words n packed.now out.old }
     ensures out_after { out.new ≡ unpack_out words n packed.now out.old }
 {
-    let answer = judge_unpack(words, n, packed, &out[..]);
-    match answer {
-        Answer::Value(_) => {
-            put_unpacked(out, n as usize, packed, width_of(words));
-            answer
-        }
-        Answer::Refused(_) => answer,
-    }
+    let count = judge_unpack(words, n, packed, &out[..])?;
+    put_unpacked(out, n as usize, packed, width_of(words));
+    Ok(count)
 }

@@ -2,16 +2,10 @@
 #![tactic(auto)]
 
 ghost use Rattle.std.specs.Prelude.{◌≡◌, ◌≤◌, nat_abs};
-ghost use Rattle.ranking.specs.Mean.{with_sign, mean_of, mean_answer};
+ghost use Rattle.call.specs.Table.{answer_of};
+ghost use Rattle.ranking.specs.Mean.{with_sign, mean_answer};
 
 use call::Refusal;
-
-// A mean may be negative, so that it has an answer of its own.
-#[derive(Clone, Copy)]
-pub enum MeanScore {
-    Value(i32),
-    Refused(Refusal),
-}
 
 // The most frames that are decoded.
 pub const FRAMES: u32 = 1000;
@@ -38,21 +32,21 @@ fn with_sign(x: i32, number: u32) -> i32
 }
 
 // The nearest whole number to score over frames, an exact half to the even neighbour; 11 for 0 frames and above 1,000.
-pub fn mean(score: i32, frames: u32) -> MeanScore
-    ensures { mean_of result ≡ mean_answer score frames }
+pub fn mean(score: i32, frames: u32) -> Result<i32, Refusal>
+    ensures { answer_of result ≡ mean_answer score frames }
 {
     if frames == 0 {
-        return MeanScore::Refused(Refusal::Frames);
+        return Err(Refusal::Frames);
     }
     if FRAMES < frames {
-        return MeanScore::Refused(Refusal::Frames);
+        return Err(Refusal::Frames);
     }
     let number = without_sign(score);
     let quotient = number / frames;
     // 1 more tips an exact half only, and there an odd quotient gives way to the next number
     let odd = quotient % 2;
     if frames < 2 * (number % frames) + odd {
-        return MeanScore::Value(with_sign(score, quotient + 1));
+        return Ok(with_sign(score, quotient + 1));
     }
-    MeanScore::Value(with_sign(score, quotient))
+    Ok(with_sign(score, quotient))
 }

@@ -16,7 +16,6 @@ use crate::input::{after_image, count, image};
 use crate::lines::put_lines;
 use crate::text::{put_first_line, put_refusal};
 use crate::vertices::put_arcs;
-use call::Answer;
 use checking::check;
 use decoding::decode;
 use packing::width;
@@ -66,12 +65,10 @@ fn put_list(
         (hits_read list.now k)) 0
         out.old out.new result }
 {
-    let checked = check(voice, lexicon, work);
-    let Answer::Value(words) = checked else {
+    let Ok(words) = check(voice, lexicon, work) else {
         return 0;
     };
-    let measured = width(words);
-    let Answer::Value(bits) = measured else {
+    let Ok(bits) = width(words) else {
         return 0;
     };
     let end = put_first_line(k, words, bits, out, 0);
@@ -90,7 +87,7 @@ fn put_report(voice: &[u8], lexicon: &[u8], frames: &[u8], n: u32, out: &mut [u8
     let mut list = [0u8; 64];
     let answer = decode(voice, lexicon, frames, n, &mut work, &mut list);
     match answer {
-        Answer::Value(k) => put_list(
+        Ok(k) => put_list(
             voice,
             lexicon,
             frames.len() as u32,
@@ -99,7 +96,7 @@ fn put_report(voice: &[u8], lexicon: &[u8], frames: &[u8], n: u32, out: &mut [u8
             &mut work,
             out,
         ),
-        Answer::Refused(r) => put_refusal(r.number() as u32, out, 0),
+        Err(refusal) => put_refusal(refusal.number() as u32, out, 0),
     }
 }
 

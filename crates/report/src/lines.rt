@@ -9,10 +9,9 @@ ghost use Rattle.report.specs.Text.{TextPut};
 ghost use Rattle.report.specs.Report.{hit_line};
 
 use crate::text::put_hit_line;
-use call::Answer;
 use codes::code_to_word;
 use endian::{i32_of, u32_of};
-use ranking::{MeanScore, mean};
+use ranking::mean;
 
 // A hit is i32 score, u32 code.
 fn score_at(list: &[u8], at: usize) -> i32
@@ -47,12 +46,10 @@ fn put_hit(
         out.old out.new result }
 {
     let mut word = [0u8; 32];
-    let spelled = code_to_word(voice, lexicon, code, work, &mut word);
-    let Answer::Value(size) = spelled else {
+    let Ok(size) = code_to_word(voice, lexicon, code, work, &mut word) else {
         return at;
     };
-    let averaged = mean(score, frames);
-    let MeanScore::Value(average) = averaged else {
+    let Ok(average) = mean(score, frames) else {
         return at;
     };
     let end = size as usize;

@@ -9,10 +9,8 @@ ghost use Rattle.report.specs.Arcs.{spaced, letter_text, vertex_line, arcs_text}
 ghost use Rattle.report.specs.Text.{TextPut};
 
 use crate::text::{put_byte, put_decimal, put_labelled, put_refusal};
-use call::Refusal;
 use endian::u16_at;
 use lexicon::{judge, successors};
-use voice::Verdict;
 
 // The numbers that a part of the image holds, each behind a space.
 fn put_numbers(part: &[u8], out: &mut [u8], at: usize) -> usize
@@ -82,8 +80,7 @@ pub(crate) fn put_arcs(lexicon: &[u8], out: &mut [u8]) -> usize
     ensures { TextPut (arcs_text lexicon.now) 0 out.old out.new result }
 {
     match judge(lexicon, 256) {
-        Verdict::WellFormed => put_vertices(lexicon, out),
-        Verdict::WrongLength => put_refusal(Refusal::LexiconLength.number() as u32, out, 0),
-        Verdict::OutOfRange => put_refusal(Refusal::LexiconRange.number() as u32, out, 0),
+        Ok(()) => put_vertices(lexicon, out),
+        Err(refusal) => put_refusal(refusal.number() as u32, out, 0),
     }
 }

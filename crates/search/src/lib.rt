@@ -13,7 +13,7 @@ ghost use Rattle.search.specs.Found.{search_answer, search_tokens};
 use crate::ends::best_words;
 use crate::judge::judge_call;
 use crate::places::find_slots;
-use call::{Answer, zero};
+use call::{Refusal, zero};
 use checking::open;
 
 mod ends;
@@ -38,7 +38,7 @@ pub fn search(
     work: &mut [u8],
     out: &[u8],
     tokens: &mut [u64; 8],
-) -> Answer
+) -> Result<u32, Refusal>
     ensures result_value { answer_of result ≡ search_answer voice.now lexicon.now frames.now n
         work.old out.now }
     ensures work_after { work.new ≡ decode_work voice.now lexicon.now frames.now n
@@ -48,11 +48,11 @@ pub fn search(
 {
     let mut vertices = [[0u32; 4]; 402];
     let mut answer = open(voice, lexicon, work, &mut vertices);
-    let Answer::Value(_) = answer else {
+    let Ok(_) = answer else {
         return answer;
     };
     answer = judge_call(voice, frames, n, out);
-    let Answer::Value(_) = answer else {
+    let Ok(_) = answer else {
         return answer;
     };
     let count = n as usize;
