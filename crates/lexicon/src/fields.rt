@@ -4,7 +4,6 @@ ghost use Rattle.voice.specs.Fields.{verdict, verdict_of};
 ghost use Rattle.lexicon.specs.Lexicon.{node_count};
 ghost use Rattle.lexicon.specs.Sections.{number_at, highest_of, arc_at, NodesFound, Listing, ListFound, ArcsFound, reserve_fields};
 
-use crate::least;
 use call::inside;
 use endian::u16_at;
 use voice::Fault;
@@ -34,8 +33,7 @@ pub(crate) fn nodes(lexicon: &[u8], letters: usize) -> Result<usize, Fault>
     ensures { NodesFound letters lexicon.now result }
 {
     let n = number(lexicon, 0, 1, NODES)?;
-    let mut node = 1;
-    while node <= n {
+    for node in 1..n + 1 {
         let at = 1 + node;
         if lexicon.len() <= at {
             return Err(Fault::WrongLength);
@@ -43,7 +41,6 @@ pub(crate) fn nodes(lexicon: &[u8], letters: usize) -> Result<usize, Fault>
         if letters <= (lexicon[at] as usize) {
             return Err(Fault::OutOfRange);
         }
-        node += 1;
     }
     Ok(n)
 }
@@ -88,14 +85,10 @@ fn list(
     requires { Listing lexicon.now start vertex nodes total seen.old }
     ensures { ListFound lexicon.now vertex total seen.new result }
 {
-    let count = number(lexicon, start, 1, least(nodes + 1, ARCS - total))?;
-    let mut at = start + 2;
-    let mut i = 0;
-    while i < count {
-        let s = arc(lexicon, at, vertex, nodes, seen)?;
+    let count = number(lexicon, start, 1, (nodes + 1).min(ARCS - total))?;
+    for i in 0..count {
+        let s = arc(lexicon, start + 2 + 2 * i, vertex, nodes, seen)?;
         seen[s] = (vertex + 1) as u16;
-        at += 2;
-        i += 1;
     }
     Ok(count)
 }
@@ -108,12 +101,10 @@ pub(crate) fn arcs(lexicon: &[u8], nodes: usize) -> Result<usize, Fault>
     let mut seen = [0u16; 402];
     let mut at = 2 + nodes;
     let mut total = 0;
-    let mut vertex = 0;
-    while vertex <= nodes {
+    for vertex in 0..nodes + 1 {
         let count = list(lexicon, at, vertex, nodes, total, &mut seen)?;
         at += 2 + 2 * count;
         total += count;
-        vertex += 1;
     }
     Ok(at)
 }
@@ -124,8 +115,9 @@ pub(crate) fn reserve(lexicon: &[u8], at: usize) -> Result<(), Fault>
     ensures { verdict_of result ≡ verdict (length lexicon.now) at (reserve_fields lexicon.now at) }
 {
     number(lexicon, at, 0, 0)?;
-    if lexicon.len() - at != 2 {
-        return Err(Fault::WrongLength);
+    if lexicon.len() - at == 2 {
+        Ok(())
+    } else {
+        Err(Fault::WrongLength)
     }
-    Ok(())
 }

@@ -15,12 +15,6 @@ use voice::Fault;
 
 mod fields;
 
-pub(crate) fn least(a: usize, b: usize) -> usize
-    ensures { result ≡ min a b }
-{
-    if a < b { a } else { b }
-}
-
 // Past the count and the list of u16 that stand at `at`, or the end of the bytes where they end before the list does.
 fn skip(lexicon: &[u8], at: usize) -> usize
     requires { at ≤ length lexicon.now }
@@ -28,7 +22,7 @@ fn skip(lexicon: &[u8], at: usize) -> usize
 {
     let left = lexicon.len() - at;
     let size = 2 + 2 * (u16_at(lexicon, at) as usize);
-    at + least(size, left)
+    at + size.min(left)
 }
 
 // Where the list of a vertex begins, with its count, or the end of the bytes where they end before that.
@@ -36,11 +30,9 @@ fn arcs_at(lexicon: &[u8], vertex: usize) -> usize
     ensures { result ≡ min (arcs_at lexicon.now vertex) (length lexicon.now) }
 {
     let nodes = u16_at(lexicon, 0) as usize;
-    let mut at = least(2 + nodes, lexicon.len());
-    let mut u = 0;
-    while u < vertex {
+    let mut at = lexicon.len().min(2 + nodes);
+    for _u in 0..vertex {
         at = skip(lexicon, at);
-        u += 1;
     }
     at
 }

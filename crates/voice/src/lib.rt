@@ -26,10 +26,7 @@ pub enum Fault {
 fn byte_at(voice: &[u8], at: usize) -> u8
     ensures { result ≡ u8 voice.now at }
 {
-    if voice.len() <= at {
-        return 0;
-    }
-    voice[at]
+    voice.get(at).copied().unwrap_or(0)
 }
 
 // One field, from where its bytes end: that they are missing comes before its range.
@@ -75,12 +72,10 @@ fn judge_letters(voice: &[u8]) -> Result<(), Fault>
 {
     let letters = byte_at(voice, 0) as usize;
     judge_field(voice.len(), 1, inside(letters, 1, 64))?;
-    let mut sum: usize = 0;
-    let mut i = 0;
-    while i < letters {
+    let mut sum = 0;
+    for i in 0..letters {
         judge_letter(voice, i)?;
         sum += byte_at(voice, 2 + 2 * i) as usize;
-        i += 1;
     }
     let at = 1 + 2 * letters;
     judge_field(voice.len(), at + 2, u16_at(voice, at) as usize == sum)
@@ -94,11 +89,9 @@ fn judge_states(voice: &[u8]) -> Result<(), Fault>
 {
     let letters = byte_at(voice, 0) as usize;
     let mut end = 3 + 2 * letters;
-    let mut i = 0;
-    while i < letters {
+    for i in 0..letters {
         end += 4 * (byte_at(voice, 2 + 2 * i) as usize);
         judge_field(voice.len(), end, u16_at(voice, end - 2) == 0)?;
-        i += 1;
     }
     Ok(())
 }
@@ -107,10 +100,7 @@ fn judge_states(voice: &[u8]) -> Result<(), Fault>
 fn good_link_count(letters: u8, count: u8) -> bool
     ensures { result ≡ eqb count 1 || eqb count letters }
 {
-    if count == 1 {
-        return true;
-    }
-    count == letters
+    count == 1 || count == letters
 }
 
 // Links and symbols. The link scores have no range, so they are judged with K behind them; the emissions have none, so
@@ -128,10 +118,12 @@ fn judge_last(voice: &[u8]) -> Result<(), Fault>
     let symbols_at = links_at + 1 + 2 * (links as usize);
     let symbols = byte_at(voice, symbols_at);
     judge_field(voice.len(), symbols_at + 1, inside(symbols as usize, 1, 64))?;
-    if symbols_at + 1 + 2 * (states * (symbols as usize)) != voice.len() {
-        return Err(Fault::WrongLength);
+    let end = symbols_at + 1 + 2 * (states * (symbols as usize));
+    if end == voice.len() {
+        Ok(())
+    } else {
+        Err(Fault::WrongLength)
     }
-    Ok(())
 }
 
 // All fields, section by section.

@@ -1,8 +1,7 @@
--- `endian::u16_of` meets its contract: the sum is the definition's at a list of two bytes. Assumes nothing.
-use borrow.Author.Rules.{rules}
-use Rattle.endian.specs.Bytes.{u16}
+-- `endian::u16_of` meets its contract: the library reads two bytes as the definition does. Assumes nothing.
+use mathlib.Core.Path.{◌∙◌}
+use Rattle.endian.proofs.Library.{from_two}
 use Rattle.endian.proofs.u16_of.Goals as goal
 
 pub returns : goal.returns
-unfolding u16
-returns c = search rules
+returns c = c.from_le_bytes.ensures ∙ from_two _ _
