@@ -11,6 +11,13 @@ pub fn u16_of(lo: u8, hi: u8) -> u16
     u16::from_le_bytes([lo, hi])
 }
 
+// The number that a pair of bytes holds. A loop over the pairs of a list reads each in one step by it.
+pub fn number_of(pair: [u8; 2]) -> u16
+    ensures { result ≡ u16 pair 0 }
+{
+    u16::from_le_bytes(pair)
+}
+
 // The i16 that two bytes hold.
 pub fn i16_of(lo: u8, hi: u8) -> i16
     ensures { result ≡ i16 (lo ∷ hi ∷ []) 0 }
