@@ -1,14 +1,14 @@
 -- Marks: after every list a vertex has a mark exactly where a list names it, so that an orphan is a node without one. Assumes nothing.
 use mathlib.Core.Path.{◌≡◌, refl, sym, ap, ◌∙◌}
-use mathlib.Core.Bool.{Bool, true, false, not, ◌||◌, or-false, or-true}
+use mathlib.Core.Bool.{Bool, true, false, not, beq, ◌||◌, or-false, or-true}
 use mathlib.Core.List.{List}
-use Prim.Native.Nat.{ℕ, zero, suc, ◌+◌, ◌*◌, ◌≤◌, ◌<◌}
+use Prim.Native.Nat.{ℕ, zero, suc, ◌+◌, ◌-◌, ◌*◌, ◌≤◌, ◌<◌}
+use Rattle.std.specs.List.{list_any}
 use native.Mathlib.Nat.{zero-add}
 use native.Mathlib.Omega.{arith}
-use native.Mathlib.Numerals.{add-one}
 use native.Mathlib.Decide.{ℕ_discrete}
-use lib.ListN.{length, get_or, set, replicate, length-set}
-use lib.Seq.{get_or-set_same, get_or-set_other}
+use lib.ListN.{length, get_or, set, replicate, take, drop, length-set}
+use lib.Seq.{get_or-set_same, get_or-set_other, drop-cons}
 use lib.Dec.{eqb}
 use borrow.Author.Tests.{eq-eqb, ne_eqb}
 use Rattle.endian.specs.Lists.{from, has, any}
@@ -100,35 +100,23 @@ pub unmarked-orphan : {x : List ℕ} {marks : List Bool} → SuccessorsMarked x 
 unfolding unmarked orphan named sink_of sink
 unmarked-orphan {x} m = any_same _ _ (from 1 (node_count x)) (λ s i. ap not (m.marked s))
 
--- the nodes from this one on decide
-pub record NodesToTest (marks : List Bool) (nodes node : ℕ) : Type 0 where
-  pub left : ℕ
-  pub size : node + left ≡ suc nodes
-  pub decides : any (λ s. not (get_or marks s false)) (from node left) ≡ unmarked marks nodes
+-- a look through the marks themselves, from a on
+unmarked-listed : (marks : List Bool) (a n : ℕ) → a + n ≤ length marks
+    → list_any (λ mark. beq mark false) (take n (drop a marks)) ≡ any (λ s. not (get_or marks s false)) (from a n)
+unfolding any from
+unmarked-listed marks a zero h = refl
+unmarked-listed marks a (suc n) h =
+    rw (drop-cons marks a false (omega arith), unmarked-listed marks (suc a) n (omega arith))
+    (ap (λ (t : Bool). t || any (λ s. not (get_or marks s false)) (from (suc a) n)) (no-mark (get_or marks a false)))
+  where
+    no-mark : (mark : Bool) → beq mark false ≡ not mark
+    no-mark true = refl
+    no-mark false = refl
 
-pub nodes-start : (marks : List Bool) (nodes : ℕ) → NodesToTest marks nodes 1
-unfolding unmarked
-nodes-start marks nodes = record { left = nodes; size = omega arith; decides = refl }
-
-module _ {marks : List Bool} {nodes node : ℕ} where
-  node-split : NodesToTest marks nodes node → node ≤ nodes
-      → (left : ℕ) × (suc node + left ≡ suc nodes) × (not (get_or marks node false) || any (λ s. not (get_or marks s false)) (from (suc node) left) ≡ unmarked marks nodes)
-  unfolding any from
-  node-split n h = go n.left n.size n.decides
-    where
-      go : (left : ℕ) → node + left ≡ suc nodes → any (λ s. not (get_or marks s false)) (from node left) ≡ unmarked marks nodes
-          → (left : ℕ) × (suc node + left ≡ suc nodes) × (not (get_or marks node false) || any (λ s. not (get_or marks s false)) (from (suc node) left) ≡ unmarked marks nodes)
-      go zero e d = absurd (omega arith)
-      go (suc left) e d = (left, omega arith, d)
-
-  pub node-unmarked : NodesToTest marks nodes node → node ≤ nodes → get_or marks node false ≡ false
-      → true ≡ unmarked marks nodes
-  node-unmarked n h e = rw e at (node-split n h).2
-
-  pub node-marked : NodesToTest marks nodes node → node ≤ nodes → get_or marks node false ≡ true
-      → NodesToTest marks nodes (node + 1)
-  node-marked n h e = let s = node-split n h in rw add-one (record { left = s.0; size = s.1; decides = rw e at s.2 })
-
-  pub nodes-done : NodesToTest marks nodes node → nodes < node → false ≡ unmarked marks nodes
-  unfolding any from
-  nodes-done n h = let z : n.left ≡ 0 = omega (arith, n.size) in rw z at n.decides
+-- which tells of an orphan
+pub unmarked-tells : {x : List ℕ} {marks : List Bool} → SuccessorsMarked x (sink_of x) marks → sink_of x ≤ 401
+    → list_any (λ mark. beq mark false) (take (sink_of x - 1) (drop 1 marks)) ≡ orphan (graph_of x)
+unfolding sink_of unmarked
+unmarked-tells {x} {marks} m h =
+    let n : suc (node_count x) - 1 ≡ node_count x = omega arith in
+    rw n (unmarked-listed marks 1 (node_count x) (omega (arith, m.long)) ∙ unmarked-orphan m)

@@ -4,10 +4,9 @@ use mathlib.Core.Path.{◌≡◌, refl, sym, ap, ◌∙◌}
 use mathlib.Core.Bool.{Bool, true, false, cond}
 use mathlib.Core.List.{List, [], ◌∷◌, map}
 use native.Mathlib.Nat.{add-zero, zero-add}
-use native.Mathlib.Numerals.{add-one}
 use native.Mathlib.Omega.{arith}
 use native.Mathlib.Decide.{ℕ_discrete}
-use lib.ListN.{length, get_or, set, replicate, length-set, get_or-replicate, get_or-eq_default}
+use lib.ListN.{length, get_or, set, length-set, get_or-eq_default}
 use lib.Seq.{get_or-set_same, get_or-set_other, ext_get_or}
 use lib.Dec.{ltb}
 use borrow.Author.Tests.{le-ltb, ltb-true, ltb-false}
@@ -19,7 +18,7 @@ use Rattle.graph.specs.Graph.{graph_of, path_count}
 use Rattle.checking.specs.Tables.{vertex_row, vertices_of, opened_vertices, column, arcs_column}
 use Rattle.checking.specs.Tables.{slots_column, TableOf, Tables, Vertices, WellFormed, WithOffsets}
 use Rattle.checking.proofs.Tables.{entry}
-use Rattle.checking.proofs.Arcs.{has-entry, ListThere, list-there}
+use Rattle.checking.proofs.Arcs.{ListThere, list-there}
 use Rattle.checking.proofs.Filling.{sink-small}
 use Rattle.checking.proofs.Columns.{column-at, column-long}
 
@@ -52,50 +51,30 @@ module _ (x : List ℕ) where
 
 -- ---- put from the root's up
 
--- the rows below u are put, and the others are zero
-pub record RowsPut (x : List ℕ) (u : ℕ) (vertices : List (List ℕ)) : Type 0 where
+-- the rows below n are put, with what the tables hold
+pub record RowsPut (offsets counts : List ℕ) (n : ℕ) (vertices : List (List ℕ)) : Type 0 where
   pub long : length vertices ≡ 402
-  pub vertex : u ≤ suc (sink_of x)
-  pub done : {i : ℕ} → i < u → get_or vertices i [] ≡ vertex_row x i
-  pub zero_row : {i : ℕ} → u ≤ i → i < 402 → get_or vertices i [] ≡ 0 ∷ 0 ∷ 0 ∷ 0 ∷ []
+  pub done : (u : ℕ) → u < n → get_or vertices u [] ≡ get_or offsets u 0 ∷ get_or counts u 0 ∷ 0 ∷ 0 ∷ []
 
-module _ (x : List ℕ) where
-  pub rows_start : RowsPut x 0 (replicate 402 (0 ∷ 0 ∷ 0 ∷ 0 ∷ []))
-  rows_start = record {
-    long = refl;
-    vertex = omega arith;
-    done = λ {i} h. absurd (omega arith);
-    zero_row = λ {i} h k. get_or-replicate 402 i (0 ∷ 0 ∷ 0 ∷ 0 ∷ []) [] k;
+module _ {offsets counts : List ℕ} {n : ℕ} {vertices : List (List ℕ)} (r : RowsPut offsets counts n vertices) where
+  pub rows_next : {row : List ℕ} → n < 402 → row ≡ get_or offsets n 0 ∷ get_or counts n 0 ∷ 0 ∷ 0 ∷ []
+      → RowsPut offsets counts (n + 1) (set vertices n row)
+  rows_next {row} h e = record {
+    long = length-set vertices n row ∙ r.long;
+    done = λ u k. at u k (ℕ_discrete u n);
   }
+    where
+      at : (u : ℕ) → u < n + 1 → Dec (u ≡ n)
+          → get_or (set vertices n row) u [] ≡ get_or offsets u 0 ∷ get_or counts u 0 ∷ 0 ∷ 0 ∷ []
+      at u k (yes q) = rw (q, get_or-set_same vertices n row [] (omega (arith, r.long))) e
+      at u k (no d) = get_or-set_other vertices n u row [] d ∙ r.done u (omega arith)
 
-module _ {x : List ℕ} {u : ℕ} {vertices : List (List ℕ)} (r : RowsPut x u vertices) where
-  pub rows_next : {offsets counts row : List ℕ} → WellFormed x → Tables x offsets counts → u ≤ sink_of x
-      → row ≡ get_or offsets u 0 ∷ get_or counts u 0 ∷ 0 ∷ 0 ∷ [] → RowsPut x (u + 1) (set vertices u row)
+  pub rows_done : 402 ≤ n → (x : List ℕ) → Tables x offsets counts → vertices ≡ vertices_of x
   unfolding vertex_row
-  rows_next {row = row} w t h e = rw add-one (record {
-    long = length-set vertices u row ∙ r.long;
-    vertex = omega arith;
-    done = λ {i} k. done i k (ℕ_discrete i u);
-    zero_row = λ {i} k l. get_or-set_other vertices u i row [] (λ q. omega arith) ∙ r.zero_row (omega arith) l;
-  })
-    where
-      is_row : row ≡ vertex_row x u
-      is_row = e ∙ rw (t.located.holds u, t.counted.holds u)
-
-      done : (i : ℕ) → i < suc u → Dec (i ≡ u) → get_or (set vertices u row) i [] ≡ vertex_row x i
-      done i k (yes q) = rw q (get_or-set_same vertices u row [] (omega (arith, has-entry w h, r.long)) ∙ is_row)
-      done i k (no d) = get_or-set_other vertices u i row [] d ∙ r.done (omega arith)
-
-  pub rows_done : sink_of x < u → vertices ≡ vertices_of x
-  rows_done h =
+  rows_done h x t =
       ext_get_or [] vertices (vertices_of x) (r.long ∙ sym (vertices-long x))
-      (λ i k. at i (omega (arith, r.long)) (ltb i u) refl)
-    where
-      at : (i : ℕ) → i < 402 → (b : Bool) → ltb i u ≡ b → get_or vertices i [] ≡ get_or (vertices_of x) i []
-      at i k true e = r.done (ltb-true i u e) ∙ sym (vertices-at x k)
-      at i k false e =
-          let l = ltb-false i u e in
-          r.zero_row l k ∙ sym (vertices-at x k ∙ after-sink x (omega arith))
+      (λ u k. let l : u < 402 = omega (arith, r.long) in
+      r.done u (omega arith) ∙ rw (t.located.holds u, t.counted.holds u) (sym (vertices-at x l)))
 
 -- ---- as `open` leaves it
 

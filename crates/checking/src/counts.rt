@@ -6,16 +6,15 @@ ghost use Rattle.graph.specs.Graph.{graph_of};
 ghost use Rattle.checking.specs.Tables.{TableOf, WithOffsets, capped_count};
 ghost use Rattle.checking.specs.Filling.{AtVertex};
 
-use crate::offsets::number_at;
+use crate::offsets::{number_at, sink_of};
 
 // One more than the most words of a lexicon: a count stops here, so that nothing wraps.
 const CAP: u32 = 1048577;
 
 fn capped_sum(a: u32, b: u32) -> u32
-    requires { a ≤ suc most_words }
     ensures { result ≡ min (a + b) (suc most_words) }
 {
-    if CAP - a < b { CAP } else { a + b }
+    a.saturating_add(b).min(CAP)
 }
 
 // The path count of a vertex: the sum over its successors.
@@ -40,10 +39,9 @@ pub(crate) fn count_paths(lexicon: &[u8], offsets: &[u16; 402], counts: &mut [u3
     requires { WithOffsets lexicon.now offsets.now × (counts.old ≡ replicate 402 0) }
     ensures { TableOf (suc (sink_of lexicon.now)) (capped_count (graph_of lexicon.now)) counts.new }
 {
-    let mut vertex = number_at(lexicon, 0) + 1;
-    counts[vertex] = 1;
-    while vertex > 0 {
-        vertex -= 1;
+    let sink = sink_of(lexicon);
+    counts[sink] = 1;
+    for vertex in (0..sink).rev() {
         counts[vertex] = path_count(lexicon, offsets, counts, vertex);
     }
 }

@@ -6,7 +6,7 @@ ghost use Rattle.checking.specs.Tables.{WithOffsets};
 ghost use Rattle.checking.specs.Filling.{AtVertex};
 ghost use Rattle.checking.specs.Longest.{height, height_above};
 
-use crate::offsets::number_at;
+use crate::offsets::{number_at, sink_of};
 
 // The greatest height of the successors of a vertex.
 fn height_above(lexicon: &[u8], offsets: &[u16; 402], heights: &[u16; 402], vertex: usize) -> u16
@@ -19,10 +19,7 @@ fn height_above(lexicon: &[u8], offsets: &[u16; 402], heights: &[u16; 402], vert
     let mut most = 0;
     while at < stop {
         let s = number_at(lexicon, at);
-        let height = heights[s];
-        if most < height {
-            most = height;
-        }
+        most = most.max(heights[s]);
         at += 2;
     }
     most
@@ -34,10 +31,8 @@ pub(crate) fn longest_word(lexicon: &[u8], offsets: &[u16; 402]) -> u16
     ensures { long_word result ≡ has_long_word (graph_of lexicon.now) }
 {
     let mut heights = [0u16; 402];
-    let mut vertex = number_at(lexicon, 0);
-    while vertex > 0 {
+    for vertex in (1..sink_of(lexicon)).rev() {
         heights[vertex] = 1 + height_above(lexicon, offsets, &heights, vertex);
-        vertex -= 1;
     }
     height_above(lexicon, offsets, &heights, 0)
 }

@@ -141,7 +141,7 @@ pub fn open(
     );
     clear(work);
     let words = answer?;
-    put_rows(lexicon, &offsets, &counts, vertices);
+    put_rows(&offsets, &counts, vertices);
     Ok(words)
 }
 

@@ -14,7 +14,7 @@ ghost use Rattle.checking.specs.Bits.{bit, BitSet, Joined};
 ghost use Rattle.checking.specs.PairTable.{PairsMarked, MaskOf, Gathered, PairSet, RowDone, Chains, RowParts};
 ghost use Rattle.checking.specs.PairTable.{PairsAsked};
 
-use crate::offsets::number_at;
+use crate::offsets::{number_at, sink_of};
 use call::zero;
 
 // The bytes of a row: a bit for each vertex.
@@ -39,8 +39,7 @@ fn set_bit(pairs: &mut [u8], i: usize)
     ensures { BitSet i pairs.old pairs.new }
 {
     let k = (i % 8) as u32;
-    let at = i / 8;
-    pairs[at] = pairs[at] | (1 << k);
+    pairs[i / 8] |= 1 << k;
 }
 
 // Joins the row at an offset to the mask.
@@ -48,10 +47,8 @@ fn join_row(mask: &mut [u8; 51], pairs: &[u8], at: usize)
     requires { (length mask.old ≡ 51) × (at + 51 ≤ length pairs.now) }
     ensures { Joined mask.old pairs.now at mask.new }
 {
-    let mut i = 0;
-    while i < ROW {
-        mask[i] = mask[i] | pairs[at + i];
-        i += 1;
+    for (i, byte) in mask.iter_mut().enumerate() {
+        *byte |= pairs[at + i];
     }
 }
 
@@ -126,10 +123,10 @@ fn mark_row(
     requires mask_of { MaskOf (graph_of lexicon.now) u mask.now }
     ensures { PairsMarked (graph_of lexicon.now) u pairs.new }
 {
-    let nodes = number_at(lexicon, 0);
+    let sink = sink_of(lexicon);
     set_bit(pairs, u * ROW_BITS + u);
     let mut v = nexts[u] as usize;
-    while v <= nodes {
+    while v < sink {
         mark_pair(lexicon, offsets, u, v, mask, pairs);
         v = nexts[v] as usize;
     }
@@ -182,17 +179,15 @@ pub(crate) fn has_same_letters(lexicon: &[u8], offsets: &[u16; 402], pairs: &mut
     ensures value { result ≡ same_letters (graph_of lexicon.now) }
     ensures pairs_len_unchanged { length pairs.new ≡ length pairs.old }
 {
-    let mut u = number_at(lexicon, 0);
-    let sink = u + 1;
+    let sink = sink_of(lexicon);
     begin_table(sink, pairs);
     let mut firsts = [sink as u16; 64];
     let mut nexts = [0; 402];
-    while 0 < u {
+    for u in (1..sink).rev() {
         chain_node(lexicon, u, &mut firsts, &mut nexts);
         if add_row(lexicon, offsets, &nexts, u, pairs) {
             return true;
         }
-        u -= 1;
     }
     let mut mask = [0; 51];
     gather(lexicon, offsets, 0, &pairs[..], &mut mask)

@@ -1,8 +1,7 @@
 // The table of vertices that the calls after checking are handed: a row for each vertex.
-ghost use Rattle.std.specs.Prelude.{◌≡◌, [], ◌∷◌};
-ghost use Rattle.checking.specs.Tables.{vertices_of, Tables, WellFormed};
+ghost use Rattle.std.specs.Prelude.{◌≡◌, ℕ, List, [], ◌∷◌};
+ghost use Rattle.checking.specs.Tables.{vertices_of, Tables};
 
-use crate::offsets::number_at;
 use crate::{ARCS_AT, EMISSION, FIRST_SLOT, PATHS};
 
 // The row of a vertex, without slot and emission.
@@ -17,21 +16,11 @@ fn row_of(offset: u16, paths: u32) -> [u32; 4]
     row
 }
 
-// Puts the rows from the root's to the sink's, and makes those after it zero.
-pub(crate) fn put_rows(
-    lexicon: &[u8],
-    offsets: &[u16; 402],
-    counts: &[u32; 402],
-    vertices: &mut [[u32; 4]; 402],
-)
-    requires { WellFormed lexicon.now × Tables lexicon.now offsets.now counts.now }
-    ensures { vertices.new ≡ vertices_of lexicon.now }
+// Puts the row of each vertex, from the tables of a lexicon. They are 0 after the sink, and so are its rows.
+pub(crate) fn put_rows(offsets: &[u16; 402], counts: &[u32; 402], vertices: &mut [[u32; 4]; 402])
+    ensures { (x : List ℕ) → Tables x offsets.now counts.now → vertices.new ≡ vertices_of x }
 {
-    let sink = number_at(lexicon, 0) + 1;
-    *vertices = [[0; 4]; 402];
-    let mut vertex = 0;
-    while vertex <= sink {
-        vertices[vertex] = row_of(offsets[vertex], counts[vertex]);
-        vertex += 1;
+    for (vertex, row) in vertices.iter_mut().enumerate() {
+        *row = row_of(offsets[vertex], counts[vertex]);
     }
 }

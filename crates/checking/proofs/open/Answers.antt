@@ -10,9 +10,7 @@ use Rattle.call.specs.Limits.{work_space}
 use Rattle.call.specs.Table.{Answer, answer_of}
 use Rattle.call.specs.Buffers.{cleared}
 use Rattle.call.proofs.Buffers.{cleared-short, cleared-length, part-cleared}
-use Rattle.voice.specs.Voice.{letter_count}
 use Rattle.graph.specs.Checking.{image_rows, check_answer}
-use Rattle.graph.proofs.Accepted.{accepted, passed}
 use Rattle.checking.specs.Judging.{ImagesJudged}
 use Rattle.checking.proofs.Judging.{short-answer, long-answer}
 use Rattle.checking.proofs.VertexRows.{opened-value, opened-refused}
@@ -41,17 +39,6 @@ work-cleared : (work part : List ℕ) → work_space ≤ length work → length 
     → cleared (part ++ drop 20502 work) ≡ cleared work
 work-cleared work part long e = part-cleared part work (e ∙ part-long work long) (omega arith) long
 
-pub put_rows-requires : goal.put_rows-requires
-put_rows-requires c =
-    let a = c.args in
-    let e = ap answer_of c.in-Value.is in
-    let j = c.judge_images-answer.ensures in
-    let checked = answered a.voice.now a.work.now c.if-work-lt-WORK_SPACE.false j in
-    let p = passed a.voice.now a.lexicon.now a.work.now (sym checked ∙ e) in (
-      record { letters = letter_count a.voice.now; judged = (accepted p.images).lexicon },
-      j.opened _ e,
-    )
-
 pub shape_of-work-in-Value : goal.shape_of-work-in-Value
 shape_of-work-in-Value c =
     let e = work-cleared c.args.work.now _ c.if-work-lt-WORK_SPACE.false c.judge_images-answer.auto.pairs in
@@ -63,7 +50,9 @@ returns-in-Value c =
     record {
       result_value = answered c.args.voice.now c.args.work.now long c.judge_images-answer.ensures;
       work_after = c.clear.ensures ∙ work-cleared c.args.work.now _ long c.judge_images-answer.auto.pairs;
-      vertices_after = c.put_rows.ensures ∙ sym (opened-value _ _ (ap answer_of c.in-Value.is));
+      vertices_after =
+          c.put_rows.ensures c.args.lexicon.now (c.judge_images-answer.ensures.opened _ (ap answer_of c.in-Value.is))
+          ∙ sym (opened-value _ _ (ap answer_of c.in-Value.is));
     }
 
 pub shape_of-work-in-Refused : goal.shape_of-work-in-Refused

@@ -1,12 +1,14 @@
 -- `heights::height_above` meets its contract: the greatest height so far and those of the successors that are left make the greatest of all.
 -- The measure is what is left of the list. Assumes nothing.
+use mathlib.Core.Path.{◌≡◌}
+use Prim.Native.Nat.{max}
+use lib.ListN.{get_or}
 use native.Mathlib.Omega.{arith}
 use borrow.Author.Rules.{rules}
 use Rattle.checking.proofs.Arcs.{arc-next}
 use Rattle.checking.proofs.Filling.{vertex-small, list-begins, list-ends, entry-above, successor_small}
 use Rattle.checking.proofs.Longest.{height-start, height-next, height-done}
 use Rattle.checking.proofs.heights.height_above.Goals as goal
-use Rattle.checking.proofs.heights.height_above.Goals.{then-most-height, else-most-height}
 
 pub loop-at-init : goal.loop-at-init
 loop-at-init c =
@@ -29,8 +31,8 @@ pub loop-at-preserved : goal.loop-at-preserved
 loop-at-preserved c =
     let n = arc-next c.loop-at.invariant.arcs c.loop-at-test.true in
     let e = entry-above c.requires n c.number_at-s.ensures in
-    height-next c.loop-at.invariant n
-    (elim c.if-most-height.branch [ then-most-height w ↦ omega (arith, e) | else-most-height w ↦ omega (arith, e) ])
+    let m : c.max-most.result ≡ max c.loop-at.most (get_or c.args.heights.now c.number_at-s.result 0) = search rules in
+    height-next c.loop-at.invariant n (omega arith)
 
 pub offset_bounds-offsets-vertex : goal.offset_bounds-offsets-vertex
 offset_bounds-offsets-vertex c = let h = vertex-small c.requires in search rules
