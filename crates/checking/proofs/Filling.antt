@@ -12,11 +12,12 @@ use lib.Dec.{ltb}
 use borrow.Author.Tests.{ltb-true, ltb-false}
 use Rattle.endian.specs.Bytes.{u16}
 use Rattle.endian.proofs.Lists.{get_d_copies}
-use Rattle.lexicon.specs.Lexicon.{node_count, sink_of, arcs_at}
+use Rattle.lexicon.specs.Lexicon.{node_count, sink_of}
 use Rattle.lexicon.proofs.Shape.{arcs-next}
 use Rattle.checking.specs.Tables.{TableOf, WellFormed, WithOffsets}
 use Rattle.checking.specs.Filling.{FilledFrom, AtVertex}
-use Rattle.checking.proofs.Arcs.{shape_of, ArcNext, ListThere, has-entry, list-entry, list_at}
+use Rattle.checking.proofs.Arcs.{shape_of}
+use Rattle.checking.proofs.Successors.{SuccessorAt}
 
 -- the blank table is filled from n on and below n
 pub filled_none : (n : ℕ) (f : ℕ → ℕ) → FilledFrom n n f (replicate 402 0)
@@ -61,24 +62,10 @@ filled-whole {n} {f} {table} t = record { long = t.long; holds = λ u. at u (ltb
     at u true q = t.filled u (omega arith) (ltb-true u n q)
     at u false q = t.beyond u (ltb-false u n q)
 
--- what is read at a vertex
-module _ {f : ℕ → ℕ} {x offsets table : List ℕ} {u : ℕ} (v : AtVertex f x offsets table u) where
-  pub vertex-small : u ≤ 400
-  vertex-small = omega (arith, v.vertex, (shape_of v.located.formed).few)
-
-  -- where its list begins
-  pub list-begins : get_or offsets u 0 ≡ arcs_at x u
-  list-begins = list-entry v.located v.vertex
-
-  pub list-ends : ListThere x (get_or offsets u 0)
-  list-ends = list_at v.located v.vertex
-
-  -- the entry of a successor
-  pub entry-above : {at stop s : ℕ} {left : List ℕ} → ArcNext x u at stop left → s ≡ u16 x at → get_or table s 0 ≡ f (u16 x at)
-  entry-above n e = rw e (v.above.filled _ (omega (arith, n.rises)) (omega (arith, n.bounded)))
-
-  pub successor_small : {at stop s : ℕ} {left : List ℕ} → ArcNext x u at stop left → s ≡ u16 x at → s < 402
-  successor_small n e = rw e (has-entry v.located.formed n.bounded)
+-- at a vertex the entry of a successor is there
+pub entry-above : {f : ℕ → ℕ} {x offsets table : List ℕ} {u i s : ℕ} → AtVertex f x offsets table u
+    → SuccessorAt x u i s → get_or table s 0 ≡ f s
+entry-above {s = s} v n = v.above.filled s n.rises (omega (arith, n.bounded))
 
 -- ---- vertex by vertex
 

@@ -1,8 +1,8 @@
 -- Marks: after every list a vertex has a mark exactly where a list names it, so that an orphan is a node without one. Assumes nothing.
 use mathlib.Core.Path.{◌≡◌, refl, sym, ap, ◌∙◌}
 use mathlib.Core.Bool.{Bool, true, false, not, beq, ◌||◌, or-false, or-true}
-use mathlib.Core.List.{List}
-use Prim.Native.Nat.{ℕ, zero, suc, ◌+◌, ◌-◌, ◌*◌, ◌≤◌, ◌<◌}
+use mathlib.Core.List.{List, []}
+use Prim.Native.Nat.{ℕ, zero, suc, ◌+◌, ◌-◌, ◌≤◌, ◌<◌}
 use Rattle.std.specs.List.{list_any}
 use native.Mathlib.Nat.{zero-add}
 use native.Mathlib.Omega.{arith}
@@ -12,15 +12,13 @@ use lib.Seq.{get_or-set_same, get_or-set_other, drop-cons}
 use lib.Dec.{eqb}
 use borrow.Author.Tests.{eq-eqb, ne_eqb}
 use Rattle.endian.specs.Lists.{from, has, any}
-use Rattle.endian.specs.Bytes.{u16}
 use Rattle.endian.proofs.Lists.{get_d_copies}
 use Rattle.endian.proofs.Search.{any_same, any_last}
-use Rattle.lexicon.specs.Lexicon.{node_count, sink_of, arcs_at, successors}
+use Rattle.lexicon.specs.Lexicon.{node_count, sink_of, successors}
 use Rattle.graph.specs.Graph.{graph_of, sink}
 use Rattle.graph.specs.Conditions.{orphan}
-use Rattle.checking.specs.Tables.{WellFormed}
 use Rattle.checking.specs.Marks.{named, SuccessorsMarked, unmarked}
-use Rattle.checking.proofs.Arcs.{shape_of, ArcsToRead, ArcNext, arcs-start, arc-next, arcs-done}
+use Rattle.checking.proofs.Successors.{SuccessorAt}
 
 -- ---- marking
 
@@ -33,64 +31,41 @@ pub marked-none : (x : List ℕ) → SuccessorsMarked x 0 (replicate 402 false)
 unfolding named any from
 marked-none x = record { long = refl; marked = λ s. get_d_copies 402 s false }
 
--- before the last arcs of u's list
-pub record MarksLeft (x : List ℕ) (u at stop : ℕ) (marks : List Bool) : Type 0 where
-  pub left : List ℕ
-  pub arcs : ArcsToRead x u at stop left
+-- the first i successors of u are passed
+pub record MarksLeft (x : List ℕ) (u i : ℕ) (marks : List Bool) : Type 0 where
   pub long : length marks ≡ 402
   -- what has a mark, or is still to get it
-  pub marked : (s : ℕ) → get_or marks s false || has s left ≡ named x (suc u) s
+  pub marked : (s : ℕ) → get_or marks s false || has s (drop i (successors x u)) ≡ named x (suc u) s
 
-pub marks-start : {x : List ℕ} → WellFormed x → {u at : ℕ} {marks : List Bool} → u ≤ node_count x → at ≡ arcs_at x u
-    → SuccessorsMarked x u marks
-    → MarksLeft x u (at + 2) (at + 2 + 2 * u16 x at) marks
-marks-start {x} w {u} h e m = record {
-  left = successors x u;
-  arcs = arcs-start w h e;
-  long = m.long;
-  marked = λ s. rw (m.marked s) (sym (named-next x u s));
-}
+pub marks-start : {x : List ℕ} {u : ℕ} {marks : List Bool} → SuccessorsMarked x u marks → MarksLeft x u 0 marks
+marks-start {x} {u} m = record { long = m.long; marked = λ s. rw (m.marked s) (sym (named-next x u s)) }
 
-module _ {x : List ℕ} {u at stop : ℕ} {marks : List Bool} (m : MarksLeft x u at stop marks) where
-  -- the arc that is read next
-  pub record MarkNext : Type 0 where
-    pub there : at + 2 ≤ length x
-    pub room : at + 2 ≤ stop
-    pub entry : u16 x at < 402
-    pub after : MarksLeft x u (at + 2) stop (set marks (u16 x at) true)
-
-  pub mark_next : WellFormed x → at < stop → MarkNext
-  unfolding sink_of has
-  mark_next w h = record {
-    there = omega (arith, a.room, m.arcs.there);
-    room = a.room;
-    entry = entry;
-    after = record {
-      left = a.others;
-      arcs = a.after;
-      long = length-set marks (u16 x at) true ∙ m.long;
-      marked = λ s. marked s (ℕ_discrete s (u16 x at)) ∙ ap (λ l. get_or marks s false || has s l) (sym a.split) ∙ m.marked s;
-    };
+module _ {x : List ℕ} {u i : ℕ} {marks : List Bool} (m : MarksLeft x u i marks) where
+  pub mark_next : {t : ℕ} → SuccessorAt x u i t → MarksLeft x u (i + 1) (set marks t true)
+  unfolding has
+  mark_next {t} n = record {
+    long = length-set marks t true ∙ m.long;
+    marked = λ s.
+        marked s (ℕ_discrete s t) ∙ ap (λ (l : List ℕ). get_or marks s false || has s l) (sym n.split) ∙ m.marked s;
   }
     where
-      a : ArcNext x u at stop m.left
-      a = arc-next m.arcs h
+      later : List ℕ
+      later = drop (i + 1) (successors x u)
 
-      entry : u16 x at < 402
-      entry = omega (arith, a.bounded, (shape_of w).few)
-
-      marked : (s : ℕ) → Dec (s ≡ u16 x at)
-          → get_or (set marks (u16 x at) true) s false || has s a.others ≡ get_or marks s false || (eqb s (u16 x at) || has s a.others)
+      marked : (s : ℕ) → Dec (s ≡ t)
+          → get_or (set marks t true) s false || has s later ≡ get_or marks s false || (eqb s t || has s later)
       marked s (yes e) =
-          let k : u16 x at < length marks = omega (arith, entry, m.long) in
-          rw (e, get_or-set_same marks (u16 x at) true false, eq-eqb (u16 x at) (u16 x at) refl) (sym (or-true (get_or marks (u16 x at) false)))
-      marked s (no d) = rw (get_or-set_other marks (u16 x at) s true false d, ne_eqb s (u16 x at) d)
+          let k : t < length marks = omega (arith, n.few, m.long) in
+          rw (e, get_or-set_same marks t true false, eq-eqb t t refl) (sym (or-true (get_or marks t false)))
+      marked s (no d) = rw (get_or-set_other marks t s true false d, ne_eqb s t d)
 
-  pub marks_done : stop ≤ at → SuccessorsMarked x (suc u) marks
+  pub marks_done : drop i (successors x u) ≡ [] → SuccessorsMarked x (suc u) marks
   unfolding has
-  marks_done h = record {
+  marks_done e = record {
     long = m.long;
-    marked = λ s. sym (or-false (get_or marks s false)) ∙ ap (λ l. get_or marks s false || has s l) (sym (arcs-done m.arcs h)) ∙ m.marked s;
+    marked = λ s.
+        sym (or-false (get_or marks s false)) ∙ ap (λ (l : List ℕ). get_or marks s false || has s l) (sym e)
+        ∙ m.marked s;
   }
 
 -- ---- looking for a node without a mark

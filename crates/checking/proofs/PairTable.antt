@@ -1,7 +1,8 @@
 -- The table of pairs, filled from the last vertex down: how the row of a vertex is marked by its mask. Assumes nothing.
 use Prim.Native.Nat.{ℕ, suc, ◌+◌, ◌-◌, ◌*◌, ◌≤◌, ◌<◌, min, max}
 use mathlib.Core.Path.{◌≡◌, refl, sym, ap, ◌∙◌}
-use mathlib.Core.Bool.{Bool, true, false, ◌&&◌, ◌||◌, and-false, or-false}
+use mathlib.Core.Bool.{Bool, true, false, not, ◌&&◌, ◌||◌, and-false, or-false, true≢false}
+use Rattle.std.specs.Prelude.{Option, None, Some, MatchOption, is_some}
 use mathlib.Core.List.{List}
 use native.Mathlib.Decide.{ℕ_discrete}
 use native.Mathlib.Omega.{arith}
@@ -270,10 +271,15 @@ module _ {x : List ℕ} where
             ∙ rw (z, ← d.tells, e) (or-false (any p (from 0 (suc w))));
       }
 
-  pub rows_all : {u : ℕ} {b : List ℕ} → Rows x u b → u ≤ 0 → PairsMarked (graph_of x) 1 b
-  rows_all {u} r h = let e : u ≡ 0 = omega arith in rw e at r.marked
-
-  pub rows_done : {u : ℕ} {b mask : List ℕ} {answer : Bool} → Rows x u b → u ≤ 0 → Gathered (graph_of x) 0 mask answer
-      → clash (graph_of x) ≡ answer
+  -- with the root's successors, all are tested
+  pub rows_done : {u : ℕ} {b : List ℕ} → Rows x u b → u ≤ 0 → clash (graph_of x) ≡ clash_at (graph_of x) 0
   unfolding any from
-  rows_done {u} r h d = let e : u ≡ 0 = omega arith in r.clashes ∙ rw e (or-false (clash_at (graph_of x) 0)) ∙ sym d.tells
+  rows_done {u} r h = let e : u ≡ 0 = omega arith in r.clashes ∙ rw e (or-false (clash_at (graph_of x) 0))
+
+-- where a mask is gathered, no two successors have something in common, and otherwise two have
+pub clash-told : (g : Graph) (u : ℕ) (gathered : Option (List ℕ)) (answer : Bool)
+    → MatchOption gathered (clash_at g u ≡ true) (Gathered g u) → is_some gathered ≡ not answer → clash_at g u ≡ answer
+clash-told g u None true m e = m
+clash-told g u None false m e = absurd (true≢false (sym e))
+clash-told g u (Some mask) true m e = absurd (true≢false e)
+clash-told g u (Some mask) false m e = m.none_clash

@@ -22,10 +22,10 @@ pub record PairsMarked (g : Graph) (k : ℕ) (b : List ℕ) : Type 0 where
 pub record MaskOf (g : Graph) (u : ℕ) (mask : List ℕ) : Type 0 where
   pub bits : (y : ℕ) → u < y → y ≤ sink g → bit mask y ≡ meets g (g.successors u) y
 
--- the answer tells whether two successors of u have something in common; if none have, the mask is made
-pub record Gathered (g : Graph) (u : ℕ) (mask : List ℕ) (answer : Bool) : Type 0 where
-  pub tells : answer ≡ clash_at g u
-  pub made : answer ≡ false → MaskOf g u mask
+-- no two successors of u have something in common, and the mask is made
+pub record Gathered (g : Graph) (u : ℕ) (mask : List ℕ) : Type 0 where
+  pub none_clash : clash_at g u ≡ false
+  pub made : MaskOf g u mask
 
 -- the pair of u and v, both ways, was marked if the test says so
 pub record PairSet (u v : ℕ) (test : Bool) (b after : List ℕ) : Type 0 where

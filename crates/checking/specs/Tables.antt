@@ -4,7 +4,7 @@ use Rattle.endian.specs.Lists.{from}
 use Rattle.call.specs.Limits.{most_words}
 use Rattle.call.specs.Table.{Answer, value, refused}
 use Rattle.voice.specs.Fields.{well_formed}
-use Rattle.lexicon.specs.Lexicon.{node_count, node_letter, sink_of, arcs_at, lexicon_verdict}
+use Rattle.lexicon.specs.Lexicon.{node_count, node_letter, sink_of, arcs_at, successors, numbers_of, lexicon_verdict}
 use Rattle.graph.specs.Graph.{Graph, graph_of, path_count}
 
 -- the row of vertex u: the offset of its successors' count, which their list follows (0 to N); its path count (0 to
@@ -69,6 +69,10 @@ FewLetters x = (u : ℕ) → 1 ≤ u → u ≤ node_count x → node_letter x u 
 pub record WithOffsets (x offsets : List ℕ) : Type 0 where
   pub formed : WellFormed x
   pub table : TableOf (sink_of x) (arcs_at x) offsets
+
+-- so many pairs of bytes, one for each successor of vertex u, hold their numbers
+pub record SuccessorPairs (x : List ℕ) (u : ℕ) (pairs : List (List ℕ)) : Type 0 where
+  pub numbers : numbers_of pairs ≡ successors x u
 
 -- a path count as it is counted: above the limit it stays one more, so that nothing wraps
 unfoldable pub capped_count : Graph → ℕ → ℕ

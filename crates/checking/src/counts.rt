@@ -6,7 +6,7 @@ ghost use Rattle.graph.specs.Graph.{graph_of};
 ghost use Rattle.checking.specs.Tables.{TableOf, WithOffsets, capped_count};
 ghost use Rattle.checking.specs.Filling.{AtVertex};
 
-use crate::offsets::{number_at, sink_of};
+use crate::offsets::{number_of, sink_of, successors};
 
 // One more than the most words of a lexicon: a count stops here, so that nothing wraps.
 const CAP: u32 = 1048577;
@@ -22,14 +22,9 @@ fn path_count(lexicon: &[u8], offsets: &[u16; 402], counts: &[u32; 402], vertex:
     requires { AtVertex (capped_count (graph_of lexicon.now)) lexicon.now offsets.now counts.now vertex }
     ensures { result ≡ capped_count (graph_of lexicon.now) vertex }
 {
-    let start = offsets[vertex] as usize;
-    let stop = start + 2 + 2 * number_at(lexicon, start);
-    let mut at = start + 2;
     let mut sum = 0;
-    while at < stop {
-        let s = number_at(lexicon, at);
-        sum = capped_sum(sum, counts[s]);
-        at += 2;
+    for &pair in successors(lexicon, offsets, vertex) {
+        sum = capped_sum(sum, counts[number_of(pair) as usize]);
     }
     sum
 }

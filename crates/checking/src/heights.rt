@@ -6,21 +6,16 @@ ghost use Rattle.checking.specs.Tables.{WithOffsets};
 ghost use Rattle.checking.specs.Filling.{AtVertex};
 ghost use Rattle.checking.specs.Longest.{height, height_above};
 
-use crate::offsets::{number_at, sink_of};
+use crate::offsets::{number_of, sink_of, successors};
 
 // The greatest height of the successors of a vertex.
 fn height_above(lexicon: &[u8], offsets: &[u16; 402], heights: &[u16; 402], vertex: usize) -> u16
     requires { AtVertex (height (graph_of lexicon.now)) lexicon.now offsets.now heights.now vertex }
     ensures { result ≡ height_above (graph_of lexicon.now) vertex }
 {
-    let start = offsets[vertex] as usize;
-    let stop = start + 2 + 2 * number_at(lexicon, start);
-    let mut at = start + 2;
     let mut most = 0;
-    while at < stop {
-        let s = number_at(lexicon, at);
-        most = most.max(heights[s]);
-        at += 2;
+    for &pair in successors(lexicon, offsets, vertex) {
+        most = most.max(heights[number_of(pair) as usize]);
     }
     most
 }

@@ -1,8 +1,8 @@
-// The sink of a lexicon, where the list of each vertex begins in the image, and the numbers in it.
+// The sink of a lexicon, where the list of each vertex begins in the image, and the list.
 ghost use Rattle.std.specs.Prelude.{◌≡◌, ◌+◌, ◌≤◌, ◌<◌, length, replicate};
 ghost use Rattle.endian.specs.Bytes.{u16};
-ghost use Rattle.lexicon.specs.Lexicon.{sink_of, arcs_at};
-ghost use Rattle.checking.specs.Tables.{TableOf, WellFormed};
+ghost use Rattle.lexicon.specs.Lexicon.{node_count, sink_of, arcs_at};
+ghost use Rattle.checking.specs.Tables.{TableOf, WellFormed, WithOffsets, SuccessorPairs};
 
 use endian::{u16_at, u16_of};
 
@@ -16,12 +16,11 @@ pub(crate) fn sink_of(lexicon: &[u8]) -> usize
     u16_at(lexicon, 0) as usize + 1
 }
 
-// The number at an offset inside the image.
-pub(crate) fn number_at(lexicon: &[u8], at: usize) -> usize
-    requires { at + 2 ≤ length lexicon.now }
-    ensures { result ≡ u16 lexicon.now at }
+// The number that a pair of bytes holds.
+pub(crate) fn number_of(pair: [u8; 2]) -> u16
+    ensures { result ≡ u16 pair 0 }
 {
-    u16_of(lexicon[at], lexicon[at + 1]) as usize
+    u16::from_le_bytes(pair)
 }
 
 // Where the list of each vertex begins, with its count.
@@ -33,6 +32,24 @@ pub(crate) fn find_offsets(lexicon: &[u8], offsets: &mut [u16; 402])
     let mut at = 1 + sink;
     for u in 0..sink {
         offsets[u] = at as u16;
-        at += 2 + 2 * number_at(lexicon, at);
+        at += 2 + 2 * u16_at(lexicon, at) as usize;
     }
+}
+
+// The successors of a vertex, two bytes each. The list is there, so it is read without the tests of `list_at`, which
+// every pair of nodes would pay for.
+pub(crate) fn successors<'a>(
+    lexicon: &'a [u8],
+    offsets: &[u16; 402],
+    vertex: usize,
+) -> &'a [[u8; 2]]
+    requires { WithOffsets lexicon.now offsets.now × (vertex ≤ node_count lexicon.now) }
+    ensures { SuccessorPairs lexicon.now vertex result.now }
+{
+    let at = offsets[vertex] as usize;
+    let count = u16_of(lexicon[at], lexicon[at + 1]) as usize;
+    let start = at + 2;
+    let end = start + 2 * count;
+    let (pairs, _) = lexicon[start..end].as_chunks::<2>();
+    pairs
 }

@@ -6,7 +6,7 @@ ghost use Rattle.graph.specs.Conditions.{orphan};
 ghost use Rattle.checking.specs.Tables.{WithOffsets};
 ghost use Rattle.checking.specs.Marks.{SuccessorsMarked};
 
-use crate::offsets::{number_at, sink_of};
+use crate::offsets::{number_of, sink_of, successors};
 
 // Marks the successors of a vertex, after those of the vertices below it.
 fn mark_successors(lexicon: &[u8], offsets: &[u16; 402], vertex: usize, marks: &mut [bool; 402])
@@ -14,13 +14,8 @@ fn mark_successors(lexicon: &[u8], offsets: &[u16; 402], vertex: usize, marks: &
         × SuccessorsMarked lexicon.now vertex marks.old }
     ensures { SuccessorsMarked lexicon.now (suc vertex) marks.new }
 {
-    let start = offsets[vertex] as usize;
-    let stop = start + 2 + 2 * number_at(lexicon, start);
-    let mut at = start + 2;
-    while at < stop {
-        let s = number_at(lexicon, at);
-        marks[s] = true;
-        at += 2;
+    for &pair in successors(lexicon, offsets, vertex) {
+        marks[number_of(pair) as usize] = true;
     }
 }
 

@@ -3,7 +3,7 @@
 // a table of bits, filled from vertex N down. Two nodes can have something in common only if their letters are the same,
 // so the nodes of a letter are chained: `firsts` has each letter's first node, `nexts` the next after each node, and the
 // sink stands for none.
-ghost use Rattle.std.specs.Prelude.{◌≡◌, suc, ◌+◌, ◌*◌, ◌≤◌, ◌<◌, length, replicate};
+ghost use Rattle.std.specs.Prelude.{◌≡◌, suc, ◌+◌, ◌*◌, ◌≤◌, ◌<◌, length, true, MatchOption};
 ghost use Rattle.endian.specs.Lists.{any};
 ghost use Rattle.call.specs.Buffers.{zeroed};
 ghost use Rattle.lexicon.specs.Lexicon.{node_count, node_letter, successors};
@@ -11,10 +11,11 @@ ghost use Rattle.graph.specs.Graph.{graph_of};
 ghost use Rattle.graph.specs.Conditions.{same_letters};
 ghost use Rattle.checking.specs.Tables.{WellFormed, WithOffsets};
 ghost use Rattle.checking.specs.Bits.{bit, BitSet, Joined};
+ghost use Rattle.checking.specs.Pairs.{clash_at};
 ghost use Rattle.checking.specs.PairTable.{PairsMarked, MaskOf, Gathered, PairSet, RowDone, Chains, RowParts};
 ghost use Rattle.checking.specs.PairTable.{PairsAsked};
 
-use crate::offsets::{number_at, sink_of};
+use crate::offsets::{number_of, sink_of, successors};
 use call::zero;
 
 // The bytes of a row: a bit for each vertex.
@@ -52,24 +53,22 @@ fn join_row(mask: &mut [u8; 51], pairs: &[u8], at: usize)
     }
 }
 
-// Joins the rows of u's successors to the mask, or answers that one of them has something in common with an earlier one.
-fn gather(lexicon: &[u8], offsets: &[u16; 402], u: usize, pairs: &[u8], mask: &mut [u8; 51]) -> bool
+// The mask of the rows of u's successors, or none if one of them has something in common with an earlier one.
+fn gather(lexicon: &[u8], offsets: &[u16; 402], u: usize, pairs: &[u8]) -> Option<[u8; 51]>
     requires { WithOffsets lexicon.now offsets.now × (u ≤ node_count lexicon.now)
-        × PairsMarked (graph_of lexicon.now) (suc u) pairs.now × (mask.old ≡ replicate 51 0) }
-    ensures { Gathered (graph_of lexicon.now) u mask.new result }
+        × PairsMarked (graph_of lexicon.now) (suc u) pairs.now }
+    ensures { MatchOption result (clash_at (graph_of lexicon.now) u ≡ true)
+        (Gathered (graph_of lexicon.now) u) }
 {
-    let start = offsets[u] as usize;
-    let stop = start + 2 + 2 * number_at(lexicon, start);
-    let mut at = start + 2;
-    while at < stop {
-        let s = number_at(lexicon, at);
-        if has_bit(&*mask, s) {
-            return true;
+    let mut mask = [0; 51];
+    for &pair in successors(lexicon, offsets, u) {
+        let s = number_of(pair) as usize;
+        if has_bit(&mask, s) {
+            return None;
         }
-        join_row(mask, pairs, s * ROW);
-        at += 2;
+        join_row(&mut mask, pairs, s * ROW);
     }
-    false
+    Some(mask)
 }
 
 // Some successor of v has its bit in the mask.
@@ -77,14 +76,10 @@ fn meets_mask(lexicon: &[u8], offsets: &[u16; 402], v: usize, mask: &[u8; 51]) -
     requires { WithOffsets lexicon.now offsets.now × (v ≤ node_count lexicon.now) }
     ensures { result ≡ any (bit mask.now) (successors lexicon.now v) }
 {
-    let start = offsets[v] as usize;
-    let stop = start + 2 + 2 * number_at(lexicon, start);
-    let mut at = start + 2;
-    while at < stop {
-        if has_bit(mask, number_at(lexicon, at)) {
+    for &pair in successors(lexicon, offsets, v) {
+        if has_bit(mask, number_of(pair) as usize) {
             return true;
         }
-        at += 2;
     }
     false
 }
@@ -143,10 +138,9 @@ fn add_row(
     requires { RowParts lexicon.now offsets.now nexts.now u pairs.old }
     ensures { RowDone (graph_of lexicon.now) u pairs.new result }
 {
-    let mut mask = [0; 51];
-    if gather(lexicon, offsets, u, &pairs[..], &mut mask) {
+    let Some(mask) = gather(lexicon, offsets, u, &pairs[..]) else {
         return true;
-    }
+    };
     mark_row(lexicon, offsets, nexts, u, &mask, pairs);
     false
 }
@@ -189,6 +183,5 @@ pub(crate) fn has_same_letters(lexicon: &[u8], offsets: &[u16; 402], pairs: &mut
             return true;
         }
     }
-    let mut mask = [0; 51];
-    gather(lexicon, offsets, 0, &pairs[..], &mut mask)
+    gather(lexicon, offsets, 0, &pairs[..]).is_none()
 }

@@ -24,10 +24,6 @@ pub loop-u-init : goal.loop-u-init
 unfolding sink_of
 loop-u-init c = let e = c.sink_of-sink.ensures.value in offsets_start _ c.requires.1 (omega arith)
 
-pub number_at-requires : goal.number_at-requires
-number_at-requires c =
-    omega (arith, (list c.requires.0 c.sink_of-sink.ensures.value c.loop-u.invariant c.loop-u-test.true).there)
-
 pub overflow_cast-offsets : goal.overflow_cast-offsets
 overflow_cast-offsets c =
     let h = (list c.requires.0 c.sink_of-sink.ensures.value c.loop-u.invariant c.loop-u-test.true).small in search rules
@@ -36,22 +32,22 @@ pub loop-u-preserved : goal.loop-u-preserved
 unfolding sink_of
 loop-u-preserved c =
     let e = c.sink_of-sink.ensures.value in
-    rw c.number_at.ensures (offset-next c.requires.0 c.loop-u.invariant (omega (arith, c.loop-u-test.true)))
+    rw c.u16_at.ensures (offset-next c.requires.0 c.loop-u.invariant (omega (arith, c.loop-u-test.true)))
 
 pub overflow_mul-at : goal.overflow_mul-at
 overflow_mul-at c =
     let l = list c.requires.0 c.sink_of-sink.ensures.value c.loop-u.invariant c.loop-u-test.true in
-    let h = small l c.number_at.ensures in
+    let h = small l c.u16_at.ensures in
     search rules
 
 pub overflow_add-at-in-loop-u : goal.overflow_add-at-in-loop-u
 overflow_add-at-in-loop-u c =
     let l = list c.requires.0 c.sink_of-sink.ensures.value c.loop-u.invariant c.loop-u-test.true in
-    let h = small l c.number_at.ensures in
+    let h = small l c.u16_at.ensures in
     search rules
 
 pub overflow_add-at-in-loop-u-2 : goal.overflow_add-at-in-loop-u-2
 overflow_add-at-in-loop-u-2 c =
     let l = list c.requires.0 c.sink_of-sink.ensures.value c.loop-u.invariant c.loop-u-test.true in
-    let h = small l c.number_at.ensures in
+    let h = small l c.u16_at.ensures in
     search rules

@@ -12,7 +12,7 @@ use Rattle.checking.specs.PairTable.{PairsAsked}
 use Rattle.checking.proofs.Arcs.{sound_of}
 use Rattle.checking.proofs.Chains.{chains-start}
 use Rattle.checking.proofs.Forks.{same-letters-clash}
-use Rattle.checking.proofs.PairTable.{rows_start, rows_found, rows_next, rows_done}
+use Rattle.checking.proofs.PairTable.{rows_start, rows_found, rows_next, rows_done, clash-told}
 use Rattle.checking.proofs.pairs.has_same_letters.Goals as goal
 
 pub loop-u-init : goal.loop-u-init
@@ -45,5 +45,5 @@ loop-u-preserved c = record {
 
 pub returns-clause-value : goal.returns-clause-value
 returns-clause-value c =
-    sym (asked c.requires
-    ∙ rows_done c.loop-u.invariant.rows (omega (arith, c.loop-u-test.false)) c.gather.ensures)
+    sym (asked c.requires ∙ rows_done c.loop-u.invariant.rows (omega (arith, c.loop-u-test.false))
+    ∙ clash-told (graph_of c.args.lexicon.now) 0 _ _ c.gather.ensures c.is_none.ensures)
