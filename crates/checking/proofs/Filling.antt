@@ -74,10 +74,6 @@ pub count-there : {x : List ℕ} → WellFormed x → 2 ≤ length x
 unfolding sink_of
 count-there {x} w = omega (arith, arcs-next x 0, (shape_of w).there {u = 0} (omega arith))
 
-pub sink-is : (x : List ℕ) {n : ℕ} → n ≡ u16 x 0 → suc n ≡ sink_of x
-unfolding sink_of node_count
-sink-is x e = ap suc e
-
 pub sink-small : {x : List ℕ} → WellFormed x → sink_of x ≤ 401
 unfolding sink_of
 sink-small w = omega (arith, (shape_of w).few)
