@@ -1,8 +1,7 @@
 // Refusal 10: two different full paths with the same letters. The paths part at some vertex, into two successors that
 // have something in common: ways to the sink with the same letters. Which vertices have something in common is kept in
 // a table of bits, filled from vertex N down. Two nodes can have something in common only if their letters are the same,
-// so the nodes of a letter are chained: `firsts` has each letter's first node, `nexts` the next after each node, and the
-// sink stands for none.
+// so the nodes of a letter are chained: `firsts` has each letter's first node, and `nexts` the next after each node.
 ghost use Rattle.std.specs.Prelude.{◌≡◌, suc, ◌+◌, ◌*◌, ◌≤◌, ◌<◌, length, true, MatchOption};
 ghost use Rattle.endian.specs.Lists.{any};
 ghost use Rattle.call.specs.Buffers.{zeroed};
@@ -109,7 +108,7 @@ fn mark_pair(
 fn mark_row(
     lexicon: &[u8],
     offsets: &[u16; 402],
-    nexts: &[u16; 402],
+    nexts: &[Option<u16>; 402],
     u: usize,
     mask: &[u8; 51],
     pairs: &mut [u8],
@@ -118,12 +117,12 @@ fn mark_row(
     requires mask_of { MaskOf (graph_of lexicon.now) u mask.now }
     ensures { PairsMarked (graph_of lexicon.now) u pairs.new }
 {
-    let sink = sink_of(lexicon);
     set_bit(pairs, u * ROW_BITS + u);
-    let mut v = nexts[u] as usize;
-    while v < sink {
+    let mut next = nexts[u];
+    while let Some(node) = next {
+        let v = node as usize;
         mark_pair(lexicon, offsets, u, v, mask, pairs);
-        v = nexts[v] as usize;
+        next = nexts[v];
     }
 }
 
@@ -131,7 +130,7 @@ fn mark_row(
 fn add_row(
     lexicon: &[u8],
     offsets: &[u16; 402],
-    nexts: &[u16; 402],
+    nexts: &[Option<u16>; 402],
     u: usize,
     pairs: &mut [u8],
 ) -> bool
@@ -146,14 +145,19 @@ fn add_row(
 }
 
 // Puts node u at the beginning of its letter's chain, in which the nodes above it are.
-fn chain_node(lexicon: &[u8], u: usize, firsts: &mut [u16; 64], nexts: &mut [u16; 402])
+fn chain_node(
+    lexicon: &[u8],
+    u: usize,
+    firsts: &mut [Option<u16>; 64],
+    nexts: &mut [Option<u16>; 402],
+)
     requires { WellFormed lexicon.now × (u ≤ node_count lexicon.now) × (node_letter lexicon.now u < 64)
         × Chains (graph_of lexicon.now) (suc u) firsts.old nexts.old }
     ensures { Chains (graph_of lexicon.now) u firsts.new nexts.new }
 {
     let letter = lexicon[1 + u] as usize;
     nexts[u] = firsts[letter];
-    firsts[letter] = u as u16;
+    firsts[letter] = Some(u as u16);
 }
 
 // The pair of the sink with itself alone is marked. No row after the sink's is ever read, so only those up to it are
@@ -175,8 +179,8 @@ pub(crate) fn has_same_letters(lexicon: &[u8], offsets: &[u16; 402], pairs: &mut
 {
     let sink = sink_of(lexicon);
     begin_table(sink, pairs);
-    let mut firsts = [sink as u16; 64];
-    let mut nexts = [0; 402];
+    let mut firsts = [None; 64];
+    let mut nexts = [None; 402];
     for u in (1..sink).rev() {
         chain_node(lexicon, u, &mut firsts, &mut nexts);
         if add_row(lexicon, offsets, &nexts, u, pairs) {

@@ -25,7 +25,7 @@ loop-u-init c =
       positive = omega arith;
       rows =
           rows_start c.args.pairs.now h.located (omega arith) s (c.begin_table.auto.pairs ∙ h.room) c.begin_table.ensures;
-      chains = chains-start (graph_of c.args.lexicon.now) s s refl;
+      chains = chains-start (graph_of c.args.lexicon.now) s refl;
     }
 
 -- what the rows tell is what is asked

@@ -1,13 +1,13 @@
--- `mark_row` meets its contract: of the pairs with u those below v are marked, and v is the next node with u's letter
--- or the sink. The measure is the vertices that are left. Assumes nothing.
+-- `mark_row` meets its contract: of the pairs with u those below the next node with u's letter are marked, or all where
+-- the chain ends. The measure is the vertices that are left. Assumes nothing.
 use Prim.Native.Nat.{ℕ, suc, ◌<◌}
-use mathlib.Core.Path.{◌≡◌, sym, ◌∙◌}
+use mathlib.Core.Path.{◌≡◌, refl, sym, ◌∙◌}
 use mathlib.Core.List.{List}
 use native.Mathlib.Omega.{arith}
 use lib.ListN.{get_or}
-use Rattle.lexicon.specs.Lexicon.{sink_of}
+use Rattle.std.specs.Prelude.{Option, None}
 use Rattle.graph.specs.Graph.{graph_of, sink}
-use Rattle.checking.specs.PairTable.{FirstAlike, RowParts}
+use Rattle.checking.specs.PairTable.{led_to, LeadsTo, RowParts}
 use Rattle.checking.proofs.Arcs.{sound_of}
 use Rattle.checking.proofs.Masks.{few-vertices}
 use Rattle.checking.proofs.PairTable.{RowAt, row-start, row-skip, row_next, row_done}
@@ -18,70 +18,73 @@ record BelowSink (x : List ℕ) (u : ℕ) : Type 0 where
   below : u < sink (graph_of x)
   few : sink (graph_of x) < 402
 
-known : {x offsets nexts b : List ℕ} {u : ℕ} → RowParts x offsets nexts u b → BelowSink x u
+known : {x offsets b : List ℕ} {nexts : List (Option ℕ)} {u : ℕ} → RowParts x offsets nexts u b → BelowSink x u
 unfolding sink
 known h = record { below = omega (arith, h.inside); few = few-vertices h.located }
 
-small : {x offsets nexts b : List ℕ} {u : ℕ} → RowParts x offsets nexts u b → u < 401
+small : {x offsets b : List ℕ} {nexts : List (Option ℕ)} {u : ℕ} → RowParts x offsets nexts u b → u < 401
 small h = let k = known h in omega (arith, k.below, k.few)
 
 pub set_bit-requires : goal.set_bit-requires
 set_bit-requires c = let h = c.requires.row_parts in omega (arith, h.above.long, small h)
 
 -- the first node after u with its letter
-first : {x offsets nexts b : List ℕ} {u : ℕ} → RowParts x offsets nexts u b
-    → FirstAlike (graph_of x) ((graph_of x).letter u) (suc u) (get_or nexts u 0)
+first : {x offsets b : List ℕ} {nexts : List (Option ℕ)} {u : ℕ} → RowParts x offsets nexts u b
+    → LeadsTo (graph_of x) ((graph_of x).letter u) (suc u) (get_or nexts u None)
 first {u = u} h = h.chained.next u (omega arith) (known h).below
 
-pub loop-v-init : goal.loop-v-init
-loop-v-init c =
+pub loop-next-init : goal.loop-next-init
+loop-next-init c =
     let h = c.requires.row_parts in
     let k = known h in
-    row-skip (sound_of h.located.formed) k.few h.node k.below (omega arith) (omega arith) (first h)
-    (row-start (graph_of c.args.lexicon.now) k.few k.below h.above c.set_bit.auto.pairs c.set_bit.ensures)
-
--- the node whose turn it is
-node : (x : List ℕ) {n v : ℕ} → n ≡ sink_of x → v < n → v < sink (graph_of x)
-unfolding sink sink_of
-node x e h = omega arith
+    let f = first h in
+    record {
+      row =
+          row-skip (sound_of h.located.formed) k.few h.node k.below (omega arith) (omega arith) f.first
+          (row-start (graph_of c.args.lexicon.now) k.few k.below h.above c.set_bit.auto.pairs c.set_bit.ensures);
+      node = f.node;
+    }
 
 pub mark_pair-requires : goal.mark_pair-requires
 unfolding sink
 mark_pair-requires c =
-    let h = c.requires.row_parts in (
-      h.located,
-      h.inside,
-      omega (arith, node c.args.lexicon.now c.sink_of-sink.ensures.value c.loop-v-test.true),
-      c.loop-v.invariant.marked.long,
-    )
+    let h = c.requires.row_parts in
+    let below = c.loop-next.invariant.node _ c.in-Some.is in
+    (h.located, h.inside, omega arith, c.loop-next.invariant.row.marked.long)
 
 -- the one after it
-next : {x offsets nexts b after : List ℕ} {u v : ℕ} → RowParts x offsets nexts u b → RowAt (graph_of x) u v after
-    → v < sink (graph_of x)
-    → FirstAlike (graph_of x) ((graph_of x).letter u) (suc v) (get_or nexts v 0)
+next : {x offsets b after : List ℕ} {nexts : List (Option ℕ)} {u v : ℕ} → RowParts x offsets nexts u b
+    → RowAt (graph_of x) u v after → v < sink (graph_of x)
+    → LeadsTo (graph_of x) ((graph_of x).letter u) (suc v) (get_or nexts v None)
 next {v = v} h i l = rw (i.same l) at (h.chained.next v (omega (arith, i.above)) l)
 
-pub loop-v-preserved : goal.loop-v-preserved
-loop-v-preserved c =
+pub loop-next-preserved : goal.loop-next-preserved
+loop-next-preserved c =
     let h = c.requires.row_parts in
     let k = known h in
-    let i = c.loop-v.invariant in
-    let l = node c.args.lexicon.now c.sink_of-sink.ensures.value c.loop-v-test.true in
+    let i = rw c.in-Some.is at c.loop-next.invariant.row in
+    let l = c.loop-next.invariant.node _ c.in-Some.is in
     let ok = sound_of h.located.formed in
-    row-skip ok k.few h.node k.below (omega (arith, i.above)) (omega arith) (next h i l)
-    (row_next ok k.few h.node k.below i l c.requires.mask_of c.mark_pair.auto.pairs c.mark_pair.ensures)
+    let f = next h i l in
+    record {
+      row =
+          row-skip ok k.few h.node k.below (omega (arith, i.above)) (omega arith) f.first
+          (row_next ok k.few h.node k.below i l c.requires.mask_of c.mark_pair.auto.pairs c.mark_pair.ensures);
+      node = f.node;
+    }
 
-pub shape_of-pairs : goal.shape_of-pairs
-shape_of-pairs c = c.loop-v.invariant.marked.long ∙ sym c.requires.row_parts.above.long
+pub loop-next-smaller : goal.loop-next-smaller
+loop-next-smaller c =
+    let h = c.requires.row_parts in
+    let i = rw c.in-Some.is at c.loop-next.invariant.row in
+    let l = c.loop-next.invariant.node _ c.in-Some.is in
+    rw c.in-Some.is (omega (arith, l, (next h i l).first.from))
 
 pub returns : goal.returns
-unfolding sink sink_of
 returns c =
     let h = c.requires.row_parts in
     let k = known h in
-    let i = c.loop-v.invariant in
-    row_done (sound_of h.located.formed) k.few h.node k.below
-    (omega (arith, c.sink_of-sink.ensures.value, c.loop-v-test.false, i.inside)) i.marked
+    row_done (sound_of h.located.formed) k.few h.node k.below refl (rw c.in_default.is at c.loop-next.invariant.row).marked
 
 pub overflow_mul-u : goal.overflow_mul-u
 overflow_mul-u c = omega (arith, small c.requires.row_parts)
@@ -95,27 +98,6 @@ offset_bounds-nexts-u c = omega (arith, small c.requires.row_parts)
 pub bounds-nexts-u : goal.bounds-nexts-u
 bounds-nexts-u c = omega (arith, small c.requires.row_parts)
 
-pub overflow_cast-v : goal.overflow_cast-v
-overflow_cast-v c = let h = c.requires.row_parts in omega (arith, (first h).inside, (known h).few)
-
-pub offset_bounds-nexts-v : goal.offset_bounds-nexts-v
-offset_bounds-nexts-v c =
-    let l = node c.args.lexicon.now c.sink_of-sink.ensures.value c.loop-v-test.true in
-    omega (arith, l, (known c.requires.row_parts).few)
-
 pub bounds-nexts-v : goal.bounds-nexts-v
 bounds-nexts-v c =
-    let l = node c.args.lexicon.now c.sink_of-sink.ensures.value c.loop-v-test.true in
-    omega (arith, l, (known c.requires.row_parts).few)
-
-pub overflow_cast-v-in-loop-v : goal.overflow_cast-v-in-loop-v
-overflow_cast-v-in-loop-v c =
-    let h = c.requires.row_parts in
-    let l = node c.args.lexicon.now c.sink_of-sink.ensures.value c.loop-v-test.true in
-    omega (arith, (next h c.loop-v.invariant l).inside, (known h).few)
-
-pub loop-v-smaller : goal.loop-v-smaller
-loop-v-smaller c =
-    let h = c.requires.row_parts in
-    let l = node c.args.lexicon.now c.sink_of-sink.ensures.value c.loop-v-test.true in
-    omega (arith, c.loop-v-test.true, (next h c.loop-v.invariant l).from)
+    omega (arith, c.loop-next.invariant.node _ c.in-Some.is, (known c.requires.row_parts).few)

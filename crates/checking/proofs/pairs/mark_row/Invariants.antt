@@ -1,10 +1,16 @@
-use Prim.Native.Nat.{◌-◌}
-use Rattle.graph.specs.Graph.{graph_of}
+use Prim.Native.Nat.{ℕ, ◌-◌, ◌<◌}
+use mathlib.Core.Path.{◌≡◌}
+use Rattle.std.specs.Prelude.{Some}
+use Rattle.graph.specs.Graph.{graph_of, sink}
+use Rattle.checking.specs.PairTable.{led_to}
 use Rattle.checking.proofs.PairTable.{RowAt}
 use Rattle.checking.proofs.pairs.mark_row.Given as goal
 
-abbrev pub invariant-loop-v : goal.invariant-loop-v
-invariant-loop-v l = RowAt (graph_of l.lexicon) l.u l.v l.pairs
+abbrev pub invariant-loop-next : goal.invariant-loop-next
+invariant-loop-next l = record {
+  row : RowAt (graph_of l.lexicon) l.u (led_to (graph_of l.lexicon) l.next) l.pairs;
+  node : (v : ℕ) → l.next ≡ Some v → v < sink (graph_of l.lexicon);
+}
 
-abbrev pub decreases-loop-v : goal.decreases-loop-v
-decreases-loop-v l = l.sink - l.v
+abbrev pub decreases-loop-next : goal.decreases-loop-next
+decreases-loop-next l = sink (graph_of l.lexicon) - led_to (graph_of l.lexicon) l.next
