@@ -5,11 +5,11 @@ ghost use Rattle.sorting.specs.Slots.{Slot};
 ghost use Rattle.endian.specs.Rows.{number_at};
 ghost use Rattle.sorting.specs.Rows.{word_of, Points, Rising, Taken, Merged, Ordered};
 
-use crate::letters::before;
 use crate::rows::{copy_back, copy_number, number};
 use crate::slots::word;
 
 // Whether the word of place j stands before that of place i.
+#[tactic(auto, using(crate::proofs::Comparing::precedes_lt))]
 pub(crate) fn stands_before(words: &[u8], rows: &[u8], j: usize, i: usize) -> bool
     requires j_in_bounds { (2 * j + 2 ≤ length rows.now) × (2 * i + 2 ≤ length rows.now) }
     requires slot { Slot words.now (number_at rows.now j) × Slot words.now (number_at rows.now i) }
@@ -18,7 +18,7 @@ pub(crate) fn stands_before(words: &[u8], rows: &[u8], j: usize, i: usize) -> bo
 {
     let a = number(rows, j);
     let b = number(rows, i);
-    before(word(words, a), word(words, b))
+    word(words, a) < word(words, b)
 }
 
 // Writes the next number of two runs at place k of the spare row, and answers how far the first run is taken. Equal
@@ -53,10 +53,8 @@ fn merge(words: &[u8], rows: &mut [u8], lo: usize, mid: usize, hi: usize)
     ensures { Merged words.now rows.old lo hi rows.new }
 {
     let mut i = lo;
-    let mut k = lo;
-    while k < hi {
+    for k in lo..hi {
         i = take_next(words, rows, mid, hi, i, k);
-        k += 1;
     }
 }
 

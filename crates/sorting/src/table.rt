@@ -21,10 +21,8 @@ fn letter_total(words: &[u8], n: usize) -> usize
     ensures { result ≡ sum (map length (words_from words.now 0 n)) }
 {
     let mut total = 0;
-    let mut i = 0;
-    while i < n {
+    for i in 0..n {
         total += words[33 * i] as usize;
-        i += 1;
     }
     total
 }
@@ -34,10 +32,7 @@ fn is_long(words: &[u8], q: usize) -> bool
     requires { q ≤ 2000 → Holds words.now q }
     ensures { result ≡ ltb 2000 q || ltb 16000 (sum (map length (words_from words.now 0 q))) }
 {
-    if WORDS < q {
-        return true;
-    }
-    LETTERS < letter_total(words, q)
+    WORDS < q || LETTERS < letter_total(words, q)
 }
 
 // Makes a part zero. The ends are no constants here: a part with an end as large as the further work space's is slow to
