@@ -11,7 +11,6 @@ ghost use Rattle.registering.specs.Register.{Shared};
 ghost use Rattle.registering.specs.Building.{Given, Buildable, ImageAnswered};
 
 use crate::marking::mark_words;
-use crate::register::NODES;
 use crate::sharing::share;
 use crate::walk::walk_all;
 use crate::writing::build_image;
@@ -48,10 +47,9 @@ fn build(
     let mut rows = [[0u16; 6]; 401];
     let mut chains = [0u16; 256];
     let mut links = [0u16; 2400];
-    let count = walk_all(words, n, shared, &mut rows, &mut chains, &mut links);
-    if NODES < count {
+    let Some(count) = walk_all(words, n, shared, &mut rows, &mut chains, &mut links) else {
         return Err(Refusal::CanonicalImage);
-    }
+    };
     build_image(voice, words, n, shared, &mut rows, &links, count, out)
 }
 

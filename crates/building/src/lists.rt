@@ -17,8 +17,7 @@ pub(crate) fn put_number(out: &mut [u8], at: usize, n: u16)
     requires { at + 2 ≤ length out.old }
     ensures { Put (u16_bytes n) at out.old out.new (at + 2) }
 {
-    out[at] = (n % 256) as u8;
-    out[at + 1] = (n / 256 % 256) as u8;
+    out[at..at + 2].copy_from_slice(&n.to_le_bytes());
 }
 
 // How many arcs a vertex has.
@@ -30,12 +29,10 @@ pub(crate) fn list_length(shared: &[u8], row: &[u16; 6]) -> usize
     let stop = first + row[MANY] as usize;
     let depth = row[DEPTH];
     let mut arcs = 1;
-    let mut i = first + 1;
-    while i < stop {
+    for i in first + 1..stop {
         if shared[i] as u16 == depth {
             arcs += 1;
         }
-        i += 1;
     }
     arcs
 }
@@ -66,13 +63,11 @@ fn put_arcs(
     let stop = first + row[MANY] as usize;
     let depth = row[DEPTH];
     let mut arcs = 0;
-    let mut i = first + 1;
-    while i < stop {
+    for i in first + 1..stop {
         if shared[i] as u16 == depth {
             put_number(out, at + 2 * arcs, link_number(links, rows, i));
             arcs += 1;
         }
-        i += 1;
     }
     arcs
 }

@@ -16,13 +16,8 @@ fn top_of(rows: &[[u16; 6]; 401], count: usize) -> usize
     ensures { Low (heights_in rows.now) count result × (result ≤ 33) }
 {
     let mut top = 0;
-    let mut r = 0;
-    while r < count {
-        let longest = rows[r][LONGEST] as usize;
-        if top <= longest {
-            top = longest + 1;
-        }
-        r += 1;
+    for row in &rows[..count] {
+        top = top.max(row[LONGEST] as usize + 1);
     }
     top
 }
@@ -36,14 +31,12 @@ fn number_level(rows: &mut [[u16; 6]; 401], count: usize, h: usize, k: usize) ->
         (places_below (heights_in rows.old) count h) result }
 {
     let mut next = k;
-    let mut r = 0;
-    while r < count {
+    for r in 0..count {
         if rows[r][LONGEST] as usize == h {
             rows[next][ORDER] = r as u16;
             next += 1;
             rows[r][NUMBER] = next as u16;
         }
-        r += 1;
     }
     next
 }
@@ -53,10 +46,8 @@ pub(crate) fn number_all(rows: &mut [[u16; 6]; 401], count: usize)
     requires { Rows rows.old count }
     ensures { PlacedIn rows.old rows.new count [] count }
 {
-    let mut h = top_of(rows, count);
     let mut k = 0;
-    while 0 < h {
-        h -= 1;
+    for h in (0..top_of(rows, count)).rev() {
         k = number_level(rows, count, h, k);
     }
 }

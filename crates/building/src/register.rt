@@ -10,7 +10,8 @@ ghost use Rattle.registering.specs.Finding.{Lettered, Found};
 use crate::sharing::Group;
 
 // The columns of a row: the first word behind its node, how many there are, how many of their letters stand before it,
-// the letters of the longest continuation, the node before it in its chain, and the mark of its continuations.
+// the letters of the longest continuation, the node before it in its chain, and the mark of its continuations. Places
+// in a chain are counted from 1, and 0 ends it, since a table of chains begins as zeros.
 pub(crate) const FIRST: usize = 0;
 
 pub(crate) const MANY: usize = 1;
@@ -24,28 +25,15 @@ const CHAIN: usize = 4;
 const MARK: usize = 5;
 
 // The most nodes that are registered.
-pub(crate) const NODES: usize = 400;
+const NODES: usize = 400;
 
-// Whether the word in slot i has behind its first d letters what the word in slot j has behind its first e.
-fn same_rest(words: &[u8], i: usize, d: usize, j: usize, e: usize) -> bool
-    requires slot { Slot words.now i × Slot words.now j }
-    requires d_bound { (d ≤ get_or words.now (33 * i) 0) × (e ≤ get_or words.now (33 * j) 0) }
-    ensures { result ≡ same (drop d (word_at words.now i)) (drop e (word_at words.now j)) }
+// What stands behind the first d letters of the word in slot i.
+fn rest<'a>(words: &'a [u8], i: usize, d: usize) -> &'a [u8]
+    requires { Slot words.now i × (d ≤ get_or words.now (33 * i) 0) }
+    ensures { result.now ≡ drop d (word_at words.now i) }
 {
-    let left = words[33 * i] as usize - d;
-    if left != words[33 * j] as usize - e {
-        return false;
-    }
-    let here = 33 * i + 1 + d;
-    let there = 33 * j + 1 + e;
-    let mut k = 0;
-    while k < left {
-        if words[here + k] != words[there + k] {
-            return false;
-        }
-        k += 1;
-    }
-    true
+    let at = 33 * i;
+    &words[at + 1 + d..at + 1 + words[at] as usize]
 }
 
 // Whether n words from i on have the same behind d letters as n words from j on behind e letters.
@@ -53,12 +41,10 @@ fn same_rests(words: &[u8], i: usize, d: usize, j: usize, e: usize, n: usize) ->
     requires { Lettered words.now i n d × Lettered words.now j n e }
     ensures { result ≡ same_words (rests_from words.now d i n) (rests_from words.now e j n) }
 {
-    let mut k = 0;
-    while k < n {
-        if !same_rest(words, i + k, d, j + k, e) {
+    for k in 0..n {
+        if rest(words, i + k, d) != rest(words, j + k, e) {
             return false;
         }
-        k += 1;
     }
     true
 }
@@ -93,7 +79,7 @@ fn is_node(words: &[u8], n: usize, row: &[u16; 6], a: Group) -> bool
     )
 }
 
-// The place of the node of a group, looked for through the chain of its letter, or count where it is not there.
+// The place of the node of a group, looked for through the chain of its letter, if it is there.
 fn find(
     words: &[u8],
     n: usize,
@@ -102,7 +88,7 @@ fn find(
     count: usize,
     letter: u8,
     a: Group,
-) -> usize
+) -> Option<usize>
     requires words { Words words.now n × Register words.now n rows.now count }
     requires chained { Chained words.now rows.now chains.now count }
     requires word_group { WordGroup words.now n a.first a.many a.depth a.longest a.mark }
@@ -111,15 +97,14 @@ fn find(
         (node_at words.now a.first a.many a.depth) result }
 {
     let mut place = chains[letter as usize] as usize;
-    while 0 < place {
-        let r = place - 1;
+    while let Some(r) = place.checked_sub(1) {
         let row = &rows[r];
         if is_node(words, n, row, a) {
-            return r;
+            return Some(r);
         }
         place = row[CHAIN] as usize;
     }
-    count
+    None
 }
 
 // Puts the row of a group behind count rows, and at the head of the chain of its letter.
@@ -143,7 +128,7 @@ fn append(rows: &mut [[u16; 6]; 401], chains: &mut [u16; 256], count: usize, let
 }
 
 // Looks for the node of a group, through the chain of its letter, and registers it where it is not there. Answers its
-// place; 400 where it is new and there is no room.
+// place, or none where it is new and there is no room.
 pub(crate) fn enter(
     words: &[u8],
     n: usize,
@@ -151,7 +136,7 @@ pub(crate) fn enter(
     chains: &mut [u16; 256],
     count: usize,
     a: Group,
-) -> usize
+) -> Option<usize>
     requires words { Words words.now n × Register words.now n rows.old count }
     requires chained { Chained words.now rows.old chains.old count }
     requires word_group { WordGroup words.now n a.first a.many a.depth a.longest a.mark }
@@ -160,11 +145,12 @@ pub(crate) fn enter(
 {
     let at = 33 * a.first + a.depth;
     let letter = words[at];
-    let r = find(words, n, rows, chains, count, letter, a);
-    if count <= r {
-        if r < NODES {
-            append(rows, chains, r, letter, a);
-        }
+    if let Some(r) = find(words, n, rows, chains, count, letter, a) {
+        return Some(r);
     }
-    r
+    if count == NODES {
+        return None;
+    }
+    append(rows, chains, count, letter, a);
+    Some(count)
 }

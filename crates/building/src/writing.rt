@@ -22,11 +22,9 @@ fn image_size(shared: &[u8], rows: &[[u16; 6]; 401], count: usize) -> usize
     ensures { result ≡ 4 + count + lists_length shared.now rows.now 0 (suc count) }
 {
     let mut size = 4 + count;
-    let mut vertex = 0;
-    while vertex <= count {
+    for vertex in 0..count + 1 {
         let place = place_of(rows, vertex);
         size += 2 + 2 * list_length(shared, &rows[place]);
-        vertex += 1;
     }
     size
 }
@@ -39,11 +37,9 @@ fn place_total(voice: &[u8], words: &[u8], rows: &[[u16; 6]; 401], count: usize)
         (letters_from words.now rows.now 1 count)) }
 {
     let mut places: usize = 0;
-    let mut node = 0;
-    while node < count {
+    for node in 0..count {
         let letter = letter_of(words, rows, node + 1) as usize;
         places += voice[2 + 2 * letter] as usize;
-        node += 1;
     }
     places
 }
@@ -54,10 +50,8 @@ fn put_letters(words: &[u8], rows: &[[u16; 6]; 401], count: usize, out: &mut [u8
     ensures { Put (letters_from words.now rows.now 1 count) 2
         out.old out.new (2 + count) }
 {
-    let mut node = 0;
-    while node < count {
+    for node in 0..count {
         out[2 + node] = letter_of(words, rows, node + 1);
-        node += 1;
     }
 }
 
@@ -78,13 +72,11 @@ fn put_lists(
         rows.now count 0 (suc count)) (2 + count) out.old out.new result }
 {
     let mut at = 2 + count;
-    let mut vertex = 0;
-    while vertex <= count {
+    for vertex in 0..count + 1 {
         let place = place_of(rows, vertex);
         let row = &rows[place];
         let first = first_arc(words, rows, count, row, links[place]);
         at = put_list(shared, links, rows, row, first, out, at);
-        vertex += 1;
     }
     at
 }

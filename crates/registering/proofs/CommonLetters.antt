@@ -19,7 +19,7 @@ use Rattle.sorting.specs.Slots.{word_at, Slot}
 use Rattle.sorting.proofs.SlotWords.{word-length, letter_at_lem}
 use Rattle.registering.specs.Register.{Words, previous, Shared, Reach, Group, rests_from, marks_of}
 use Rattle.registering.proofs.RestWords.{rest-length, longest-more}
-use Rattle.registering.proofs.Marks.{marks-low, marks-one, marks-more}
+use Rattle.registering.proofs.Marks.{mark_low, marks-one, marks-more}
 use Rattle.registering.proofs.Common.{common-most, common-begins}
 
 -- ---- two words from a place on
@@ -347,6 +347,7 @@ module _ {t : List ℕ} {n : ℕ} {shared : List ℕ} (s : Shared t n shared) (i
 pub record Grouping (t : List ℕ) (n i d k letters mark : ℕ) : Type 0 where
   pub run : RunTo t n i d k
   pub short : letters ≤ 32
+  pub low : mark < 65536
   pub high : letters ≡ d + longest (rests_from t d i (k - i))
   pub marked : mark ≡ marks_of 0 (rests_from t d i (k - i))
 
@@ -359,14 +360,12 @@ grouping_start {t} {n} {i} d w h l =
     record {
       run = run-start t n i d h (omega (arith, word-length s));
       short = s.short;
+      low = omega (arith, w.marks i d h l, mark_low (drop d (word_at t i)));
       high = rw e (omega (arith, rest-length s d));
       marked = rw e (w.marks i d h l ∙ sym (marks-one t d i));
     }
 
 module _ {t : List ℕ} {n i d k letters mark : ℕ} (g : Grouping t n i d k letters mark) where
-  pub grouping_low : mark < 65536
-  grouping_low = omega (arith, g.marked, marks-low 0 (rests_from t d i (k - i)) (omega arith))
-
   module _ {shared : List ℕ} (w : Words t n) (s : Shared t n shared) where
     pub grouping_more : k < n → d ≤ get_or shared k 0
         → Grouping t n i d (k + 1) (max letters (get_or t (33 * k) 0))
@@ -384,6 +383,7 @@ module _ {t : List ℕ} {n i d k letters mark : ℕ} (g : Grouping t n i d k let
         record {
           run = r;
           short = omega (arith, g.short, slot.short);
+          low = omega arith;
           high = rw e (omega (arith, m, g.high, rest-length slot d, l));
           marked = rw (e, a, g.marked, w.marks k d h l);
         }

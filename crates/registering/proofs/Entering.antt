@@ -1,7 +1,7 @@
 -- A node more: where the search finds it, the register stays; where it does not, its row is put behind the others and
 -- at the head of its letter's chain, or there is no room. Assumes nothing.
 use Prim.Native.Nat.{ℕ, ◌+◌, ◌*◌, ◌≤◌, ◌<◌}
-use mathlib.Core.Path.{◌≡◌, refl, sym, ap, subst, ◌∙◌}
+use mathlib.Core.Path.{◌≡◌, refl, sym, ap, ◌∙◌}
 use mathlib.Core.Bool.{cond}
 use mathlib.Core.List.{List, [], ◌∷◌}
 use native.Mathlib.Decide.{ℕ_discrete}
@@ -11,6 +11,7 @@ use lib.Dec.{eqb}
 use lib.ListN.{length, get_or, set, length-set}
 use lib.Seq.{get_or-set_same, get_or-set_other}
 use borrow.Author.Tests.{eq-eqb, ne_eqb}
+use Rattle.std.specs.Prelude.{Some, None}
 use Rattle.registering.specs.Register.{Register, Chained, Group, GroupRow, Added, Entered, known, added, full}
 use Rattle.registering.specs.Register.{row_node, node_in, node_at, chain_of, last_alike}
 use Rattle.registering.specs.Finding.{Found, there, missing}
@@ -26,17 +27,13 @@ group_row t chains i m d h mark = i ∷ m ∷ d ∷ h ∷ get_or chains (group_l
 -- ---- no row more
 
 module _ {t : List ℕ} {n count : ℕ} {rows : List (List ℕ)} {chains : List ℕ} {i m d : ℕ} where
-  pub enter-known : {r : ℕ} → Found t rows count (node_at t i m d) r → Chained t rows chains count → r < count
-      → Entered t n rows count i m d rows chains r
-  enter-known (there k e) c h = known k refl e c
-  enter-known (missing u) c h = absurd (omega arith)
+  pub enter-known : {r : ℕ} → Found t rows count (node_at t i m d) (Some r) → Chained t rows chains count
+      → Entered t n rows count i m d rows chains (Some r)
+  enter-known (there k e) c = known k refl e c
 
-  pub enter-full : {r : ℕ} → Found t rows count (node_at t i m d) r → Register t n rows count → count ≤ r → 400 ≤ r
-      → Entered t n rows count i m d rows chains r
-  enter-full (there k e) g h f = absurd (omega arith)
-  enter-full (missing u) g h f =
-      let e : 400 ≡ count = omega (arith, g.few) in
-      subst (λ r. Entered t n rows count i m d rows chains r) e (full (sym e) u refl)
+  pub enter-full : Found t rows count (node_at t i m d) None → count ≡ 400
+      → Entered t n rows count i m d rows chains None
+  enter-full (missing u) e = full e u refl
 
 -- ---- a row more
 
@@ -121,7 +118,6 @@ module _ {t : List ℕ} {n count : ℕ} {rows : List (List ℕ)} {chains : List 
     chains = chained-at;
   }
 
-  pub enter-new : {r : ℕ} → Found t rows count (node_at t i m d) r → count ≤ r
-      → Entered t n rows count i m d (set rows r row) (set chains (group_letter t i d) (r + 1)) r
-  enter-new (there k e) q = absurd (omega arith)
-  enter-new (missing u) q = added room u row-added row_chained
+  pub enter-new : Found t rows count (node_at t i m d) None
+      → Entered t n rows count i m d more (set chains (group_letter t i d) (count + 1)) (Some count)
+  enter-new (missing u) = added room u row-added row_chained

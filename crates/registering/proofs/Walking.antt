@@ -10,13 +10,14 @@ use native.Mathlib.Decide.{ℕ_discrete}
 use native.Mathlib.Omega.{arith}
 use lib.ListN.{length, get_or, take, set, length-take}
 use lib.Seq.{get_or-set_same, get_or-set_other}
-use Rattle.canonical.specs.Nodes.{Node, distinct, node_of, reached}
+use Rattle.std.specs.Prelude.{Some, None}
+use Rattle.canonical.specs.Nodes.{Node, distinct, node_of}
 use Rattle.canonical.specs.Groups.{begins, common}
 use Rattle.canonical.proofs.Nodes.{distinct-out}
 use Rattle.sorting.specs.Slots.{word_at, words_from}
 use Rattle.sorting.proofs.SlotWords.{words-out}
 use Rattle.registering.specs.Register.{Words, previous, Shared, Group, first_of, many_of, depth_of, row_node, node_at}
-use Rattle.registering.specs.Register.{node_in, registered, Register, Chained, Built, Unknown, Added, Entered}
+use Rattle.registering.specs.Register.{node_in, registered, Register, Chained, Full, Built, Unknown, Added, Entered}
 use Rattle.registering.specs.Register.{known, added, full}
 use Rattle.registering.specs.Walking.{fresh_all, fresh_to, ahead, within, Walked, Walking}
 use Rattle.registering.proofs.Common.{common-most, common-short}
@@ -72,24 +73,14 @@ module _ {t : List ℕ} {n : ℕ} {shared : List ℕ} (w : Words t n) (s : Share
   pub walk-done : {rows : List (List ℕ)} {chains links : List ℕ} {count : ℕ}
       → Walked t n shared rows chains links count n → Built t n shared rows links count
   walk-done {rows} {count} p = record {
-    register = λ h. p.register;
-    nodes = λ h. p.nodes ∙ all_reached w;
-    links = λ h. record {
+    register = p.register;
+    nodes = p.nodes ∙ all_reached w;
+    links = record {
       long = p.linked.long;
       down = λ r k. p.linked.down r k (omega (arith, p.register.few));
       across = λ i r k a b. p.linked.across i r (omega (arith, (p.register.groups r k).reach.inside)) k a b;
       root = p.linked.root;
     };
-    full = λ h. absurd (omega (arith, p.register.few));
-  }
-
-  pub walk-over : {rows : List (List ℕ)} {links : List ℕ} {count : ℕ} → 400 < count
-      → 400 < length (reached (words_from t 0 n)) → Built t n shared rows links count
-  walk-over h many = record {
-    register = λ k. absurd (omega arith);
-    nodes = λ k. absurd (omega arith);
-    links = λ k. absurd (omega arith);
-    full = λ k. many;
   }
 
   pub walk_start : {rows : List (List ℕ)} {chains links : List ℕ} {count i : ℕ} → i < n
@@ -144,8 +135,7 @@ module _ {t : List ℕ} {n : ℕ} {shared : List ℕ} (w : Words t n) (s : Share
           more = rw add-one (to-next t n i d (omega (arith, letters_of w low)) (rw add-one at g.new))
 
       -- there is no room for it
-      walk-full : count ≡ 400 → Unknown t rows count (node_at t i m (d + 1))
-          → 400 < length (reached (words_from t 0 n))
+      walk-full : count ≡ 400 → Unknown t rows count (node_at t i m (d + 1)) → Full t n
       walk-full e new =
           let size = unknown_length t rows count x row (rw (run-node w g) at new) p.nodes in
           omega (arith, size, ap (λ l. length (distinct l)) row_next, longest-row w i (d + 1) low (omega arith))
@@ -264,26 +254,20 @@ module _ {t : List ℕ} {n : ℕ} {shared : List ℕ} (w : Words t n) (s : Share
       -- ---- by what the lookup answers
 
       module _ {rows' : List (List ℕ)} {chains' : List ℕ} where
-        pub step-known : {r : ℕ} → Entered t n rows count i m (d + 1) rows' chains' r → r < count
+        pub step-known : {r : ℕ} → Entered t n rows count i m (d + 1) rows' chains' (Some r) → r < count
             → Walked t n shared rows' chains' (set links link r) count (i + m)
         step-known (known h e q c) l = walk-known h e q c
         step-known (added room new a c) l = absurd (omega arith)
-        step-known (full e new k) l = absurd (omega arith)
 
-        pub step-full : {r : ℕ} → Entered t n rows count i m (d + 1) rows' chains' r → count ≤ r → r ≡ 400
-            → 400 < length (reached (words_from t 0 n))
-        step-full (known h e q c) l f = absurd (omega arith)
-        step-full (added room new a c) l f = absurd (omega arith)
-        step-full (full e new k) l f = walk-full e new
+        pub step-full : Entered t n rows count i m (d + 1) rows' chains' None → Full t n
+        step-full (full e new k) = walk-full e new
 
-        pub step_added : {r : ℕ} → Entered t n rows count i m (d + 1) rows' chains' r → count ≤ r → ¬ (r ≡ 400)
+        pub step_added : {r : ℕ} → Entered t n rows count i m (d + 1) rows' chains' (Some r) → count ≤ r
             → Walking t n shared rows' chains' (set links link r) (count + 1) i (d + 1) r
-        step_added (known h e q c) l f = absurd (omega arith)
-        step_added (added room new a c) l f = walk-added room new a c
-        step_added (full e new k) l f = absurd (f refl)
+        step_added (known h e q c) l = absurd (omega arith)
+        step_added (added room new a c) l = walk-added room new a c
 
 pub entered-low : {t : List ℕ} {n : ℕ} {rows rows' : List (List ℕ)} {count i m d r : ℕ} {chains' : List ℕ} → count ≤ 400
-    → Entered t n rows count i m d rows' chains' r → r ≤ 400
+    → Entered t n rows count i m d rows' chains' (Some r) → r ≤ 400
 entered-low few (known h e q c) = omega arith
 entered-low few (added room new a c) = omega arith
-entered-low few (full e new k) = omega arith

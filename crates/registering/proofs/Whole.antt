@@ -41,7 +41,7 @@ use Rattle.registering.proofs.Vertex.{Tables, measured, listed, lettered, letter
 module _ {v t : List ℕ} {n : ℕ} {shared : List ℕ} {rows : List (List ℕ)} {links : List ℕ} {count : ℕ}
     (d : Drawn v t n shared rows links count) where
   register : Register t n rows count
-  register = d.built.register d.few
+  register = d.built.register
 
   -- the register with the root's row behind those of the nodes
   abbrev rooted : List (List ℕ)
@@ -55,13 +55,13 @@ module _ {v t : List ℕ} {n : ℕ} {shared : List ℕ} {rows : List (List ℕ)}
 
   -- the nodes keep their heights
   high : (r : ℕ) → r < count → get_or (heights_in rooted) r 0 ≡ longest_of (get_or rows r [])
-  high r h = column-at 3 r rooted ∙ ap longest_of (node_at_lem r (omega (arith, d.few)))
+  high r h = column-at 3 r rooted ∙ ap longest_of (node_at_lem r (omega (arith, register.few)))
 
   pub drawn_rows : Rows rooted count
   drawn_rows =
       let g = register_rows d.buildable.words register in
       record {
-        few = d.few;
+        few = register.few;
         long = length-set rows 400 (root_row n) ∙ g.long;
         wide = λ r h. elim (ℕ_discrete r 400) [
           | yes e ↦ ap (λ k. length (get_or rooted k [])) e ∙ ap length root-at
@@ -83,15 +83,15 @@ module _ {v t : List ℕ} {n : ℕ} {shared : List ℕ} {rows : List (List ℕ)}
       some = d.some;
       alike = d.alike;
       register = register;
-      linked = d.built.links d.few;
-      numbers = numbers_are (heights_in rooted) register (d.built.nodes d.few) high p.placed;
+      linked = d.built.links;
+      numbers = numbers_are (heights_in rooted) register d.built.nodes high p.placed;
       root = record {
         first = root_entry 0 (omega arith);
         many = root_entry 1 (omega arith);
         depth = root_entry 2 (omega arith);
       };
       same = λ r h.
-          let k : ¬ (r ≡ 400) = omega (arith, d.few) in
+          let k : ¬ (r ≡ 400) = omega (arith, register.few) in
           record {
             first = entry r 0 (omega arith) k;
             many = entry r 1 (omega arith) k;
@@ -103,7 +103,7 @@ module _ {v t : List ℕ} {n : ℕ} {shared : List ℕ} {rows : List (List ℕ)}
         ≡ many_places (place_count v (words_graph v (words_from t 0 n)))
     drawn_limits =
         limits-kept v (word-list d.buildable.words d.buildable.letters d.some)
-        (omega (arith, tables.numbers.many, d.few))
+        (omega (arith, tables.numbers.many, register.few))
         (omega (arith, words-length t 0 n, d.buildable.words.few))
 
     pub drawn_measured : Measured shared numbered count

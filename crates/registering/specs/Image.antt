@@ -82,11 +82,10 @@ pub record Voiced (v t : List ℕ) (rows : List (List ℕ)) (count : ℕ) : Type
 
 -- ---- the call
 
--- words in the letters of a voice model, and their nodes, of which there are at most 400
+-- words in the letters of a voice model, and their nodes
 pub record Drawn (v t : List ℕ) (n : ℕ) (shared : List ℕ) (rows : List (List ℕ)) (links : List ℕ) (count : ℕ)
     : Type 0 where
   pub buildable : Buildable v t n
   pub some : 1 ≤ n
   pub alike : Shared t n shared
-  pub few : count ≤ 400
   pub built : Built t n shared rows links count

@@ -1,7 +1,7 @@
 -- The register of nodes over a table of words in dictionary order: marks of words, rows of numbers, chains of nodes
 -- with one letter, and links from a node to those that follow it. No public contract cites them. Assumes nothing.
 use Rattle.std.specs.Prelude.{ℕ, zero, suc, ◌+◌, ◌*◌, ◌%◌, ◌≤◌, ◌<◌, ◌≡◌, true, false, cond, List, [], ◌∷◌, length}
-use Rattle.std.specs.Prelude.{get_or, take, drop, set, eqb}
+use Rattle.std.specs.Prelude.{get_or, take, drop, set, eqb, Option, Some, None}
 use Rattle.canonical.specs.Dictionary.{words_in_order, longest}
 use Rattle.canonical.specs.Nodes.{Node, node, same_node, node_of, reached}
 use Rattle.canonical.specs.Groups.{begins, common}
@@ -153,14 +153,16 @@ pub record Links (t : List ℕ) (n : ℕ) (shared : List ℕ) (rows : List (List
 
 -- ---- what the walk through all prefixes leaves
 
--- the nodes that the words' prefixes reach are registered, in the order of their first prefixes, and linked; or there
--- are more than 400
+-- the words' prefixes reach more nodes than there is room for
+abbrev pub Full : List ℕ → ℕ → Type 0
+Full t n = 400 < length (reached (words_from t 0 n))
+
+-- the nodes that the words' prefixes reach are registered, in the order of their first prefixes, and linked
 pub record Built (t : List ℕ) (n : ℕ) (shared : List ℕ) (rows : List (List ℕ)) (table : List ℕ) (count : ℕ)
     : Type 0 where
-  pub register : count ≤ 400 → Register t n rows count
-  pub nodes : count ≤ 400 → registered t rows 0 count ≡ reached (words_from t 0 n)
-  pub links : count ≤ 400 → Links t n shared rows table count
-  pub full : 400 < count → 400 < length (reached (words_from t 0 n))
+  pub register : Register t n rows count
+  pub nodes : registered t rows 0 count ≡ reached (words_from t 0 n)
+  pub links : Links t n shared rows table count
 
 -- ---- a node more
 
@@ -180,11 +182,11 @@ pub record Added (t : List ℕ) (n : ℕ) (rows : List (List ℕ)) (count i m d 
 -- The node of m words with d letters, the first in slot i, was looked for among count nodes: it stands at the place
 -- answered, and it was there already, or it was put there; or there is no room for it.
 pub data Entered (t : List ℕ) (n : ℕ) (rows : List (List ℕ)) (count i m d : ℕ) (rows' : List (List ℕ))
-    (chains' : List ℕ) : ℕ → Type 0 where
+    (chains' : List ℕ) : Option ℕ → Type 0 where
   known : {r : ℕ} → r < count → rows' ≡ rows → node_in t rows r ≡ node_at t i m d → Chained t rows' chains' count
-      → Entered t n rows count i m d rows' chains' r
+      → Entered t n rows count i m d rows' chains' (Some r)
   added : count < 400 → Unknown t rows count (node_at t i m d) → Added t n rows count i m d rows'
       → Chained t rows' chains' (count + 1)
-      → Entered t n rows count i m d rows' chains' count
+      → Entered t n rows count i m d rows' chains' (Some count)
   full : count ≡ 400 → Unknown t rows count (node_at t i m d) → rows' ≡ rows
-      → Entered t n rows count i m d rows' chains' 400
+      → Entered t n rows count i m d rows' chains' None

@@ -3,7 +3,7 @@
 use Rattle.std.specs.Prelude.{ℕ, ◌+◌, ◌*◌, ◌≤◌, ◌<◌, ◌≡◌, not, List, [], ◌++◌, map, length, get_or, take}
 use Rattle.endian.specs.Lists.{select}
 use Rattle.canonical.specs.Dictionary.{prefixes_of}
-use Rattle.canonical.specs.Nodes.{Node, distinct, node_of, reached}
+use Rattle.canonical.specs.Nodes.{Node, distinct, node_of}
 use Rattle.canonical.specs.Groups.{begins, fresh_from}
 use Rattle.sorting.specs.Slots.{word_at, words_from}
 use Rattle.registering.specs.Register.{previous, first_of, many_of, depth_of, registered, Register, Chained, Linked}
@@ -65,11 +65,9 @@ pub record Walking (t : List ℕ) (n : ℕ) (shared : List ℕ) (rows : List (Li
   pub linked : LinksTo t n shared rows links count i link
   pub gap : Gap t n shared rows links count i d link
 
--- the walk goes on from slot i to slot next with count nodes; or there are more than 400
+-- the walk goes on from slot i to slot next with count nodes
 pub record Passed (t : List ℕ) (n : ℕ) (shared : List ℕ) (rows : List (List ℕ)) (chains links : List ℕ)
     (i count next : ℕ) : Type 0 where
   pub more : i < next
   pub inside : next ≤ n
-  pub few : count ≤ 401
-  pub walked : count ≤ 400 → Walked t n shared rows chains links count next
-  pub full : 400 < count → 400 < length (reached (words_from t 0 n))
+  pub walked : Walked t n shared rows chains links count next

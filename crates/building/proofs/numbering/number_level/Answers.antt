@@ -1,5 +1,5 @@
--- `numbering::number_level` meets its contract: before each row the places of this height from it on are left. The
--- measure is the rows left. Assumes nothing.
+-- `numbering::number_level` meets its contract: before each row the places of this height from it on are left. Assumes
+-- nothing.
 use Prim.Native.Nat.{ℕ, ◌+◌, ◌-◌, ◌<◌}
 use mathlib.Core.Path.{◌≡◌, sym, ◌∙◌}
 use mathlib.Core.List.{List, [], ◌∷◌, ◌++◌}
@@ -39,63 +39,24 @@ module _ {rows now : List (List ℕ)} {count r next : ℕ} (h : ℕ) (g : Rows r
     past n = rw (places-past (heights_in rows) h count r t (λ e. n (sym height ∙ e))) at p
 
 pub loop-r-init : goal.loop-r-init
-loop-r-init c =
-    let e : c.args.count - 0 ≡ c.args.count = omega arith in (omega arith, rw e c.requires.placed_in)
+loop-r-init c = let e : c.args.count - 0 ≡ c.args.count = omega arith in rw e c.requires.placed_in
+
+pub bounds-rows-next : goal.bounds-rows-next
+bounds-rows-next c =
+    omega (arith, (room c.args.h c.requires.rows c.loop-r-test.true c.loop-r.invariant c.if-rows-r.true).1)
 
 pub loop-r-preserved : goal.loop-r-preserved
 loop-r-preserved c =
     let t = c.loop-r-test.true in
-    let p = c.loop-r.invariant.1 in (
-      omega (arith, t),
-      elim c.if-rows-r.branch [
-        | then-rows-r w ↦ rw (w.rows-is, w.next-is)
-            (placed-more c.requires.rows (here c.args.h c.requires.rows t p w.if-rows-r.true))
-        | else-rows-r w ↦ rw (w.rows-is, w.next-is) (past c.args.h c.requires.rows t p w.if-rows-r.false)
-      ],
-    )
+    let p = c.loop-r.invariant in
+    elim c.if-rows-r.branch [
+      | then-rows-r w ↦ rw (w.rows-is, w.next-is)
+          (placed-more c.requires.rows (here c.args.h c.requires.rows t p w.if-rows-r.true))
+      | else-rows-r w ↦ rw (w.rows-is, w.next-is) (past c.args.h c.requires.rows t p w.if-rows-r.false)
+    ]
 
 pub returns : goal.returns
 returns c =
     let l = c.loop-r in
     let a = c.args in
-    rw (places-none (heights_in a.rows.now) a.h a.count l.r c.loop-r-test.false) at l.invariant.1
-
-pub offset_bounds-rows-r : goal.offset_bounds-rows-r
-offset_bounds-rows-r c = omega (arith, c.requires.rows.few, c.loop-r-test.true)
-
-pub bounds-rows-r : goal.bounds-rows-r
-bounds-rows-r c = omega (arith, c.requires.rows.few, c.loop-r-test.true)
-
-pub overflow_cast-rows : goal.overflow_cast-rows
-overflow_cast-rows c = omega (arith, low c.args.h c.requires.rows c.loop-r-test.true c.loop-r.invariant.1)
-
-pub overflow_cast-rows-then-rows-r : goal.overflow_cast-rows-then-rows-r
-overflow_cast-rows-then-rows-r c =
-    omega (arith, (room c.args.h c.requires.rows c.loop-r-test.true c.loop-r.invariant.1 c.if-rows-r.true).0)
-
-pub offset_bounds-rows-next : goal.offset_bounds-rows-next
-offset_bounds-rows-next c =
-    omega (arith, (room c.args.h c.requires.rows c.loop-r-test.true c.loop-r.invariant.1 c.if-rows-r.true).1)
-
-pub bounds-rows-next : goal.bounds-rows-next
-bounds-rows-next c =
-    omega (arith, (room c.args.h c.requires.rows c.loop-r-test.true c.loop-r.invariant.1 c.if-rows-r.true).1)
-
-pub overflow_add-next : goal.overflow_add-next
-overflow_add-next c =
-    omega (arith, (room c.args.h c.requires.rows c.loop-r-test.true c.loop-r.invariant.1 c.if-rows-r.true).1)
-
-pub overflow_cast-rows-then-rows-r-2 : goal.overflow_cast-rows-then-rows-r-2
-overflow_cast-rows-then-rows-r-2 c =
-    omega (arith, (room c.args.h c.requires.rows c.loop-r-test.true c.loop-r.invariant.1 c.if-rows-r.true).1)
-
-pub offset_bounds-rows-r-then-rows-r : goal.offset_bounds-rows-r-then-rows-r
-offset_bounds-rows-r-then-rows-r c =
-    omega (arith, (room c.args.h c.requires.rows c.loop-r-test.true c.loop-r.invariant.1 c.if-rows-r.true).0)
-
-pub bounds-rows-r-then-rows-r : goal.bounds-rows-r-then-rows-r
-bounds-rows-r-then-rows-r c =
-    omega (arith, (room c.args.h c.requires.rows c.loop-r-test.true c.loop-r.invariant.1 c.if-rows-r.true).0)
-
-pub overflow_add-r : goal.overflow_add-r
-overflow_add-r c = omega (arith, c.requires.rows.few, c.loop-r-test.true)
+    rw (places-none (heights_in a.rows.now) a.h a.count l.r c.loop-r-test.false) at l.invariant

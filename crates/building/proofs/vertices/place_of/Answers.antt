@@ -24,8 +24,5 @@ node-place c =
     let e : suc (a.vertex - 1) ≡ a.vertex = (let h = c.if-vertex-eq0.false in omega arith) in
     sym (column-at 5 (a.vertex - 1) a.rows.now) ∙ ap (place_in a.rows.now) e
 
-pub overflow_cast-result : goal.overflow_cast-result
-overflow_cast-result c = let h = node-place c.before in let k = c.requires.1 in record { fits = omega arith }
-
 pub returns : goal.returns
 returns c = node-place c.before
