@@ -8,8 +8,8 @@ use mathlib.Core.List.{List, [], ◌∷◌}
 use native.Mathlib.Decide.{ℕ_discrete, dec_le}
 use native.Mathlib.Numerals.{add-one}
 use native.Mathlib.Omega.{arith}
-use lib.ListN.{length, get_or, take, drop, set, drop_of_length-le, length-take, length-set}
-use lib.Seq.{drop-cons, get_or-set_same, get_or-set_other}
+use lib.ListN.{length, get_or, take, drop, drop_of_length-le, length-take}
+use lib.Seq.{drop-cons}
 use lib.Dec.{eqb}
 use borrow.Author.Tests.{eq-eqb, ne_eqb, eqb-true}
 use Rattle.endian.proofs.Booleans.{and_in, and-out}
@@ -50,14 +50,6 @@ pub record Alike (t : List ℕ) (j i d : ℕ) : Type 0 where
   pub other : Slot t i
   pub inside : d ≤ min (get_or t (33 * j) 0) (get_or t (33 * i) 0)
   pub all : d + common (drop d (word_at t j)) (drop d (word_at t i)) ≡ common (word_at t j) (word_at t i)
-
-pub alike-start : {t : List ℕ} {j i : ℕ} → Slot t j → Slot t i → Alike t j i 0
-alike-start {t} {j} {i} a b = record {
-  one = a;
-  other = b;
-  inside = omega arith;
-  all = omega arith;
-}
 
 module _ {t : List ℕ} {j i d : ℕ} (p : Alike t j i d) where
   module _ (h : d < min (get_or t (33 * j) 0) (get_or t (33 * i) 0)) where
@@ -192,37 +184,6 @@ module _ {t : List ℕ} {n : ℕ} {shared : List ℕ} (s : Shared t n shared) (i
   pub shared_new : get_or shared i 0 < d → d ≤ length (word_at t i) → begins (take d (word_at t i)) (previous t i)
       ≡ false
   shared_new k = common-apart d (previous t i) (word_at t i) (omega (arith, s.letters i h))
-
--- the entries of the first i words
-pub record SharedTo (t : List ℕ) (n : ℕ) (old shared : List ℕ) (i : ℕ) : Type 0 where
-  pub inside : i ≤ n
-  pub room : n ≤ length old
-  pub long : length shared ≡ length old
-  pub letters : (j : ℕ) → j < i → get_or shared j 0 ≡ common (previous t j) (word_at t j)
-
-pub shared_none : (t : List ℕ) {n : ℕ} {old : List ℕ} → n ≤ length old → SharedTo t n old old 0
-shared_none t h = record { inside = omega arith; room = h; long = refl; letters = λ j k. absurd (omega arith) }
-
-module _ {t : List ℕ} {n : ℕ} {old shared : List ℕ} {i : ℕ} (s : SharedTo t n old shared i) where
-  pub shared_more : {a : ℕ} → i < n → a ≡ common (previous t i) (word_at t i)
-      → SharedTo t n old (set shared i a) (i + 1)
-  shared_more {a} h e =
-      let k : i < length shared = omega (arith, s.room, s.long) in
-      record {
-        inside = omega arith;
-        room = s.room;
-        long = length-set shared i a ∙ s.long;
-        letters = λ j q. elim (ℕ_discrete j i) [
-          | yes f ↦ rw f (get_or-set_same shared i a 0 k ∙ e)
-          | no f ↦ get_or-set_other shared i j a 0 f ∙ s.letters j (omega arith)
-        ];
-      }
-
-  pub shared_all : n ≤ i → Shared t n shared
-  shared_all h = record {
-    long = omega (arith, s.room, s.long);
-    letters = λ j q. s.letters j (omega arith);
-  }
 
 -- the next word
 module _ {t : List ℕ} {n : ℕ} {shared : List ℕ} (s : Shared t n shared) (k d : ℕ) (h : suc k < n) where

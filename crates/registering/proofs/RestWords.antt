@@ -7,10 +7,10 @@ use Rattle.std.proofs.lemmas.Slice.{between_is}
 use mathlib.Core.List.{List}
 use native.Mathlib.Omega.{arith}
 use lib.ListN.{length, get_or, take, drop, length-drop}
-use lib.Seq.{get_or-drop, drop-drop}
+use lib.Seq.{drop-drop}
 use Rattle.canonical.specs.Dictionary.{longest}
 use Rattle.sorting.specs.Slots.{word_at, Slot}
-use Rattle.sorting.proofs.SlotWords.{word-length, letter_at_lem}
+use Rattle.sorting.proofs.SlotWords.{word-length}
 use Rattle.registering.specs.Register.{rests_from}
 
 -- ---- one word
@@ -30,12 +30,6 @@ rest_part t i d =
   where
     inner : (s : List ℕ) (a b : ℕ) → take (b - a) (drop a s) ≡ drop a (take b s)
     inner s a b = search (rules, between_is)
-
-pub rest-letter : (t : List ℕ) (i d k : ℕ) → d + k < get_or t (33 * i) 0
-    → get_or (drop d (word_at t i)) k 0 ≡ get_or t (33 * i + 1 + d + k) 0
-rest-letter t i d k h =
-    let e : 33 * i + suc (d + k) ≡ 33 * i + 1 + d + k = omega arith in
-    get_or-drop d (word_at t i) k 0 ∙ letter_at_lem t i (d + k) h ∙ ap (λ j. get_or t j 0) e
 
 -- ---- what follows a prefix in a run of words
 

@@ -4,7 +4,6 @@ use Prim.Native.Nat.{ℕ, suc, ◌+◌, ◌*◌, ◌-◌, ◌≤◌, ◌<◌}
 use mathlib.Core.Path.{◌≡◌, refl, sym, ap, ◌∙◌}
 use mathlib.Core.Bool.{Bool, true, false, not, ◌&&◌, false≢true}
 use mathlib.Core.List.{List, [], ◌∷◌}
-use native.Mathlib.Nat.{add-zero}
 use native.Mathlib.Omega.{arith}
 use lib.ListN.{length, get_or, take, drop, length-take}
 use lib.Dec.{eqb}
@@ -60,9 +59,6 @@ module _ (t : List ℕ) (d i e j n : ℕ) where
 
   abbrev pub Compared : ℕ → Bool
   Compared k = same_words (rests_from t d (i + k) (n - k)) (rests_from t e (j + k) (n - k))
-
-  pub rests_start : Compared 0 ≡ Whole
-  rests_start = let z : n - 0 ≡ n = omega arith in rw (add-zero i, add-zero j, z)
 
   module _ {k : ℕ} (all : Compared k ≡ Whole) where
     -- by the test whether the k-th words differ

@@ -266,8 +266,3 @@ module _ {t : List ℕ} {n : ℕ} {shared : List ℕ} (w : Words t n) (s : Share
             → Walking t n shared rows' chains' (set links link r) (count + 1) i (d + 1) r
         step_added (known h e q c) l = absurd (omega arith)
         step_added (added room new a c) l = walk-added room new a c
-
-pub entered-low : {t : List ℕ} {n : ℕ} {rows rows' : List (List ℕ)} {count i m d r : ℕ} {chains' : List ℕ} → count ≤ 400
-    → Entered t n rows count i m d rows' chains' (Some r) → r ≤ 400
-entered-low few (known h e q c) = omega arith
-entered-low few (added room new a c) = omega arith
