@@ -47,9 +47,9 @@ fn build(
     let mut rows = [[0u16; 6]; 401];
     let mut chains = [0u16; 256];
     let mut links = [0u16; 2400];
-    let Some(count) = walk_all(words, n, shared, &mut rows, &mut chains, &mut links) else {
-        return Err(Refusal::CanonicalImage);
-    };
+    let count = walk_all(words, n, shared, &mut rows, &mut chains, &mut links).ok_or(
+        Refusal::CanonicalImage,
+    )?;
     build_image(voice, words, n, shared, &mut rows, &links, count, out)
 }
 

@@ -39,10 +39,12 @@ pub fn word_table(
     if further.len() < FURTHER_SPACE {
         return Err(Refusal::WorkSpace);
     }
-    let gathered = collect(voice, lexicon, work, further);
-    let Ok(n) = gathered else {
-        zero_part(further, 0, FURTHER_SPACE);
-        return gathered;
+    let n = match collect(voice, lexicon, work, further) {
+        Ok(n) => n,
+        Err(refusal) => {
+            zero_part(further, 0, FURTHER_SPACE);
+            return Err(refusal);
+        }
     };
     let answer = put_table(further, &mut work[0..ROWS], n as usize);
     clear(work);
