@@ -1,6 +1,6 @@
 -- What the functions over all frames ask and leave: frame by frame, and at the end node by node. No public contract
 -- cites this. Assumes nothing.
-use Rattle.std.specs.Prelude.{ℕ, ◌-◌, ◌≤◌, ◌<◌, ◌≡◌, true, false, length, get_or}
+use Rattle.std.specs.Prelude.{ℕ, ◌-◌, ◌≤◌, ◌<◌, ◌≡◌, cond, Option, Some, None, length, get_or}
 use mathlib.Core.List.{List, ◌++◌, Memᴰ}
 use Rattle.endian.specs.Lists.{has}
 use Rattle.voice.specs.Voice.{letter_count, symbols_at}
@@ -65,10 +65,9 @@ pub record Arcs (x : List ℕ) (vertices : List (List ℕ)) : Type 0 where
   pub paths : {u : ℕ} → u ≤ sink_of x → paths_in vertices u ≡ path_count (graph_of x) u
   pub few : {u : ℕ} → u ≤ node_count x → path_count (graph_of x) u ≤ 1048576
 
--- the increment of the arc from w to the sink, or w's path count where there is none: no increment is as great
-pub record LastArc (g : Graph) (w r : ℕ) : Type 0 where
-  pub there : has (sink g) (g.successors w) ≡ true → r ≡ increment g w (sink g)
-  pub none : has (sink g) (g.successors w) ≡ false → r ≡ path_count g w
+-- the increment of the arc from w to the sink, if there is one
+unfoldable pub last_arc : Graph → ℕ → Option ℕ
+last_arc g w = cond (has (sink g) (g.successors w)) (Some (increment g w (sink g))) None
 
 -- the tokens of node w's last state are candidates for a list that holds the n best of s
 pub record Ending (x : List ℕ) (n : ℕ) (vertices : List (List ℕ)) (w : ℕ) (b list : List ℕ) : Type 0 where

@@ -5,7 +5,7 @@ ghost use Rattle.lexicon.specs.Lexicon.{node_count};
 ghost use Rattle.graph.specs.Graph.{graph_of};
 ghost use Rattle.decoder.specs.Decoding.{hits};
 ghost use Rattle.storing.specs.Held.{held};
-ghost use Rattle.search.specs.Running.{Arcs, LastArc, Ending, Ended, Run, Empty};
+ghost use Rattle.search.specs.Running.{Arcs, last_arc, Ending, Ended, Run, Empty};
 
 use crate::frames::all_frames;
 use crate::store::{copy_place, offer};
@@ -13,11 +13,10 @@ use checking::{ARCS_AT, FIRST_SLOT, PATHS};
 use decoder::token::LIFT;
 use endian::u16_at;
 
-// The increment of the arc to the sink: the path counts of the successors stored before it. Without such an arc it is
-// the sum of all, the node's own path count, which no increment reaches.
-fn last_increment(lexicon: &[u8], vertices: &[[u32; 4]; 402], node: usize) -> u32
+// The increment of the arc to the sink, if there is one: the path counts of the successors stored before it.
+fn last_increment(lexicon: &[u8], vertices: &[[u32; 4]; 402], node: usize) -> Option<u32>
     requires { Arcs lexicon.now vertices.now × (node ≤ node_count lexicon.now) }
-    ensures { LastArc (graph_of lexicon.now) node result }
+    ensures { result ≡ last_arc (graph_of lexicon.now) node }
 {
     let sink = u16_at(lexicon, 0) as usize + 1;
     let start = vertices[node][ARCS_AT] as usize;
@@ -27,12 +26,12 @@ fn last_increment(lexicon: &[u8], vertices: &[[u32; 4]; 402], node: usize) -> u3
     while at < stop {
         let next = u16_at(lexicon, at) as usize;
         if next == sink {
-            return increment;
+            return Some(increment);
         }
         increment += vertices[next][PATHS];
         at += 2;
     }
-    increment
+    None
 }
 
 // The tokens of a node's last state are candidates for the list, if an arc leads from it to the sink.
@@ -48,10 +47,9 @@ fn offer_end(
     ensures { (e : Ending lexicon.now n vertices.now node store.now
         list.old) → Ended e list.new }
 {
-    let increment = last_increment(lexicon, vertices, node);
-    if increment == vertices[node][PATHS] {
+    let Some(increment) = last_increment(lexicon, vertices, node) else {
         return;
-    }
+    };
     // the place of its last state ends where the next vertex's begins
     let last = vertices[node + 1][FIRST_SLOT] as usize - n;
     // the move to the sink scores 0
@@ -77,10 +75,9 @@ pub(crate) fn best_words(
     }
     all_frames(voice, lexicon, frames, n, vertices, store);
     let mut list = [0u8; 64];
-    let mut node = u16_at(lexicon, 0) as usize;
-    while 0 < node {
+    let nodes = u16_at(lexicon, 0) as usize;
+    for node in (1..=nodes).rev() {
         offer_end(lexicon, n, vertices, node, &store[..], &mut list[..]);
-        node -= 1;
     }
     let mut best = [0; 8];
     copy_place(&list[..], n, &mut best);

@@ -79,10 +79,8 @@ fn frame(
         enter_nodes(lexicon, n, vertices, store);
         return;
     }
-    let mut node = numbers.nodes;
-    while 0 < node {
+    for node in (1..=numbers.nodes).rev() {
         take_turn(voice, lexicon, n, vertices, gains, links, node, store);
-        node -= 1;
     }
 }
 
@@ -112,12 +110,10 @@ pub(crate) fn all_frames(
         used: used,
     };
     let mut gains = [[0u32; 8]; 64];
-    let mut t = 0;
-    while t < frames.len() {
+    for t in 0..frames.len() {
         frame_tables(
             voice, lexicon, frames, t, numbers, &letters, &mut gains, vertices,
         );
         frame(voice, lexicon, t, numbers, vertices, &gains, &links, store);
-        t += 1;
     }
 }

@@ -78,13 +78,11 @@ fn letter_gains(voice: &[u8], at: usize, k: usize, letter: &[u32; 10], row: &mut
     let states = voice[2 + 2 * index] as usize;
     let mut offset = at + 1 + 2 * (first * symbols + k);
     first_gains(emission_at(voice, offset), letter, row);
-    let mut s = 1;
-    while s < states {
+    for s in 1..states {
         // the next state's emission of k
         offset += 2 * symbols;
         let emission = emission_at(voice, offset);
         state_gains(emission, s, letter, row);
-        s += 1;
     }
 }
 
@@ -101,11 +99,9 @@ pub(crate) fn frame_gains(
     requires letter_table { LetterTable voice.now used letters.now × RowsRoom 8 gains.old }
     ensures { Gained voice.now k letters.now used gains.new }
 {
-    let mut i = 0;
-    while i < used {
-        let letter = letters[i][INDEX] as usize;
-        letter_gains(voice, at, k, &letters[i], &mut gains[letter]);
-        i += 1;
+    for letter in &letters[..used] {
+        let index = letter[INDEX] as usize;
+        letter_gains(voice, at, k, letter, &mut gains[index]);
     }
 }
 
@@ -121,10 +117,8 @@ pub(crate) fn put_emissions(
     ensures { EmissionsPut lexicon.now gains.now vertices.old
         vertices.new }
 {
-    let mut node = 1;
-    while node <= nodes {
+    for node in 1..nodes + 1 {
         let letter = lexicon[1 + node] as usize;
         vertices[node][EMISSION] = gains[letter][ENTRY];
-        node += 1;
     }
 }

@@ -25,14 +25,7 @@ fn has_bad_frames(symbols: u8, frames: &[u8]) -> bool
     if !inside(frames.len(), 1, LONGEST) {
         return true;
     }
-    let mut i = 0;
-    while i < frames.len() {
-        if symbols <= frames[i] {
-            return true;
-        }
-        i += 1;
-    }
-    false
+    frames.iter().any(|symbol| symbols <= *symbol)
 }
 
 // The first row that applies, or 0.

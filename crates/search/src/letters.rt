@@ -105,11 +105,9 @@ pub(crate) fn link_table(voice: &[u8]) -> [u32; 64]
     let mut links = [0; 64];
     let at = links_at(voice);
     let letters = voice[0] as usize;
-    let mut letter = 0;
-    while letter < letters {
+    for letter in 0..letters {
         let link = Score::from_stored(link_score(voice, at, letter));
         links[letter] = link.0;
-        letter += 1;
     }
     links
 }
@@ -121,12 +119,9 @@ fn mark_letters(lexicon: &[u8], marks: &mut [bool; 64])
     ensures { LettersMarked lexicon.now (node_count lexicon.now) marks.new }
 {
     let nodes = u16_at(lexicon, 0) as usize;
-    let mut node = 0;
-    while node < nodes {
-        // of node + 1: nodes have the numbers from 1 on
-        let letter = lexicon[2 + node] as usize;
-        marks[letter] = true;
-        node += 1;
+    // of node 1, which is the first, and of those after it
+    for letter in &lexicon[2..2 + nodes] {
+        marks[*letter as usize] = true;
     }
 }
 
@@ -155,10 +150,8 @@ fn letter_row(voice: &[u8], letter: usize, first: u16, row: &mut [u32; 10])
     let pairs = letter_pairs(voice, first as usize, states);
     row[INDEX] = letter as u32;
     row[FIRST_STATE] = first as u32;
-    let mut s = 0;
-    while s < states {
+    for s in 0..states {
         state_scores(pairs, s, row);
-        s += 1;
     }
 }
 
@@ -175,14 +168,12 @@ pub(crate) fn letter_table(voice: &[u8], lexicon: &[u8], letters: &mut [[u32; 10
     let count = voice[0] as usize;
     let mut used = 0;
     let mut first: u16 = 0;
-    let mut letter = 0;
-    while letter < count {
+    for letter in 0..count {
         if marks[letter] {
             letter_row(voice, letter, first, &mut letters[used]);
             used += 1;
         }
         first += voice[2 + 2 * letter] as u16;
-        letter += 1;
     }
     used
 }

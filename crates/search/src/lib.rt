@@ -21,7 +21,6 @@ mod frames;
 mod gains;
 mod judge;
 mod letters;
-mod parts;
 mod places;
 mod store;
 mod tokens;

@@ -24,18 +24,16 @@ pub(crate) fn find_slots(
     ensures { SlotsPut voice.now lexicon.now n vertices.old
         vertices.new result }
 {
-    let nodes = u16_at(lexicon, 0) as usize;
+    let sink = u16_at(lexicon, 0) as usize + 1;
     let mut slot = 0;
-    let mut node = 1;
-    while node <= nodes {
+    for node in 1..sink {
         let letter = lexicon[1 + node] as usize;
         vertices[node][FIRST_SLOT] = slot as u32;
         slot += n * (voice[2 + 2 * letter] as usize);
-        node += 1;
     }
-    vertices[node][FIRST_SLOT] = slot as u32;
+    vertices[sink][FIRST_SLOT] = slot as u32;
     // so that no token is passed on to it
     let none = Score::IMPOSSIBLE;
-    vertices[node][EMISSION] = none.0;
+    vertices[sink][EMISSION] = none.0;
     slot
 }

@@ -13,9 +13,9 @@ ghost use Rattle.storing.specs.Carrying.{Staying, Arc, Own, Renewing, Renewal, s
 ghost use Rattle.storing.specs.Carrying.{renewed_all, renewal};
 
 use crate::letters::{LOOP, STEP};
-use crate::parts::offer_from;
-use crate::store::{clear_place, insert, shift};
+use crate::store::{insert, offer_from, shift};
 use crate::tokens::token_at;
+use call::zero;
 use checking::{ARCS_AT, EMISSION, FIRST_SLOT, PATHS};
 use decoder::score::{BIAS, Score};
 use decoder::token::{LIFT, Token, UNIT};
@@ -133,7 +133,7 @@ fn stay(place: &mut [u8], n: usize, score: Score)
         ≡ held n (stayed t) }
 {
     if score.is_impossible() {
-        clear_place(place, n);
+        zero(place);
         return;
     }
     shift(place, n, score.0 as u64 * UNIT, LIFT);
@@ -166,9 +166,7 @@ fn renew(part: &mut [u8], n: usize, states: usize, row: &[u32; 8])
     ensures { (t : Renewing n states row.now part.old)
         → Own n t.S (renewed_all t t.node) part.new }
 {
-    let mut s = states;
-    while s > 0 {
-        s -= 1;
+    for s in (0..states).rev() {
         renew_state(part, n, s, row);
     }
 }

@@ -1,5 +1,5 @@
 -- `gains::letter_gains` meets its contract: before each later state the entries of those before it are filled, and the
--- offset is that of the emission of the state before it. The measure is the states left. Assumes nothing.
+-- offset is that of the emission of the state before it. Assumes nothing.
 use Prim.Native.Nat.{ℕ, ◌+◌, ◌*◌, ◌≤◌, ◌<◌}
 use mathlib.Core.Path.{◌≡◌, refl, sym, ap, ◌∙◌}
 use mathlib.Core.List.{List}
@@ -18,7 +18,7 @@ use Rattle.storing.specs.Gains.{entry_number, AtLetter, LetterRow, KnownSymbol}
 use Rattle.storing.proofs.Gaining.{letter-small, letter-few, letter-byte, letter-there, first_small}
 use Rattle.storing.proofs.Filling.{fill_done, loop_near, step_near, first-gained, next-gained}
 use Rattle.storing.proofs.Filling.{emitted-is, emission-inside, emission_near, emission-next, row-letter}
-use Rattle.search.proofs.Sums.{most-fits, double_fits, letter-fits, state-fits}
+use Rattle.search.proofs.Sums.{most-fits, double_fits, letter-fits}
 use Rattle.search.proofs.Sums.{below-fits, within-fits, offset-fits}
 use Rattle.search.proofs.gains.letter_gains.Invariants.{StatesDone}
 use Rattle.search.proofs.gains.letter_gains.Goals as goal
@@ -207,10 +207,3 @@ overflow_add-offset-in-loop-s c =
 pub emission_at-emission-requires : goal.emission_at-emission-requires
 emission_at-emission-requires c =
     next-inside c.requires.known_symbol c.requires.letter_row.0 c.loop-s.invariant c.loop-s-test.true
-
-pub overflow_add-s : goal.overflow_add-s
-overflow_add-s c =
-    state-fits (small c.requires.known_symbol c.requires.letter_row.0 c.loop-s.invariant c.loop-s-test.true)
-
-pub loop-s-smaller : goal.loop-s-smaller
-loop-s-smaller c = let h = c.loop-s-test.true in omega arith

@@ -1,4 +1,4 @@
-use Prim.Native.Nat.{ℕ, suc, ◌+◌, ◌-◌, ◌*◌}
+use Prim.Native.Nat.{ℕ, suc, ◌+◌, ◌*◌}
 use mathlib.Core.Path.{◌≡◌}
 use mathlib.Core.List.{List}
 use lib.ListN.{get_or}
@@ -17,6 +17,3 @@ pub record StatesDone (v : List ℕ) (k l first offset s : ℕ) (row : List ℕ)
 
 abbrev pub invariant-loop-s : goal.invariant-loop-s
 invariant-loop-s l = StatesDone l.voice l.k l.index l.first l.offset l.s l.row
-
-abbrev pub decreases-loop-s : goal.decreases-loop-s
-decreases-loop-s l = l.states - l.s

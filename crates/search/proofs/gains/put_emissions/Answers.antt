@@ -1,5 +1,4 @@
--- `gains::put_emissions` meets its contract: before each node those below it have their emission. The measure is the
--- nodes left. Assumes nothing.
+-- `gains::put_emissions` meets its contract: before each node those below it have their emission. Assumes nothing.
 use Prim.Native.Nat.{ℕ, ◌+◌, ◌≤◌, ◌<◌}
 use native.Mathlib.Omega.{arith}
 use mathlib.Core.List.{List}
@@ -38,6 +37,9 @@ pub returns : goal.returns
 returns c =
     emissions-done c.loop-node.invariant (omega (arith, c.loop-node-test.false, c.requires.0.all))
 
+pub overflow_add-node-end : goal.overflow_add-node-end
+overflow_add-node-end c = omega (arith, c.requires.0.all, (shape_of c.requires.0.formed).few)
+
 pub overflow_add-letter : goal.overflow_add-letter
 overflow_add-letter c =
     let h = few c.requires.0 c.loop-node.invariant (omega (arith, c.loop-node-test.true)) in
@@ -72,11 +74,3 @@ pub bounds-vertices-node : goal.bounds-vertices-node
 bounds-vertices-node c =
     let h = few c.requires.0 c.loop-node.invariant (omega (arith, c.loop-node-test.true)) in
     omega arith
-
-pub overflow_add-node : goal.overflow_add-node
-overflow_add-node c =
-    let h = few c.requires.0 c.loop-node.invariant (omega (arith, c.loop-node-test.true)) in
-    omega arith
-
-pub loop-node-smaller : goal.loop-node-smaller
-loop-node-smaller c = let h = c.loop-node-test.true in omega arith

@@ -1,5 +1,5 @@
--- `letters::letter_row` meets its contract: before each state the entries of those before it are filled. The measure is
--- the states left. Assumes nothing.
+-- `letters::letter_row` meets its contract: before each state the entries of those before it are filled. Assumes
+-- nothing.
 use Prim.Native.Nat.{ℕ, ◌≤◌, ◌<◌}
 use mathlib.Core.Path.{◌∙◌}
 use mathlib.Core.List.{List}
@@ -81,7 +81,3 @@ bounds-row-8 c = let h = c.requires.1 in search rules
 
 pub bounds-row-9 : goal.bounds-row-9
 bounds-row-9 c = let h = c.requires.1 in search rules
-
-pub overflow_add-s : goal.overflow_add-s
-unfolding states
-overflow_add-s c = let h : c.loop-s.s < 4 = omega (arith, c.loop-s-test.true, letter-few c.requires.0) in search rules

@@ -1,4 +1,4 @@
-use Prim.Native.Nat.{ℕ, ◌-◌}
+use Prim.Native.Nat.{ℕ}
 use mathlib.Core.Path.{◌≡◌}
 use mathlib.Core.List.{List}
 use lib.ListN.{get_or}
@@ -13,6 +13,3 @@ pub record RowScored (v : List ℕ) (l first s : ℕ) (row : List ℕ) : Type 0 
 
 abbrev pub invariant-loop-s : goal.invariant-loop-s
 invariant-loop-s l = RowScored l.voice l.letter l.first l.s l.row
-
-abbrev pub decreases-loop-s : goal.decreases-loop-s
-decreases-loop-s l = l.states - l.s

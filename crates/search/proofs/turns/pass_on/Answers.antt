@@ -1,5 +1,5 @@
--- `turns::pass_on` meets its contract: what is left to pass on from the store so far is what was to be passed on. The
--- measure is what is left of the list. Assumes nothing.
+-- `turns::pass_on` meets its contract: what is left to pass on from the store so far is what was to be passed on.
+-- Assumes nothing.
 use Prim.Native.Nat.{ℕ, ◌+◌, ◌*◌, ◌≤◌, ◌<◌}
 use mathlib.Core.Path.{◌≡◌, refl, sym, ◌∙◌}
 use mathlib.Core.Bool.{false}

@@ -1,5 +1,5 @@
--- `turns::renew` meets its contract: what is left to renew from the store so far is what was to be renewed. The measure
--- is the states left. Assumes nothing.
+-- `turns::renew` meets its contract: what is left to renew from the store so far is what was to be renewed. Assumes
+-- nothing.
 use Prim.Native.Nat.{ℕ, suc, ◌-◌, ◌<◌}
 use mathlib.Core.List.{List}
 use mathlib.Core.Path.{◌≡◌}
@@ -31,6 +31,3 @@ shape_of-part c = (c.loop-s.invariant c.requires).long
 
 pub returns : goal.returns
 returns c = λ t. renew_done t (c.loop-s.invariant t) c.loop-s-test.false
-
-pub loop-s-smaller : goal.loop-s-smaller
-loop-s-smaller c = let h = c.loop-s-test.true in omega arith
