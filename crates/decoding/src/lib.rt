@@ -27,10 +27,7 @@ pub fn decode(
     ensures meets_demand3 { MeetsDemand3 voice.now lexicon.now frames.now n (answer_of result) out.new }
 {
     let mut tokens = [0; 8];
-    let answer = search(voice, lexicon, frames, n, work, &out[..], &mut tokens);
-    let Ok(_) = answer else {
-        return answer;
-    };
+    search(voice, lexicon, frames, n, work, &out[..], &mut tokens)?;
     let listed = put_hits(&tokens, out);
     Ok(listed)
 }

@@ -78,13 +78,13 @@ module _ (v x work : List ℕ) where
         (refused-before (first_rows v x work) (call_rows v frames n out) (word_count (graph_of x)) _ (sym c ∙ e))
 
     -- past checking, its own rows decide
-    pub call-judged : {W : ℕ} {a : Answer ℕ} → Passed v x work W → a ≡ unless (call_rows v frames n out) 0
+    pub call-judged : {W : ℕ} {a : Answer (Unit {0})} → Passed v x work W → a ≡ unless (call_rows v frames n out) tt
         → search_answer v x frames n work out ≡ a
     unfolding search_answer
     call-judged p c = rw rows_so (unless-past (first_rows v x work) (call_rows v frames n out) _ p.rows) ∙ sym c
 
     -- the hits where it answers a value, and the tokens as they were after a refusal
-    pub found_some : (t : List ℕ) {l : List ℕ} {k : ℕ} → l ≡ held 8 (hits v (graph_of x) frames n)
+    pub found_some : (t : List ℕ) {l : List ℕ} {k : Unit {0}} → l ≡ held 8 (hits v (graph_of x) frames n)
         → search_answer v x frames n work out ≡ value k
         → l ≡ search_tokens v x frames n work out t
     unfolding search_tokens found
@@ -95,13 +95,13 @@ module _ (v x work : List ℕ) where
     unfolding search_tokens found
     found_none e = rw e
 
-    pub call-clear : {W k : ℕ} {t : List (List ℕ)} {b : List ℕ} {a : Answer ℕ} → Passed v x work W → Vertices x t
+    pub call-clear : {W : ℕ} {k : Unit {0}} {t : List (List ℕ)} {b : List ℕ} {a : Answer (Unit {0})} → Passed v x work W → Vertices x t
         → b ≡ cleared work
-        → a ≡ unless (call_rows v frames n out) 0 → a ≡ value k → Called v x frames n t b
+        → a ≡ unless (call_rows v frames n out) tt → a ≡ value k → Called v x frames n t b
     unfolding call_rows bad_count
     call-clear {k = k} p o z c e =
         let q = none-parts (frame_rows v frames) (on Count (bad_count n) ∷ on Output (ltb (length out) (8 * n)) ∷ [])
-        (value-passed {A = ℕ} (call_rows v frames n out) 0 k (sym c ∙ e)).0 in
+        (value-passed {A = Unit {0}} (call_rows v frames n out) tt k (sym c ∙ e)).0 in
         let s = none-says (on Count (bad_count n) ∷ on Output (ltb (length out) (8 * n)) ∷ []) q.1 in
         let l = bounds 1 8 n (not-false _ s.0) in
         record {

@@ -11,7 +11,8 @@ use crate::frames::all_frames;
 use crate::store::{copy_place, offer};
 use checking::{ARCS_AT, FIRST_SLOT, PATHS};
 use decoder::token::LIFT;
-use endian::u16_at;
+use endian::{u16_at, u16_of};
+use lexicon::list_at;
 
 // The increment of the arc to the sink, if there is one: the path counts of the successors stored before it.
 fn last_increment(lexicon: &[u8], vertices: &[[u32; 4]; 402], node: usize) -> Option<u32>
@@ -19,17 +20,13 @@ fn last_increment(lexicon: &[u8], vertices: &[[u32; 4]; 402], node: usize) -> Op
     ensures { result ≡ last_arc (graph_of lexicon.now) node }
 {
     let sink = u16_at(lexicon, 0) as usize + 1;
-    let start = vertices[node][ARCS_AT] as usize;
-    let stop = start + 2 + 2 * (u16_at(lexicon, start) as usize);
-    let mut at = start + 2;
     let mut increment = 0;
-    while at < stop {
-        let next = u16_at(lexicon, at) as usize;
+    for &[lo, hi] in list_at(lexicon, vertices[node][ARCS_AT] as usize) {
+        let next = u16_of(lo, hi) as usize;
         if next == sink {
             return Some(increment);
         }
         increment += vertices[next][PATHS];
-        at += 2;
     }
     None
 }

@@ -28,10 +28,10 @@ fn has_bad_frames(symbols: u8, frames: &[u8]) -> bool
     frames.iter().any(|symbol| symbols <= *symbol)
 }
 
-// The first row that applies, or 0.
-pub(crate) fn judge_call(voice: &[u8], frames: &[u8], n: u32, out: &[u8]) -> Result<u32, Refusal>
+// The first row that applies, if one does.
+pub(crate) fn judge_call(voice: &[u8], frames: &[u8], n: u32, out: &[u8]) -> Result<(), Refusal>
     requires { voice_verdict voice.now ≡ well_formed }
-    ensures { answer_of result ≡ unless (call_rows voice.now frames.now n out.now) 0 }
+    ensures { answer_of result ≡ unless (call_rows voice.now frames.now n out.now) tt }
 {
     if has_bad_frames(voice[symbols_at(voice)], frames) {
         return Err(Refusal::Frames);
@@ -42,5 +42,5 @@ pub(crate) fn judge_call(voice: &[u8], frames: &[u8], n: u32, out: &[u8]) -> Res
     if out.len() < 8 * (n as usize) {
         return Err(Refusal::Output);
     }
-    Ok(0)
+    Ok(())
 }

@@ -26,8 +26,8 @@ mod store;
 mod tokens;
 mod turns;
 
-// Finds the n best words: answers 0 and puts them in tokens, best first, with no token after them; or answers the
-// first refusal that applies to decoding, and leaves tokens as they are. Of the output, which decoding writes later, it
+// Finds the n best words and puts them in tokens, best first, with no token after them; or answers the first refusal
+// that applies to decoding, and leaves tokens as they are. Of the output, which decoding writes later, it
 // looks at the length alone.
 pub fn search(
     voice: &[u8],
@@ -37,7 +37,7 @@ pub fn search(
     work: &mut [u8],
     out: &[u8],
     tokens: &mut [u64; 8],
-) -> Result<u32, Refusal>
+) -> Result<(), Refusal>
     ensures result_value { answer_of result ≡ search_answer voice.now lexicon.now frames.now n
         work.old out.now }
     ensures work_after { work.new ≡ decode_work voice.now lexicon.now frames.now n
@@ -46,14 +46,8 @@ pub fn search(
         n work.old out.now tokens.old }
 {
     let mut vertices = [[0u32; 4]; 402];
-    let mut answer = open(voice, lexicon, work, &mut vertices);
-    let Ok(_) = answer else {
-        return answer;
-    };
-    answer = judge_call(voice, frames, n, out);
-    let Ok(_) = answer else {
-        return answer;
-    };
+    open(voice, lexicon, work, &mut vertices)?;
+    judge_call(voice, frames, n, out)?;
     let count = n as usize;
     let slots = find_slots(voice, lexicon, count, &mut vertices);
     // a store of n tokens a place, so of at most 8 * 8 * 1,000 bytes, which the work space has; checking left it clear,
@@ -68,5 +62,5 @@ pub fn search(
         &mut work[..bytes],
     );
     zero(&mut work[..bytes]);
-    answer
+    Ok(())
 }

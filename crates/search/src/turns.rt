@@ -3,7 +3,6 @@
 // root is vertex 0 (`true`), its slot 0 means nothing, and what its arcs score is `bias`, the number of the score 0. A
 // contract that begins with ((t : ..) → ..) speaks of what is known before the call by the record t.
 ghost use Rattle.std.specs.Prelude.{◌≡◌, true, false, suc, ◌+◌, ◌*◌, ◌≤◌, ◌<◌, length, get_or};
-ghost use Rattle.endian.specs.Bytes.{u16};
 ghost use Rattle.graph.specs.Graph.{graph_of};
 ghost use Rattle.decoder.specs.Score.{bias};
 ghost use Rattle.storing.specs.Slots.{slots};
@@ -20,14 +19,7 @@ use checking::{ARCS_AT, EMISSION, FIRST_SLOT, PATHS};
 use decoder::score::{BIAS, Score};
 use decoder::token::{LIFT, Token, UNIT};
 use endian::u16_of;
-
-// The number at an offset inside the image.
-fn number_at(lexicon: &[u8], at: usize) -> usize
-    requires { at + 2 ≤ length lexicon.now }
-    ensures { result ≡ u16 lexicon.now at }
-{
-    u16_of(lexicon[at], lexicon[at + 1]) as usize
-}
+use lexicon::list_at;
 
 // Passes a node's tokens on over one arc, to the first state of vertex t: the move scores the link of the letter that
 // is left, and the emission of the one that is entered is added.
@@ -81,15 +73,11 @@ fn pass_on(
     if link.is_impossible() {
         return;
     }
-    let start = vertices[node][ARCS_AT] as usize;
-    let stop = start + 2 + 2 * number_at(lexicon, start);
-    let mut at = start + 2;
     let mut down = LIFT;
-    while at < stop {
-        let t = number_at(lexicon, at);
+    for &[lo, hi] in list_at(lexicon, vertices[node][ARCS_AT] as usize) {
+        let t = u16_of(lo, hi) as usize;
         pass_over(n, vertices, link, from, t, down, store);
         down += vertices[t][PATHS] as u64;
-        at += 2;
     }
 }
 
@@ -114,15 +102,11 @@ pub(crate) fn enter_nodes(lexicon: &[u8], n: usize, vertices: &[[u32; 4]; 402], 
     ensures { (t : PassingOn lexicon.now n vertices.now bias 0 true 0
         store.old) → PassedOn t store.new }
 {
-    let start = vertices[0][ARCS_AT] as usize;
-    let stop = start + 2 + 2 * number_at(lexicon, start);
-    let mut at = start + 2;
     let mut increment = 0;
-    while at < stop {
-        let t = number_at(lexicon, at);
+    for &[lo, hi] in list_at(lexicon, vertices[0][ARCS_AT] as usize) {
+        let t = u16_of(lo, hi) as usize;
         enter_node(n, vertices, t, increment, store);
         increment += vertices[t][PATHS];
-        at += 2;
     }
 }
 
