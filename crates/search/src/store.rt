@@ -14,16 +14,21 @@ fn position(part: &[u8], n: usize, token: Token) -> Option<usize>
     ensures { MatchOption result (position token.0 (slots n 0 part.now) ≡ n) (λ k. (k < n)
         × (position token.0 (slots n 0 part.now) ≡ k)) }
 {
-    for k in 0..n {
+    let mut k = 0;
+    // a loop that breaks with the position: a form that docs/SPECIFICATION.md names
+    loop {
+        if k == n {
+            break None;
+        }
         let held = token_at(part, k);
         if token.outranks(held) {
-            return Some(k);
+            break Some(k);
         }
         if held.has_code_of(token) {
-            return None;
+            break None;
         }
+        k += 1;
     }
-    None
 }
 
 // Puts a token into a slot and carries those from there on down by one, up to one of its code or an empty slot; the

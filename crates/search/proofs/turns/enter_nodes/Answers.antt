@@ -1,6 +1,6 @@
 -- `turns::enter_nodes` meets its contract, as `pass_on` does; the path counts that are added up are those of the root's
 -- successors, which are few. Assumes nothing.
-use Prim.Native.Nat.{ℕ, ◌+◌, ◌*◌, ◌≤◌}
+use Prim.Native.Nat.{ℕ, ◌+◌, ◌*◌, ◌≤◌, ◌<◌}
 use mathlib.Core.Path.{◌≡◌, refl, ◌∙◌}
 use mathlib.Core.Bool.{true}
 use mathlib.Core.List.{List}
@@ -15,26 +15,39 @@ use Rattle.storing.proofs.PassingOn.{root_few, passing_next, passing_done}
 use Rattle.search.proofs.Listed.{number-here, before-end, at-end, first-arc, next_arc}
 use Rattle.search.proofs.Sums.{bytes-before, vertex-below, code_fits}
 use Rattle.search.proofs.turns.enter_nodes.Goals as goal
+use Rattle.search.proofs.turns.enter_nodes.Goals.{After-u16_of-t}
+
+-- the arc whose turn it is
+module _ (c : After-u16_of-t) where
+  abbrev first-at : ℕ
+  first-at = arcs_in c.args.vertices.now 0
+
+  inside : first-at + 2 + 2 * c.loop-lo.lo-index < first-at + 2 + 2 * u16 c.args.lexicon.now first-at
+  inside =
+      let p = c.list_at-lo-items in
+      before-end (list-of c.requires) p.result.now p.ensures _ c.loop-lo-test.true
+
+  number : c.u16_of-t.result ≡ u16 c.args.lexicon.now (first-at + 2 + 2 * c.loop-lo.lo-index)
+  number =
+      let p = c.list_at-lo-items in
+      c.u16_of-t.ensures ∙ number-here (list-of c.requires) p.result.now p.ensures _ c.loop-lo-test.true
+
+  leads : c.u16_of-t.result ≤ 401
+  leads = successor_few c.requires (c.loop-lo.invariant c.requires) inside number
 
 pub loop-lo-init : goal.loop-lo-init
 loop-lo-init c = λ t. rw first-arc (passing_start t)
 
 pub enter_node-requires : goal.enter_node-requires
 enter_node-requires c =
-    let t = c.requires in
-    let p = c.list_at-lo-items in
-    let k = c.loop-lo.lo-index in
-    left_arc t (c.loop-lo.invariant t) (before-end (list-of t) p.result.now p.ensures k c.loop-lo-test.true)
-    (c.u16_of-t.ensures ∙ number-here (list-of t) p.result.now p.ensures k c.loop-lo-test.true)
+    let d = (goal.at.enter_node-requires c).After-u16_of-t in
+    left_arc c.requires (c.loop-lo.invariant c.requires) (inside d) (number d)
 
 pub loop-lo-preserved : goal.loop-lo-preserved
 unfolding source
 loop-lo-preserved c = λ t.
-    let p = c.list_at-lo-items in
-    let k = c.loop-lo.lo-index in
-    let q = passing_next t (c.loop-lo.invariant t)
-    (before-end (list-of t) p.result.now p.ensures k c.loop-lo-test.true)
-    (c.u16_of-t.ensures ∙ number-here (list-of t) p.result.now p.ensures k c.loop-lo-test.true)
+    let d = (goal.at.loop-lo-preserved c).After-u16_of-t in
+    let q = passing_next t (c.loop-lo.invariant t) (inside d) (number d)
     c.enter_node.ensures refl c.enter_node.auto.store in
     let e : lift + c.loop-lo.increment + paths_in c.args.vertices.now c.u16_of-t.result
     ≡ lift + (c.loop-lo.increment + paths_in c.args.vertices.now c.u16_of-t.result) = omega arith in
@@ -50,29 +63,13 @@ returns c = λ t.
 
 pub offset_bounds-vertices-t : goal.offset_bounds-vertices-t
 offset_bounds-vertices-t c =
-    let t = c.requires in
-    let p = c.list_at-lo-items in
-    let k = c.loop-lo.lo-index in
-    let h = successor_few t (c.loop-lo.invariant t)
-    (before-end (list-of t) p.result.now p.ensures k c.loop-lo-test.true)
-    (c.u16_of-t.ensures ∙ number-here (list-of t) p.result.now p.ensures k c.loop-lo-test.true) in
-    bytes-before _ 16 (vertex-below h) refl
+    bytes-before _ 16 (vertex-below (leads (goal.at.offset_bounds-vertices-t c).After-u16_of-t)) refl
 
 pub bounds-vertices-t : goal.bounds-vertices-t
-bounds-vertices-t c =
-    let t = c.requires in
-    let p = c.list_at-lo-items in
-    let k = c.loop-lo.lo-index in
-    vertex-below (successor_few t (c.loop-lo.invariant t)
-    (before-end (list-of t) p.result.now p.ensures k c.loop-lo-test.true)
-    (c.u16_of-t.ensures ∙ number-here (list-of t) p.result.now p.ensures k c.loop-lo-test.true))
+bounds-vertices-t c = vertex-below (leads (goal.at.bounds-vertices-t c).After-u16_of-t)
 
 pub overflow_add-increment : goal.overflow_add-increment
 overflow_add-increment c =
-    let t = c.requires in
-    let p = c.list_at-lo-items in
-    let k = c.loop-lo.lo-index in
+    let d = (goal.at.overflow_add-increment c).After-u16_of-t in
     code_fits _ _
-    (root_few t (c.loop-lo.invariant t) (before-end (list-of t) p.result.now p.ensures k c.loop-lo-test.true)
-    (c.u16_of-t.ensures ∙ number-here (list-of t) p.result.now p.ensures k c.loop-lo-test.true)
-    c.loop-lo.increment refl refl)
+    (root_few c.requires (c.loop-lo.invariant c.requires) (inside d) (number d) c.loop-lo.increment refl refl)
