@@ -11,6 +11,7 @@ ghost use Rattle.storing.specs.Stored.{Stored, PassingOn, PassedOn, Turn, TurnDo
 ghost use Rattle.storing.specs.Carrying.{Staying, Arc, Own, Renewing, Renewal, stayed, over_one, renewed_one};
 ghost use Rattle.storing.specs.Carrying.{renewed_all, renewal};
 
+use crate::arcs::arcs_at;
 use crate::letters::{LOOP, STEP};
 use crate::store::{insert, offer_from, shift};
 use crate::tokens::token_at;
@@ -19,7 +20,6 @@ use checking::{ARCS_AT, EMISSION, FIRST_SLOT, PATHS};
 use decoder::score::{BIAS, Score};
 use decoder::token::{LIFT, Token, UNIT};
 use endian::u16_of;
-use lexicon::list_at;
 
 // Passes a node's tokens on over one arc, to the first state of vertex t: the move scores the link of the letter that
 // is left, and the emission of the one that is entered is added.
@@ -74,7 +74,7 @@ fn pass_on(
         return;
     }
     let mut down = LIFT;
-    for &[lo, hi] in list_at(lexicon, vertices[node][ARCS_AT] as usize) {
+    for &[lo, hi] in arcs_at(lexicon, vertices[node][ARCS_AT] as usize) {
         let t = u16_of(lo, hi) as usize;
         pass_over(n, vertices, link, from, t, down, store);
         down += vertices[t][PATHS] as u64;
@@ -103,7 +103,7 @@ pub(crate) fn enter_nodes(lexicon: &[u8], n: usize, vertices: &[[u32; 4]; 402], 
         store.old) → PassedOn t store.new }
 {
     let mut increment = 0;
-    for &[lo, hi] in list_at(lexicon, vertices[0][ARCS_AT] as usize) {
+    for &[lo, hi] in arcs_at(lexicon, vertices[0][ARCS_AT] as usize) {
         let t = u16_of(lo, hi) as usize;
         enter_node(n, vertices, t, increment, store);
         increment += vertices[t][PATHS];
