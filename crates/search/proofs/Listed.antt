@@ -1,13 +1,10 @@
 -- A vertex's list as pairs of bytes, one for each arc: how many there are, and where each stands. Assumes nothing.
-use Rattle.std.proofs.Common.{ℕ, zero, suc, ◌+◌, ◌-◌, ◌*◌, ◌/◌, ◌≤◌, ◌<◌, ◌≡◌, ◌∙◌, List, ◌∷◌, [], refl, sym, ap, length, get_or, take, drop, arith}
-use Rattle.std.proofs.lemmas.List.{length-drop, get_or-drop}
-use Rattle.std.proofs.Math.Seq.{take_all}
-use Rattle.std.specs.Simd.{first_chunks}
+use Rattle.std.proofs.Common.{ℕ, zero, suc, ◌+◌, ◌*◌, ◌≤◌, ◌<◌, ◌≡◌, ◌∙◌, List, ◌∷◌, [], refl, sym, ap, length, get_or, arith}
 use native.Mathlib.Nat.{add_assoc, add-zero}
 use borrow.Author.Tests.{le-leb}
 use Rattle.endian.specs.Bytes.{u16, u16s}
 use Rattle.lexicon.specs.Lexicon.{listed, numbers_of}
-use Rattle.lexicon.proofs.Listed.{numbers_of_chunks, length-numbers, numbers-at, pair-number}
+use Rattle.lexicon.proofs.Listed.{length-numbers, numbers-at, pair-number}
 use Rattle.checking.proofs.Arcs.{ListThere}
 
 u16s-length : (x : List ℕ) (at n : ℕ) → length (u16s x at n) ≡ n
@@ -20,31 +17,6 @@ unfolding u16s
 u16s-at x at zero k h = absurd (omega arith)
 u16s-at x at (suc n) zero h = ap (u16 x) (omega arith)
 u16s-at x at (suc n) (suc k) h = u16s-at x (at + 2) n k (omega arith) ∙ ap (u16 x) (omega arith)
-
-u16s-drop : (x : List ℕ) (k at n : ℕ) → u16s (drop k x) at n ≡ u16s x (k + at) n
-unfolding u16s u16
-u16s-drop x k at zero = refl
-u16s-drop x k at (suc n) =
-    rw (get_or-drop k x at 0, get_or-drop k x (at + 1) 0, u16s-drop x k (at + 2) n, ← add_assoc k at 1,
-    ← add_assoc k at 2)
-
--- what stands behind the count, from which as many pairs are taken as it says
-abbrev pub rest : List ℕ → ℕ → List ℕ
-rest x at = take (length x - (at + 2)) (drop (at + 2) x)
-
-module _ (x : List ℕ) (at : ℕ) (t : at + 2 + 2 * u16 x at ≤ length x) where
-  behind : rest x at ≡ drop (at + 2) x
-  behind = take_all (length x - (at + 2)) (drop (at + 2) x) (omega (arith, length-drop (at + 2) x))
-
-  pub enough : {count : ℕ} → count ≡ u16 x at → count ≤ length (rest x at) / 2
-  enough e = rw behind (omega (arith, e, t, length-drop (at + 2) x))
-
-  pub listed-pairs : {count : ℕ} → count ≡ u16 x at
-      → numbers_of (take count (first_chunks 2 (length (rest x at) / 2) (rest x at))) ≡ listed x at
-  unfolding listed
-  listed-pairs {count} e =
-      rw (numbers_of_chunks count (length (rest x at) / 2) (rest x at) (enough e), behind, u16s-drop x (at + 2) 0 count,
-      add-zero (at + 2), e, le-leb (at + 2 + 2 * u16 x at) (length x) t)
 
 module _ {x : List ℕ} {at : ℕ} (t : ListThere x at) (pairs : List (List ℕ)) (e : numbers_of pairs ≡ listed x at) where
   numbers : numbers_of pairs ≡ u16s x (at + 2) (u16 x at)

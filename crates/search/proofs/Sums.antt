@@ -1,5 +1,5 @@
--- Sums that fit, each from few facts. `omega` reads all that is at hand, which is much in a proof about a long function,
--- so such a proof cites these. Assumes nothing.
+-- Sums that fit and measures that fall, each from few facts. `omega` reads all that is at hand, which is much in a
+-- proof about a long function, so such a proof cites these. Assumes nothing.
 use Prim.Native.Nat.{ℕ, ◌+◌, ◌-◌, ◌*◌, ◌<◌, ◌≤◌}
 use mathlib.Core.Bool.{true}
 use mathlib.Core.Path.{◌≡◌}
@@ -24,6 +24,26 @@ bytes-before x c {k} h e =
     let a : x ≤ k = omega arith in
     let b : c ≤ c = omega arith in
     omega (arith, mul-le-mul {n₂ = k} {m₂ = c} a b, leb-true (k * c) 65536 e)
+
+-- the next entry of a list of arcs
+pub arc-fits : (at : ℕ) {stop : ℕ} → at + 2 ≤ stop → stop ≤ 9204 → Fits w64 (at + 2)
+arc-fits at h f = omega arith
+
+pub arc_less : {at stop : ℕ} → at < stop → stop - (at + 2) < stop - at
+arc_less h = omega arith
+
+-- a list of k arcs at an offset of the image: where it begins, what follows its count, its bytes, its end
+pub list-fits : (at k : ℕ) → at + 2 + 2 * k ≤ 9204 → Fits w64 at
+list-fits at k h = omega arith
+
+pub arcs_fit : (at k : ℕ) → at + 2 + 2 * k ≤ 9204 → Fits w64 (at + 2)
+arcs_fit at k h = omega arith
+
+pub bytes_fit : (at k : ℕ) → at + 2 + 2 * k ≤ 9204 → Fits w64 (2 * k)
+bytes_fit at k h = omega arith
+
+pub end_fits : (at k : ℕ) → at + 2 + 2 * k ≤ 9204 → Fits w64 (at + 2 + 2 * k)
+end_fits at k h = omega arith
 
 -- a vertex, and the one after it
 pub vertex-below : {u : ℕ} → u ≤ 401 → u < 402

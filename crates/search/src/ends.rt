@@ -7,12 +7,12 @@ ghost use Rattle.decoder.specs.Decoding.{hits};
 ghost use Rattle.storing.specs.Held.{held};
 ghost use Rattle.search.specs.Running.{Arcs, last_arc, Ending, Ended, Run, Empty};
 
-use crate::arcs::arcs_at;
 use crate::frames::all_frames;
 use crate::store::{copy_place, offer};
 use checking::{ARCS_AT, FIRST_SLOT, PATHS};
 use decoder::token::LIFT;
 use endian::{u16_at, u16_of};
+use lexicon::list_at;
 
 // The increment of the arc to the sink, if there is one: the path counts of the successors stored before it.
 fn last_increment(lexicon: &[u8], vertices: &[[u32; 4]; 402], node: usize) -> Option<u32>
@@ -21,7 +21,7 @@ fn last_increment(lexicon: &[u8], vertices: &[[u32; 4]; 402], node: usize) -> Op
 {
     let sink = u16_at(lexicon, 0) as usize + 1;
     let mut increment = 0;
-    for &[lo, hi] in arcs_at(lexicon, vertices[node][ARCS_AT] as usize) {
+    for &[lo, hi] in list_at(lexicon, vertices[node][ARCS_AT] as usize) {
         let next = u16_of(lo, hi) as usize;
         if next == sink {
             return Some(increment);

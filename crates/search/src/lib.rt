@@ -16,7 +16,6 @@ use crate::places::find_slots;
 use call::{Refusal, zero};
 use checking::open;
 
-mod arcs;
 mod ends;
 mod frames;
 mod gains;

@@ -411,6 +411,9 @@ module _ {x : List ℕ} {n : ℕ} {vertices : List (List ℕ)} {link w : ℕ} {r
       above = L.above;
     }
 
+    pub next_there : at < stop → at + 2 ≤ length x
+    next_there h = omega (arith, (arc-next L.sums.arcs h).room, L.sums.arcs.there)
+
     module _ (h : at < stop) {u : ℕ} (e : u ≡ u16 x at) where
       pub next : ArcNext x w at stop L.sums.later
       next = arc-next L.sums.arcs h

@@ -36,11 +36,11 @@ module _ (c : After-u16_of-next) where
 
   inside : here < arcs_in c.args.vertices.now c.args.node + 2
       + 2 * u16 c.args.lexicon.now (arcs_in c.args.vertices.now c.args.node)
-  inside = let p = c.arcs_at-lo-items in before-end (list c.requires) p.result.now p.ensures _ c.loop-lo-test.true
+  inside = let p = c.list_at-lo-items in before-end (list c.requires) p.result.now p.ensures _ c.loop-lo-test.true
 
   number : c.u16_of-next.result ≡ u16 c.args.lexicon.now here
   number =
-      let p = c.arcs_at-lo-items in
+      let p = c.list_at-lo-items in
       c.u16_of-next.ensures ∙ number-here (list c.requires) p.result.now p.ensures _ c.loop-lo-test.true
 
   leads : c.u16_of-next.result < 402
@@ -78,7 +78,7 @@ loop-lo-preserved c =
 
 pub returns : goal.returns
 returns c =
-    let p = c.arcs_at-lo-items in
+    let p = c.list_at-lo-items in
     ahead_done c.requires.0 c.requires.1 c.loop-lo.invariant
     (at-end (list c.requires) p.result.now p.ensures _ c.loop-lo-test.false)
 
@@ -99,6 +99,3 @@ offset_bounds-vertices-next c = bytes-before _ 16 (leads (goal.at.offset_bounds-
 
 pub bounds-vertices-next : goal.bounds-vertices-next
 bounds-vertices-next c = leads (goal.at.bounds-vertices-next c).After-u16_of-next
-
-pub arcs_at-lo-items-requires : goal.arcs_at-lo-items-requires
-arcs_at-lo-items-requires c = (list c.requires).there

@@ -24,12 +24,12 @@ module _ (c : After-u16_of-t) where
 
   inside : first-at + 2 + 2 * c.loop-lo.lo-index < first-at + 2 + 2 * u16 c.args.lexicon.now first-at
   inside =
-      let p = c.arcs_at-lo-items in
+      let p = c.list_at-lo-items in
       before-end (list-of c.requires) p.result.now p.ensures _ c.loop-lo-test.true
 
   number : c.u16_of-t.result ≡ u16 c.args.lexicon.now (first-at + 2 + 2 * c.loop-lo.lo-index)
   number =
-      let p = c.arcs_at-lo-items in
+      let p = c.list_at-lo-items in
       c.u16_of-t.ensures ∙ number-here (list-of c.requires) p.result.now p.ensures _ c.loop-lo-test.true
 
   leads : c.u16_of-t.result ≤ 401
@@ -58,7 +58,7 @@ shape_of-store c = (c.loop-lo.invariant c.requires).long
 
 pub returns : goal.returns
 returns c = λ t.
-    let p = c.arcs_at-lo-items in
+    let p = c.list_at-lo-items in
     passing_done t (c.loop-lo.invariant t) (at-end (list-of t) p.result.now p.ensures _ c.loop-lo-test.false)
 
 pub offset_bounds-vertices-t : goal.offset_bounds-vertices-t
@@ -73,6 +73,3 @@ overflow_add-increment c =
     let d = (goal.at.overflow_add-increment c).After-u16_of-t in
     code_fits _ _
     (root_few c.requires (c.loop-lo.invariant c.requires) (inside d) (number d) c.loop-lo.increment refl refl)
-
-pub arcs_at-lo-items-requires : goal.arcs_at-lo-items-requires
-arcs_at-lo-items-requires c = (list-of c.requires).there

@@ -1,12 +1,14 @@
-use Rattle.std.proofs.Common.{◌+◌, ◌*◌, false, get_or}
-use Rattle.endian.specs.Bytes.{u16}
-use Rattle.storing.specs.Places.{arcs_in}
+use Prim.Native.Nat.{◌-◌}
+use mathlib.Core.Bool.{false}
+use lib.ListN.{get_or}
 use Rattle.storing.specs.Stored.{PassingOn}
 use Rattle.storing.proofs.PassingOn.{PassingLeft}
 use Rattle.search.proofs.turns.pass_on.Given as goal
 
-abbrev pub invariant-loop-lo : goal.invariant-loop-lo
-invariant-loop-lo l =
+abbrev pub invariant-loop-at : goal.invariant-loop-at
+invariant-loop-at l =
     (t : PassingOn l.lexicon l.n l.vertices (get_or l.links l.letter 0) l.node false l.from l.initial.store)
-    → PassingLeft t (arcs_in l.vertices l.node + 2 + 2 * l.lo-index)
-    (arcs_in l.vertices l.node + 2 + 2 * u16 l.lexicon (arcs_in l.vertices l.node)) l.down l.store
+    → PassingLeft t l.at l.stop l.down l.store
+
+abbrev pub decreases-loop-at : goal.decreases-loop-at
+decreases-loop-at l = l.stop - l.at
