@@ -86,7 +86,7 @@ fn pass_on(
     let stop = start + 2 + 2 * number_at(lexicon, start);
     let mut at = start + 2;
     let mut down = LIFT;
-    // a `for` over the pairs of `list_at`, or over a slice of pairs that asks less, takes a tenth more instructions a call
+    // a `for` over the pairs of `list_at`, or over pairs that nothing tests, takes a tenth more instructions a call
     while at < stop {
         let t = number_at(lexicon, at);
         pass_over(n, vertices, link, from, t, down, store);
