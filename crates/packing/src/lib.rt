@@ -12,8 +12,8 @@ ghost use Rattle.packing.specs.Packing.{number_of, to_bits, packed, packed_size,
 ghost use Rattle.packing.specs.Width.{width, width_answer};
 ghost use Rattle.packing.specs.Offsets.{overlay, CodeOffset, CodeLimits, PackedFits, RightSize, CodeInBytes};
 
-use crate::bits::{code_at, put_code};
-use call::{Refusal, inside, zero};
+use crate::bits::{BitOffset, code_at, put_code};
+use call::{Refusal, inside};
 use endian::u32_bytes;
 
 mod bits;
@@ -32,10 +32,7 @@ fn width_of(words: u32) -> u32
     requires { 1 ≤ words }
     ensures { result ≡ width words }
 {
-    if words == 1 {
-        return 0;
-    }
-    32 - u32::leading_zeros(words - 1)
+    u32::BITS - (words - 1).leading_zeros()
 }
 
 // The same for any number of words; 9 for 0 and above 1,048,576.
@@ -46,13 +43,6 @@ pub fn width(words: u32) -> Result<u32, Refusal>
         return Err(Refusal::WordCount);
     }
     Ok(width_of(words))
-}
-
-// Where a code begins.
-#[derive(Drop)]
-struct BitOffset {
-    byte: usize,
-    bit: u32,
 }
 
 // Code i begins at bit i × b, in byte i × b / 8; nothing else here knows where codes begin.
@@ -72,21 +62,14 @@ fn packed_size(n: usize, b: u32) -> usize
     requires { CodeLimits n b }
     ensures { result ≡ packed_size b n }
 {
-    (n * (b as usize) + 7) / 8
+    (n * (b as usize)).div_ceil(8)
 }
 
 // Row 15, for codes that are given.
 fn has_bad_code(words: u32, codes: &[u32]) -> bool
     ensures { result ≡ any (bad_code words) codes.now }
 {
-    let mut i = 0;
-    while i < codes.len() {
-        if words <= codes[i] {
-            return true;
-        }
-        i += 1;
-    }
-    false
+    codes.iter().any(|code| words <= *code)
 }
 
 // The rows of packing in the table's order, all judged before a byte is written, or the bytes that the codes take.
@@ -114,7 +97,7 @@ fn zero_first(out: &mut [u8], n: usize)
     requires { n ≤ length out.old }
     ensures { out.new ≡ zeroed n out.old }
 {
-    zero(&mut out[0..n]);
+    out[..n].fill(0);
 }
 
 // Packs codes that were judged.
@@ -123,11 +106,8 @@ fn put_codes(out: &mut [u8], b: u32, codes: &[u32])
     ensures { out.new ≡ packed b codes.now ++ drop (packed_size b (length codes.now)) out.old }
 {
     zero_first(out, packed_size(codes.len(), b));
-    let mut i = 0;
-    while i < codes.len() {
-        let at = offset_of(i, b);
-        put_code(out, at.byte, at.bit, b, codes[i]);
-        i += 1;
+    for (i, code) in codes.iter().enumerate() {
+        put_code(out, offset_of(i, b), b, *code);
     }
 }
 
@@ -151,7 +131,7 @@ fn is_bad_packed(n: usize, packed: &[u8], b: u32) -> bool
     }
     let end = offset_of(n, b);
     let padding = (packed.len() - end.byte) as u32 * 8 - end.bit;
-    code_at(packed, end.byte, end.bit, padding) != 0
+    code_at(packed, end, padding) != 0
 }
 
 // Code i of those that the bytes hold.
@@ -159,8 +139,7 @@ fn unpacked_code(packed: &[u8], i: usize, b: u32) -> u32
     requires { CodeInBytes i b packed.now }
     ensures { result ≡ number_of (take b (drop (i * b) (to_bits packed.now))) }
 {
-    let at = offset_of(i, b);
-    code_at(packed, at.byte, at.bit, b)
+    code_at(packed, offset_of(i, b), b)
 }
 
 // Row 15, for codes that are still packed, since nothing may be written yet.
@@ -168,12 +147,10 @@ fn has_bad_unpacked(words: u32, n: usize, packed: &[u8], b: u32) -> bool
     requires { RightSize b n packed.now }
     ensures { result ≡ any (bad_code words) (unpacked b n packed.now) }
 {
-    let mut i = 0;
-    while i < n {
+    for i in 0..n {
         if words <= unpacked_code(packed, i, b) {
             return true;
         }
-        i += 1;
     }
     false
 }
@@ -207,11 +184,7 @@ fn put_u32(out: &mut [u8], at: usize, v: u32)
     requires { at + 4 ≤ length out.old }
     ensures { out.new ≡ overlay at (u32_bytes v) out.old }
 {
-    let bytes = u32_bytes(v);
-    out[at] = bytes[0];
-    out[at + 1] = bytes[1];
-    out[at + 2] = bytes[2];
-    out[at + 3] = bytes[3];
+    out[at..at + 4].copy_from_slice(&u32_bytes(v));
 }
 
 // Unpacks codes that were judged.
@@ -219,10 +192,8 @@ fn put_unpacked(out: &mut [u8], n: usize, packed: &[u8], b: u32)
     requires { RightSize b n packed.now × (n * 4 ≤ length out.old) }
     ensures { out.new ≡ overlay 0 (flat_map u32_bytes (unpacked b n packed.now)) out.old }
 {
-    let mut i = 0;
-    while i < n {
+    for i in 0..n {
         put_u32(out, i * 4, unpacked_code(packed, i, b));
-        i += 1;
     }
 }
 
