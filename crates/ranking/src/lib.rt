@@ -10,23 +10,13 @@ use call::Refusal;
 // The most frames that are decoded.
 pub const FRAMES: u32 = 1000;
 
-// A number without its sign, which for the lowest i32 is no i32.
-fn without_sign(x: i32) -> u32
-    ensures { result ≡ nat_abs x }
-{
-    if x < 0 {
-        return ((-1 - x) as u32) + 1;
-    }
-    x as u32
-}
-
 // A number with the sign of x. The minus sign is put on in 64 bits, since 2^31 is no i32 and -2^31 is one.
 fn with_sign(x: i32, number: u32) -> i32
     requires { number ≤ nat_abs x }
     ensures { result ≡ with_sign x number }
 {
     if x < 0 {
-        return (0 - (number as i64)) as i32;
+        return -i64::from(number) as i32;
     }
     number as i32
 }
@@ -35,13 +25,10 @@ fn with_sign(x: i32, number: u32) -> i32
 pub fn mean(score: i32, frames: u32) -> Result<i32, Refusal>
     ensures { answer_of result ≡ mean_answer score frames }
 {
-    if frames == 0 {
+    if frames == 0 || FRAMES < frames {
         return Err(Refusal::Frames);
     }
-    if FRAMES < frames {
-        return Err(Refusal::Frames);
-    }
-    let number = without_sign(score);
+    let number = score.unsigned_abs();
     let quotient = number / frames;
     // 1 more tips an exact half only, and there an odd quotient gives way to the next number
     let odd = quotient % 2;
