@@ -2,7 +2,7 @@
 -- exact half to the even neighbour. Assumes nothing.
 use Rattle.std.specs.Prelude.{ℕ, ◌+◌, ◌*◌, ◌/◌, ◌%◌, cond, [], ◌∷◌, ltb, ℤ, pos, negsuc, neg_ℤ, nat_abs}
 use Rattle.call.specs.declared.Refusal.TheVariants.{Frames}
-use Rattle.call.specs.Table.{Answer, value, refused, on, unless}
+use Rattle.call.specs.Table.{Answer, on, unless}
 use Rattle.call.specs.Limits.{bad_frame_count}
 
 -- the nearest whole number to n over T, from T = 1 on: n / T where the remainder is less than half of T, the next
