@@ -32,6 +32,10 @@ fn width_of(words: u32) -> u32
     requires { 1 ≤ words }
     ensures { result ≡ width words }
 {
+    // 1 apart and all others by leading zeros: a form that docs/SPECIFICATION.md names
+    if words == 1 {
+        return 0;
+    }
     u32::BITS - (words - 1).leading_zeros()
 }
 

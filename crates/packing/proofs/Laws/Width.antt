@@ -61,6 +61,10 @@ width-least W h = go (width W) (width_is W).0 (width_is W).1
     go zero p q = omega arith
     go (suc b) p q = let s : suc b - 1 ≡ b = omega arith in let e = pow-succ' 2 b in rw s (omega arith)
 
+pub width_one : width 1 ≡ 0
+unfolding width binary_length digits
+width_one = refl
+
 -- W is at most 1,048,576, so a code takes at most 20 bits
 pub width-limit : (W : ℕ) → W ≤ 1048576 → width W ≤ 20
 width-limit W h = go (dec_le (width W) 20)
