@@ -1,10 +1,12 @@
 -- Text put behind text is put as one text: how texts that are put one after another chain. Assumes nothing.
-use Prim.Native.Nat.{ℕ, ◌+◌, ◌≤◌}
+use Prim.Native.Nat.{ℕ, ◌+◌, ◌-◌, ◌≤◌}
 use mathlib.Core.Path.{◌≡◌, refl, sym, ap, ◌∙◌}
 use mathlib.Core.List.{List, [], ◌∷◌, ◌++◌, append_assoc}
+use native.Mathlib.Nat.{le-add_right}
 use native.Mathlib.Omega.{arith}
+use borrow.Rule.Slice.PartMut.{put_mid, Post-is}
 use lib.ListN.{length, take, drop, set, length-append}
-use lib.Seq.{length-take-le, take-length, take_at, drop-append-add, drop-drop, sets-eq, paste, paste-zero}
+use lib.Seq.{length-take-le, take-length, take_at, drop-append-add, drop-drop, sets-eq, paste-zero}
 use Rattle.report.specs.Text.{TextPut}
 
 -- no text
@@ -15,12 +17,14 @@ put-none at o = record { ends = omega arith; puts = paste-zero o at [] }
 pub put_one : (x at : ℕ) (o : List ℕ) → at + 1 ≤ length o → TextPut (x ∷ []) at o (set o at x) (at + 1)
 put_one x at o h = record { ends = refl; puts = sets-eq (x ∷ []) o at h }
 
--- a text that is copied whole
-pub put_copied : (text : List ℕ) (at i : ℕ) (o o' : List ℕ) → i ≡ length text → o' ≡ paste o at text i
-    → TextPut text at o o' (at + i)
-put_copied text at i o o' e p = record {
-  ends = ap (λ (k : ℕ). at + k) e;
-  puts = p ∙ ap (λ (k : ℕ). paste o at text k) e ∙ ap (λ (t : List ℕ). take at o ++ t ++ drop (at + length text) o) (take-length text);
+-- a text that is copied into its place
+pub put-part : (text : List ℕ) (at : ℕ) (o : List ℕ)
+    → TextPut text at o (put_mid at (at + length text - at) o text) (at + length text)
+put-part text at o = record {
+  ends = refl;
+  puts =
+      ap (λ (t : List ℕ). take at o ++ (text ++ t)) (Post-is at (at + length text) o (le-add_right at _))
+      ∙ sym (append_assoc (take at o) text (drop (at + length text) o));
 }
 
 module _ {a b : List ℕ} {at m e : ℕ} {o o₁ o₂ : List ℕ} where

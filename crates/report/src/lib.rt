@@ -3,19 +3,19 @@
 
 ghost use Rattle.std.specs.Prelude.{◌≡◌, ◌≤◌, length};
 ghost use mathlib.Core.List.{◌++◌, flat_map};
-ghost use Rattle.call.specs.Limits.{work_space};
 ghost use Rattle.graph.specs.Graph.{graph_of, word_count};
 ghost use Rattle.ranking.specs.Hits.{hits_read};
 ghost use Rattle.report.specs.Arcs.{arcs_text};
 ghost use Rattle.report.specs.Lines.{AcceptedArguments, HoldsHits, lent_answer};
-ghost use Rattle.report.specs.Page.{blank_page, Shows};
+ghost use Rattle.report.specs.Page.{Shows};
 ghost use Rattle.report.specs.Text.{TextPut};
 ghost use Rattle.report.specs.Report.{first_line, hit_line, reported, report};
 
-use crate::input::{after_image, count, image};
+use crate::input::{count, cut_image};
 use crate::lines::put_lines;
 use crate::text::{put_first_line, put_refusal};
 use crate::vertices::put_arcs;
+use call::WORK_SPACE;
 use checking::check;
 use decoding::decode;
 use packing::width;
@@ -25,25 +25,11 @@ mod lines;
 mod text;
 mod vertices;
 
-// What hits prints, and how many bytes of it there are.
+// What a program prints, and how many bytes of it there are.
 #[derive(Clone, Copy)]
-pub struct Page {
-    pub text: [u8; 640],
+pub struct Page<const N: usize> {
+    pub text: [u8; N],
     pub length: usize,
-}
-
-// A page with nothing on it.
-fn blank_page() -> [u8; 640]
-    ensures { result ≡ blank_page 640 }
-{
-    [0; 640]
-}
-
-// The least work space that decoding takes; what it holds does not matter.
-fn work_space() -> [u8; 64000]
-    ensures { work_space ≡ length result }
-{
-    [0; 64000]
 }
 
 // Line 1 and the lines of the k hits.
@@ -83,7 +69,7 @@ fn put_report(voice: &[u8], lexicon: &[u8], frames: &[u8], n: u32, out: &mut [u8
         (lent_answer voice.now lexicon.now frames.now n)) 0
         out.old out.new result }
 {
-    let mut work = work_space();
+    let mut work = [0; WORK_SPACE];
     let mut list = [0u8; 64];
     let answer = decode(voice, lexicon, frames, n, &mut work, &mut list);
     match answer {
@@ -96,44 +82,28 @@ fn put_report(voice: &[u8], lexicon: &[u8], frames: &[u8], n: u32, out: &mut [u8
             &mut work,
             out,
         ),
-        Err(refusal) => put_refusal(refusal.number() as u32, out, 0),
+        Err(refusal) => put_refusal(refusal, out, 0),
     }
 }
 
 // The whole program on slices: cuts the input, decodes, and prints.
-pub fn report(input: &[u8]) -> Page
+pub fn report(input: &[u8]) -> Page<640>
     ensures { Shows 640 (report input.now) result.text result.length }
 {
-    let voice = image(input);
-    let after_voice = after_image(input);
-    let lexicon = image(after_voice);
-    let rest = after_image(after_voice);
+    let (voice, after_voice) = cut_image(input);
+    let (lexicon, rest) = cut_image(after_voice);
     let n = count(rest);
     let frames = input::frames(rest);
-    let mut text = blank_page();
+    let mut text = [0; 640];
     let length = put_report(voice, lexicon, frames, n, &mut text);
     Page { text, length }
 }
 
-// What arcs prints, and how many bytes of it there are.
-#[derive(Clone, Copy)]
-pub struct ArcsPage {
-    pub text: [u8; 60000],
-    pub length: usize,
-}
-
-// A page with nothing on it.
-fn blank_arcs() -> [u8; 60000]
-    ensures { result ≡ blank_page 60000 }
-{
-    [0; 60000]
-}
-
 // The whole program arcs: the lines of a lexicon image.
-pub fn arcs_page(lexicon: &[u8]) -> ArcsPage
+pub fn arcs_page(lexicon: &[u8]) -> Page<60000>
     ensures { Shows 60000 (arcs_text lexicon.now) result.text result.length }
 {
-    let mut text = blank_arcs();
+    let mut text = [0; 60000];
     let length = put_arcs(lexicon, &mut text);
-    ArcsPage { text, length }
+    Page { text, length }
 }

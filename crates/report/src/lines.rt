@@ -3,7 +3,8 @@ ghost use Rattle.std.specs.Prelude.{◌≡◌, ◌+◌, ◌*◌, ◌≤◌, ◌<
 ghost use mathlib.Core.List.{flat_map};
 ghost use Rattle.endian.specs.Bytes.{i32, u32};
 ghost use Rattle.graph.specs.Graph.{graph_of, word_count};
-ghost use Rattle.ranking.specs.Hits.{hit, hits_read};
+ghost use Rattle.ranking.specs.Hits as spec;
+ghost use Rattle.ranking.specs.Hits.{hits_read};
 ghost use Rattle.report.specs.Lines.{AcceptedArguments, HoldsHits};
 ghost use Rattle.report.specs.Text.{TextPut};
 ghost use Rattle.report.specs.Report.{hit_line};
@@ -13,19 +14,24 @@ use codes::code_to_word;
 use endian::{i32_of, u32_of};
 use ranking::mean;
 
-// A hit is i32 score, u32 code.
-fn score_at(list: &[u8], at: usize) -> i32
-    requires { at + 4 ≤ length list.now }
-    ensures { result ≡ i32 list.now at }
-{
-    i32_of(list[at], list[at + 1], list[at + 2], list[at + 3])
+// A word that was heard, by its code, and its score.
+#[derive(Clone, Copy)]
+struct Hit {
+    score: i32,
+    code: u32,
 }
 
-fn code_at(list: &[u8], at: usize) -> u32
-    requires { at + 4 ≤ length list.now }
-    ensures { result ≡ u32 list.now at }
+// The hit at an offset: i32 score, u32 code.
+fn hit_at(list: &[u8], at: usize) -> Hit
+    requires { at + 8 ≤ length list.now }
+    ensures score { result.score ≡ i32 list.now at }
+    ensures code { result.code ≡ u32 list.now (at + 4) }
 {
-    u32_of(list[at], list[at + 1], list[at + 2], list[at + 3])
+    let next = at + 4;
+    Hit {
+        score: i32_of(list[at], list[at + 1], list[at + 2], list[at + 3]),
+        code: u32_of(list[next], list[next + 1], list[next + 2], list[next + 3]),
+    }
 }
 
 // The line of one hit; what is ready here is never refused.
@@ -33,27 +39,26 @@ fn put_hit(
     voice: &[u8],
     lexicon: &[u8],
     frames: u32,
-    code: u32,
-    score: i32,
+    hit: Hit,
     work: &mut [u8],
     out: &mut [u8],
     at: usize,
 ) -> usize
     requires accepted_arguments { AcceptedArguments voice.now lexicon.now frames work.old }
-    requires code_bound { code < word_count (graph_of lexicon.now) }
+    requires code_bound { hit.code < word_count (graph_of lexicon.now) }
     requires at_in_bounds { at + 68 ≤ length out.old }
-    ensures { TextPut (hit_line voice.now (graph_of lexicon.now) frames (hit score code)) at
+    ensures { TextPut (hit_line voice.now (graph_of lexicon.now) frames (spec.hit hit.score hit.code)) at
         out.old out.new result }
 {
     let mut word = [0u8; 32];
-    let Ok(size) = code_to_word(voice, lexicon, code, work, &mut word) else {
+    let Ok(size) = code_to_word(voice, lexicon, hit.code, work, &mut word) else {
         return at;
     };
-    let Ok(average) = mean(score, frames) else {
+    let Ok(average) = mean(hit.score, frames) else {
         return at;
     };
     let end = size as usize;
-    put_hit_line(code, score, average, &word[0..end], out, at)
+    put_hit_line(hit.code, hit.score, average, &word[..end], out, at)
 }
 
 // The lines of k hits, in their order.
@@ -76,12 +81,8 @@ pub(crate) fn put_lines(
         out.old out.new result }
 {
     let mut end = at;
-    let mut i = 0;
-    while i < (k as usize) {
-        let score = score_at(list, 8 * i);
-        let code = code_at(list, 8 * i + 4);
-        end = put_hit(voice, lexicon, frames, code, score, work, out, end);
-        i += 1;
+    for i in 0..k as usize {
+        end = put_hit(voice, lexicon, frames, hit_at(list, 8 * i), work, out, end);
     }
     end
 }

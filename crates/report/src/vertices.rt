@@ -8,7 +8,7 @@ ghost use Rattle.lexicon.specs.Lexicon.{node_count, sink_of, arc_count, lexicon_
 ghost use Rattle.report.specs.Arcs.{spaced, letter_text, vertex_line, arcs_text};
 ghost use Rattle.report.specs.Text.{TextPut};
 
-use crate::text::{put_byte, put_decimal, put_labelled, put_refusal};
+use crate::text::{put_byte, put_labelled, put_number, put_refusal};
 use endian::u16_at;
 use lexicon::{judge, successors};
 
@@ -21,10 +21,8 @@ fn put_numbers(part: &[u8], out: &mut [u8], at: usize) -> usize
 {
     let count = part.len() / 2;
     let mut end = at;
-    let mut i = 0;
-    while i < count {
-        end = put_labelled(b" ", u16_at(part, 2 * i) as u32, out, end);
-        i += 1;
+    for i in 0..count {
+        end = put_labelled(b" ", u16_at(part, 2 * i), out, end);
     }
     end
 }
@@ -38,7 +36,7 @@ fn put_letter(lexicon: &[u8], vertex: usize, out: &mut [u8], at: usize) -> usize
     if vertex == 0 {
         return at;
     }
-    put_labelled(b" ", lexicon[1 + vertex] as u32, out, at)
+    put_labelled(b" ", lexicon[1 + vertex], out, at)
 }
 
 // The line of a vertex.
@@ -50,7 +48,7 @@ fn put_vertex(lexicon: &[u8], vertex: usize, out: &mut [u8], at: usize) -> usize
     ensures upper_bound { result ≤ at + 23 + 12 * arc_count lexicon.now vertex }
 {
     let part = successors(lexicon, vertex);
-    let mut end = put_decimal(vertex as u32, out, at);
+    let mut end = put_number(vertex as u32, out, at);
     end = put_letter(lexicon, vertex, out, end);
     end = put_byte(58, out, end);
     end = put_numbers(part, out, end);
@@ -66,10 +64,8 @@ fn put_vertices(lexicon: &[u8], out: &mut [u8]) -> usize
 {
     let nodes = u16_at(lexicon, 0) as usize;
     let mut end = 0;
-    let mut vertex = 0;
-    while vertex <= nodes {
+    for vertex in 0..nodes + 1 {
         end = put_vertex(lexicon, vertex, out, end);
-        vertex += 1;
     }
     end
 }
@@ -81,6 +77,6 @@ pub(crate) fn put_arcs(lexicon: &[u8], out: &mut [u8]) -> usize
 {
     match judge(lexicon, 256) {
         Ok(()) => put_vertices(lexicon, out),
-        Err(refusal) => put_refusal(refusal.number() as u32, out, 0),
+        Err(refusal) => put_refusal(refusal, out, 0),
     }
 }

@@ -3,7 +3,7 @@ use native.Mathlib.Omega.{arith}
 use Rattle.report.proofs.Putting.{put-more}
 use Rattle.report.proofs.text.put_labelled.Goals as goal
 
-pub returns : goal.returns
-returns c =
+pub returns-clause-text : goal.returns-clause-text
+returns-clause-text g c =
     let h = c.requires in
-    put-more (omega arith) c.put_bytes-end.ensures c.put_decimal.ensures
+    put-more (omega arith) c.put_bytes-end.ensures c.put_number.ensures.text

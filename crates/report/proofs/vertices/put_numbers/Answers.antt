@@ -1,7 +1,8 @@
--- `vertices::put_numbers` meets its contract: before each number those before it are put, of at most 11 bytes each. The
--- measure is the numbers left. Assumes nothing.
+-- `vertices::put_numbers` meets its contract: before each number those before it are put, of at most 11 bytes each. Assumes
+-- nothing.
 use native.Mathlib.Omega.{arith}
 use Rattle.report.proofs.Arcs.{numbers-start, numbers-next, numbers_end}
+use Rattle.report.proofs.Digits.{decimal-is}
 use Rattle.report.proofs.vertices.put_numbers.Goals as goal
 
 pub loop-i-init : goal.loop-i-init
@@ -14,8 +15,9 @@ put_labelled-end-requires c =
 
 pub loop-i-preserved : goal.loop-i-preserved
 loop-i-preserved c =
+    let number = rw (decimal-is c.u16_at.result (omega arith)) at c.put_labelled-end.ensures.text in
     numbers-next (omega (arith, c.requires)) c.loop-i.invariant c.loop-i-test.true c.u16_at.ensures (omega arith)
-    c.put_labelled-end.auto.out c.put_labelled-end.ensures
+    c.put_labelled-end.auto.out number
 
 pub returns : goal.returns
 returns c =

@@ -1,5 +1,5 @@
--- `vertices::put_vertices` meets its contract: before each vertex the lines of those below it are put. The measure is
--- the vertices left. Assumes nothing.
+-- `vertices::put_vertices` meets its contract: before each vertex the lines of those below it are put.
+-- Assumes nothing.
 use Prim.Native.Nat.{ℕ, ◌≤◌, ◌<◌}
 use mathlib.Core.Path.{◌≡◌}
 use mathlib.Core.List.{List}
@@ -22,7 +22,7 @@ pub put_vertex-end-requires : goal.put_vertex-end-requires
 put_vertex-end-requires c =
     let r = c.requires in
     let there =
-    up_to c.args.lexicon.now c.loop-vertex.vertex _ c.u16_at-nodes.ensures c.loop-vertex-test.true in record {
+    up_to c.args.lexicon.now c.loop-vertex.vertex _ c.u16_at-nodes.ensures (omega arith) in record {
       lexicon_value = r.lexicon_value;
       vertex_bound = there;
       vertex_in_bounds = line-room r.lexicon_value c.loop-vertex.invariant there r.in_bounds;
@@ -30,7 +30,7 @@ put_vertex-end-requires c =
 
 pub loop-vertex-preserved : goal.loop-vertex-preserved
 loop-vertex-preserved c =
-    let there = up_to c.args.lexicon.now c.loop-vertex.vertex _ c.u16_at-nodes.ensures c.loop-vertex-test.true in
+    let there = up_to c.args.lexicon.now c.loop-vertex.vertex _ c.u16_at-nodes.ensures (omega arith) in
     vertices-next c.requires.lexicon_value c.loop-vertex.invariant there c.put_vertex-end.auto.out
     c.put_vertex-end.ensures.text_put
     c.put_vertex-end.ensures.upper_bound
@@ -38,7 +38,7 @@ loop-vertex-preserved c =
 pub returns : goal.returns
 returns c =
     vertices-end c.loop-vertex.invariant
-    (beyond c.args.lexicon.now c.loop-vertex.vertex _ c.u16_at-nodes.ensures c.loop-vertex-test.false)
+    (beyond c.args.lexicon.now c.loop-vertex.vertex _ c.u16_at-nodes.ensures (omega arith))
 
 pub loop-vertex-init : goal.loop-vertex-init
 loop-vertex-init c = vertices-start
