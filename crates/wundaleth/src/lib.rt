@@ -28,10 +28,7 @@ fn signed_of(answer: Result<u32, Refusal>) -> i32
 {
     match answer {
         Ok(n) => n as i32,
-        Err(refusal) => {
-            let number = refusal.number() as i32;
-            0 - number
-        }
+        Err(refusal) => -i32::from(refusal.number()),
     }
 }
 
