@@ -1,6 +1,6 @@
 -- The vocabulary of the contracts of listing's private functions: the lines that a walk writes from a vertex on, and
 -- how many bytes they are. `Countable` is what a lookup asks too. No public contract cites it. Assumes nothing.
-use Rattle.std.specs.Prelude.{ℕ, ◌+◌, ◌≤◌, ◌≡◌, length, take, drop, get_or, ltb}
+use Rattle.std.specs.Prelude.{ℕ, ◌+◌, ◌≤◌, ◌<◌, ◌≡◌, length, take, drop, get_or, ltb}
 use mathlib.Core.List.{List, [], ◌∷◌, ◌++◌, map, flat_map, Memᴰ}
 use Rattle.endian.specs.Lists.{sum}
 use Rattle.call.specs.declared.Refusal.TheVariants.{Output}
@@ -33,6 +33,13 @@ pub record WalksFrom (v x : List ℕ) (vertices : List (List ℕ)) (u depth : �
   pub opened : OpenedImages v x vertices
   pub below : u ≤ node_count x
   pub fits : {s : ℕ} → Memᴰ s (successors x u) → Fits v (graph_of x) depth s
+
+-- the walk enters u, a node or the sink
+pub record Enters (v x : List ℕ) (vertices : List (List ℕ)) (u depth : ℕ) : Type 0 where
+  pub opened : OpenedImages v x vertices
+  pub above : 0 < u
+  pub bounded : u ≤ sink_of x
+  pub fits : Fits v (graph_of x) depth u
 
 -- the word has its 32 bytes, and the output has room for the lines from an offset on
 pub record RoomForLines (lines word out : List ℕ) (at : ℕ) : Type 0 where

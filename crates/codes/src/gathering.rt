@@ -25,11 +25,7 @@ fn put_slot(lexicon: &[u8], vertices: &[[u32; 4]; 402], code: u32, out: &mut [u8
     let mut letters = [0u8; 32];
     let n = spell(lexicon, vertices, code, &mut letters);
     out[at] = n as u8;
-    let mut i = 0;
-    while i < 32 {
-        out[at + 1 + i] = letters[i];
-        i += 1;
-    }
+    out[at + 1..at + SLOT].copy_from_slice(&letters);
 }
 
 // Rows 17 and 16, and then a slot for each code.
@@ -49,10 +45,8 @@ pub(crate) fn put_slots(
     if out.len() < SLOT * words as usize {
         return Err(Refusal::Output);
     }
-    let mut code = 0;
-    while code < words {
+    for code in 0..words {
         put_slot(lexicon, vertices, code, out, SLOT * code as usize);
-        code += 1;
     }
     Ok(words)
 }
