@@ -13,7 +13,7 @@ use crate::image::{END, PRINT};
 use crate::marks::{NONE, ROW, clear_marks, set_mark};
 use call::Refusal;
 use checking::{ARCS_AT, LETTERS, PATHS};
-use endian::{u16_at, u16_of};
+use endian::{number_of, u16_at};
 use lexicon::list_at;
 
 // An arc that fits: its index in the vertex's list, and the vertex that it leads to.
@@ -50,8 +50,7 @@ fn next_arc(
     let arcs = list_at(lexicon, vertices[vertex][ARCS_AT] as usize);
     let mut passed = 0;
     for index in first..arcs.len() {
-        let [lo, hi] = arcs[index];
-        let next = u16_of(lo, hi) as usize;
+        let next = number_of(arcs[index]) as usize;
         let row = &vertices[next];
         if row[PRINT] == wanted {
             return Ahead {

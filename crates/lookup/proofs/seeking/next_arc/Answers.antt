@@ -19,7 +19,7 @@ use Rattle.lookup.proofs.Ways.{not_end}
 use Rattle.lookup.proofs.Tries.{fits_not, fits-end, fits-letter, letter_left, wanted_low, wanted_past}
 use Rattle.lookup.proofs.Tries.{try_done, all-passed, passed-few, counts-below, try_found, try_next}
 use Rattle.lookup.proofs.seeking.next_arc.Goals as goal
-use Rattle.lookup.proofs.seeking.next_arc.Goals.{After-u16_of-next, At-loop-index}
+use Rattle.lookup.proofs.seeking.next_arc.Goals.{After-number_of-next, At-loop-index}
 
 -- ---- an arc that fits
 
@@ -87,30 +87,30 @@ few c =
 
 -- ---- an arc
 
-arc : (c : After-u16_of-next) → ArcHere c.args.lexicon.now c.args.vertex c.loop-index.index c.u16_of-next.result
+arc : (c : After-number_of-next) → ArcHere c.args.lexicon.now c.args.vertex c.loop-index.index c.number_of-next.result
 arc c =
     let p = c.requires in
     arc_here p.table.countable.tabled p.vertex c.list_at-arcs.result.now c.list_at-arcs.ensures c.loop-index-test.true
-    c.u16_of-next.ensures
+    c.number_of-next.ensures
 
-count : (c : After-u16_of-next) →
-    get_or (get_or c.args.vertices.now c.u16_of-next.result []) 1 0
-    ≡ path_count (graph_of c.args.lexicon.now) c.u16_of-next.result
+count : (c : After-number_of-next) →
+    get_or (get_or c.args.vertices.now c.number_of-next.result []) 1 0
+    ≡ path_count (graph_of c.args.lexicon.now) c.number_of-next.result
 count c = paths_of c.requires.table.countable.tabled (arc c).bounded
 
 pub bounds-vertices-next : goal.bounds-vertices-next
 bounds-vertices-next c = (arc c).low
 
 -- what it prints
-printed : (c : After-u16_of-next) →
-    get_or (prints_column c.args.vertices.now) c.u16_of-next.result 0
-    ≡ get_or (get_or c.args.vertices.now c.u16_of-next.result []) 2 0
-printed c = column-at 2 c.u16_of-next.result c.args.vertices.now
+printed : (c : After-number_of-next) →
+    get_or (prints_column c.args.vertices.now) c.number_of-next.result 0
+    ≡ get_or (get_or c.args.vertices.now c.number_of-next.result []) 2 0
+printed c = column-at 2 c.number_of-next.result c.args.vertices.now
 
 pub returns-then-row-wanted : goal.returns-then-row-wanted
 returns-then-row-wanted c =
     let p = c.requires in
-    let n = (goal.at.returns-then-row-wanted c).After-u16_of-next in
+    let n = (goal.at.returns-then-row-wanted c).After-number_of-next in
     let fits = printed n ∙ c.if-row-wanted.true ∙ c.wanted_at-wanted.ensures in
     record {
       by_index = λ k d.
@@ -123,7 +123,7 @@ pub overflow_add-passed : goal.overflow_add-passed
 unfolding sink_of
 overflow_add-passed c =
     let p = c.requires in
-    let n = (goal.at.overflow_add-passed c).After-u16_of-next in
+    let n = (goal.at.overflow_add-passed c).After-number_of-next in
     let a = arc n in
     omega (
       arith,
@@ -136,11 +136,11 @@ overflow_add-passed c =
 pub loop-index-preserved : goal.loop-index-preserved
 loop-index-preserved c =
     let p = c.requires in
-    let n = (goal.at.loop-index-preserved c).After-u16_of-next in
+    let n = (goal.at.loop-index-preserved c).After-number_of-next in
     let a = arc n in
     let none-by = fits_not (prints_column c.args.vertices.now) (graph_of c.args.lexicon.now) c.args.word.now c.args.i _
     (λ e. c.if-row-wanted.false (sym (printed n) ∙ e ∙ sym c.wanted_at-wanted.ensures)) in
-    λ k d. rw (count n, ← add_assoc k c.loop-index.passed (path_count (graph_of c.args.lexicon.now) c.u16_of-next.result))
+    λ k d. rw (count n, ← add_assoc k c.loop-index.passed (path_count (graph_of c.args.lexicon.now) c.number_of-next.result))
     (try_next p.table.countable.tabled.located.formed p.vertex (c.loop-index.invariant k d) a.inside a.entry none-by)
 
 pub returns : goal.returns
