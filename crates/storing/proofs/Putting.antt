@@ -49,7 +49,14 @@ pub read_slot : (b : List ℕ) (k : ℕ) → 8 * k + 8 ≤ length b
 unfolding token_at u32 u16
 read_slot b k h =
     rw (chunk_at (length b / 8) k b (omega arith))
-    (rw (byte_at b k 0 (omega arith), byte_at b k 1 (omega arith), byte_at b k 2 (omega arith),
-    byte_at b k 3 (omega arith), byte_at b k 4 (omega arith), byte_at b k 5 (omega arith),
-    byte_at b k 6 (omega arith), byte_at b k 7 (omega arith))
+    (rw (
+      byte_at b k 0 (omega arith),
+      byte_at b k 1 (omega arith),
+      byte_at b k 2 (omega arith),
+      byte_at b k 3 (omega arith),
+      byte_at b k 4 (omega arith),
+      byte_at b k 5 (omega arith),
+      byte_at b k 6 (omega arith),
+      byte_at b k 7 (omega arith),
+    )
     (simp (add-zero, add_assoc) (omega arith)))
