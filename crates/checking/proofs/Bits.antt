@@ -9,7 +9,7 @@ use native.Mathlib.Omega.{arith}
 use lib.Arith.{digits_mod}
 use lib.Bits.{bit_or, or_step, or_shr, shifted_even}
 use lib.Pow.{pow_pos, pow-lt, pow-add, shl-shr}
-use lib.ListN.{length, get_or, set, drop, replicate, length-set, length-replicate, get_or-append}
+use lib.ListN.{length, get_or, set, drop, replicate, length-replicate, get_or-append}
 use lib.Seq.{get_or-set_same, get_or-set_other}
 use lib.Dec.{eqb, ltb}
 use borrow.Author.Tests.{eq-eqb, ne_eqb, lt-ltb, le-ltb}

@@ -8,7 +8,7 @@ use lib.ListN.{length, get_or, set, replicate, length-set, length-replicate, get
 use lib.Seq.{get_or-set_same, get_or-set_other}
 use Rattle.std.specs.Prelude.{Option, None, Some}
 use Rattle.graph.specs.Graph.{Graph, sink}
-use Rattle.checking.specs.PairTable.{FirstAlike, led_to, LeadsTo, Chains}
+use Rattle.checking.specs.PairTable.{led_to, LeadsTo, Chains}
 
 -- no node yet: no letter has one
 pub chains-start : (g : Graph) {k : ℕ} {nexts : List (Option ℕ)} → k ≡ sink g → length nexts ≡ 402

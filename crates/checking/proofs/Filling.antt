@@ -10,9 +10,8 @@ use lib.ListN.{length, get_or, set, replicate, length-set}
 use lib.Seq.{get_or-set_same, get_or-set_other}
 use lib.Dec.{ltb}
 use borrow.Author.Tests.{ltb-true, ltb-false}
-use Rattle.endian.specs.Bytes.{u16}
 use Rattle.endian.proofs.Lists.{get_d_copies}
-use Rattle.lexicon.specs.Lexicon.{node_count, sink_of}
+use Rattle.lexicon.specs.Lexicon.{sink_of}
 use Rattle.lexicon.proofs.Shape.{arcs-next}
 use Rattle.checking.specs.Tables.{TableOf, WellFormed, WithOffsets}
 use Rattle.checking.specs.Filling.{FilledFrom, AtVertex}

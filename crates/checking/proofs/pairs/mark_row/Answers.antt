@@ -1,13 +1,13 @@
 -- `mark_row` meets its contract: of the pairs with u those below the next node with u's letter are marked, or all where
 -- the chain ends. The measure is the vertices that are left. Assumes nothing.
 use Prim.Native.Nat.{ℕ, suc, ◌<◌}
-use mathlib.Core.Path.{◌≡◌, refl, sym, ◌∙◌}
+use mathlib.Core.Path.{refl}
 use mathlib.Core.List.{List}
 use native.Mathlib.Omega.{arith}
 use lib.ListN.{get_or}
 use Rattle.std.specs.Prelude.{Option, None}
 use Rattle.graph.specs.Graph.{graph_of, sink}
-use Rattle.checking.specs.PairTable.{led_to, LeadsTo, RowParts}
+use Rattle.checking.specs.PairTable.{LeadsTo, RowParts}
 use Rattle.checking.proofs.Arcs.{sound_of}
 use Rattle.checking.proofs.Masks.{few-vertices}
 use Rattle.checking.proofs.PairTable.{RowAt, row-start, row-skip, row_next, row_done}
