@@ -6,7 +6,8 @@ ghost use Rattle.graph.specs.Graph.{graph_of};
 ghost use Rattle.checking.specs.Tables.{TableOf, WithOffsets, capped_count};
 ghost use Rattle.checking.specs.Filling.{AtVertex};
 
-use crate::offsets::{number_of, sink_of, successors};
+use crate::offsets::{sink_of, successors};
+use endian::number_of;
 
 // One more than the most words of a lexicon: a count stops here, so that nothing wraps.
 const CAP: u32 = 1048577;

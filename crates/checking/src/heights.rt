@@ -6,7 +6,8 @@ ghost use Rattle.checking.specs.Tables.{WithOffsets};
 ghost use Rattle.checking.specs.Filling.{AtVertex};
 ghost use Rattle.checking.specs.Longest.{height, height_above};
 
-use crate::offsets::{number_of, sink_of, successors};
+use crate::offsets::{sink_of, successors};
+use endian::number_of;
 
 // The greatest height of the successors of a vertex.
 fn height_above(lexicon: &[u8], offsets: &[u16; 402], heights: &[u16; 402], vertex: usize) -> u16

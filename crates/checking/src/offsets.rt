@@ -1,6 +1,5 @@
 // The sink of a lexicon, where the list of each vertex begins in the image, and the list.
 ghost use Rattle.std.specs.Prelude.{◌≡◌, ◌+◌, ◌≤◌, ◌<◌, length, replicate};
-ghost use Rattle.endian.specs.Bytes.{u16};
 ghost use Rattle.lexicon.specs.Lexicon.{node_count, sink_of, arcs_at};
 ghost use Rattle.checking.specs.Tables.{TableOf, WellFormed, WithOffsets, SuccessorPairs};
 
@@ -14,13 +13,6 @@ pub(crate) fn sink_of(lexicon: &[u8]) -> usize
     ensures letters_there { 1 + result ≤ length lexicon.now }
 {
     u16_at(lexicon, 0) as usize + 1
-}
-
-// The number that a pair of bytes holds.
-pub(crate) fn number_of(pair: [u8; 2]) -> u16
-    ensures { result ≡ u16 pair 0 }
-{
-    u16::from_le_bytes(pair)
 }
 
 // Where the list of each vertex begins, with its count.

@@ -6,7 +6,8 @@ ghost use Rattle.graph.specs.Conditions.{orphan};
 ghost use Rattle.checking.specs.Tables.{WithOffsets};
 ghost use Rattle.checking.specs.Marks.{SuccessorsMarked};
 
-use crate::offsets::{number_of, sink_of, successors};
+use crate::offsets::{sink_of, successors};
+use endian::number_of;
 
 // Marks the successors of a vertex, after those of the vertices below it.
 fn mark_successors(lexicon: &[u8], offsets: &[u16; 402], vertex: usize, marks: &mut [bool; 402])

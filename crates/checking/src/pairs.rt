@@ -14,8 +14,9 @@ ghost use Rattle.checking.specs.Pairs.{clash_at};
 ghost use Rattle.checking.specs.PairTable.{PairsMarked, MaskOf, Gathered, PairSet, RowDone, Chains, RowParts};
 ghost use Rattle.checking.specs.PairTable.{PairsAsked};
 
-use crate::offsets::{number_of, sink_of, successors};
+use crate::offsets::{sink_of, successors};
 use call::zero;
+use endian::number_of;
 
 // The bytes of a row: a bit for each vertex.
 const ROW: usize = 51;
