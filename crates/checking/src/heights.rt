@@ -1,4 +1,5 @@
-// Refusal 8: the longest word. The height of a vertex is the most letters on a way from it to the sink, its own included.
+// Refusal 8: the longest word. The height of a vertex is the most letters on a way from it to the sink, its own
+// included.
 ghost use Rattle.std.specs.Prelude.{◌≡◌};
 ghost use Rattle.graph.specs.Graph.{graph_of};
 ghost use Rattle.graph.specs.Conditions.{long_word, has_long_word};
@@ -21,7 +22,8 @@ fn height_above(lexicon: &[u8], offsets: &[u16; 402], heights: &[u16; 402], vert
     most
 }
 
-// The letters of the longest word: heights from the sink down, since arcs lead to greater vertices. The sink is 0 high, and the root has no letter.
+// The letters of the longest word: heights from the sink down, since arcs lead to greater vertices. The sink is 0 high,
+// and the root has no letter.
 pub(crate) fn longest_word(lexicon: &[u8], offsets: &[u16; 402]) -> u16
     requires { WithOffsets lexicon.now offsets.now }
     ensures { long_word result ≡ has_long_word (graph_of lexicon.now) }

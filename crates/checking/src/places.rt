@@ -9,7 +9,8 @@ ghost use Rattle.graph.specs.Conditions.{place_count};
 use crate::offsets::sink_of;
 
 pub(crate) fn place_count(voice: &[u8], lexicon: &[u8]) -> usize
-    requires { (voice_verdict voice.now ≡ well_formed) × (lexicon_verdict (letter_count voice.now) lexicon.now ≡ well_formed) }
+    requires { (voice_verdict voice.now ≡ well_formed)
+        × (lexicon_verdict (letter_count voice.now) lexicon.now ≡ well_formed) }
     ensures { result ≡ place_count voice.now (graph_of lexicon.now) }
 {
     let mut count: usize = 0;
