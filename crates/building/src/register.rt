@@ -11,7 +11,10 @@ use crate::sharing::Group;
 
 // The columns of a row: the first word behind its node, how many there are, how many of their letters stand before it,
 // the letters of the longest continuation, the node before it in its chain, and the mark of its continuations. Places
-// in a chain are counted from 1, and 0 ends it, since a table of chains begins as zeros.
+// in a chain are counted from 1, and 0 ends it: an Option of a place would take twice the stack.
+//
+// A row is no struct: the last two columns have other meanings, with names of their own, once all nodes are registered,
+// and fields for both would take a call past 16 KiB of stack.
 pub(crate) const FIRST: usize = 0;
 
 pub(crate) const MANY: usize = 1;

@@ -11,6 +11,7 @@ use call::{FURTHER_SPACE, Refusal, WORK_SPACE, clear};
 
 mod gathering;
 mod laying;
+mod letters;
 mod ordering;
 mod rows;
 mod slots;

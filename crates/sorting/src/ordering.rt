@@ -1,15 +1,16 @@
-// Slot numbers put into the dictionary order of the words in their slots, by merging.
+// Slot numbers put into the dictionary order of the words in their slots, by merging: the library's sorts ask for a
+// comparison of any two numbers, and these have to be numbers of slots that hold words.
 ghost use Rattle.std.specs.Prelude.{◌≡◌, ◌+◌, ◌*◌, ◌-◌, ◌≤◌, ◌<◌, length};
 ghost use Rattle.canonical.specs.Dictionary.{precedes};
 ghost use Rattle.sorting.specs.Slots.{Slot};
 ghost use Rattle.endian.specs.Rows.{number_at};
 ghost use Rattle.sorting.specs.Rows.{word_of, Points, Rising, Taken, Merged, Ordered};
 
+use crate::letters::before;
 use crate::rows::{copy_back, copy_number, number};
 use crate::slots::word;
 
 // Whether the word of place j stands before that of place i.
-#[tactic(auto, using(crate::proofs::Comparing::precedes_lt))]
 pub(crate) fn stands_before(words: &[u8], rows: &[u8], j: usize, i: usize) -> bool
     requires j_in_bounds { (2 * j + 2 ≤ length rows.now) × (2 * i + 2 ≤ length rows.now) }
     requires slot { Slot words.now (number_at rows.now j) × Slot words.now (number_at rows.now i) }
@@ -18,7 +19,7 @@ pub(crate) fn stands_before(words: &[u8], rows: &[u8], j: usize, i: usize) -> bo
 {
     let a = number(rows, j);
     let b = number(rows, i);
-    word(words, a) < word(words, b)
+    before(word(words, a), word(words, b))
 }
 
 // Writes the next number of two runs at place k of the spare row, and answers how far the first run is taken. Equal

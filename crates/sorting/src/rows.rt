@@ -1,4 +1,5 @@
-// Rows of slot numbers, two bytes each.
+// Rows of slot numbers, two bytes each, which a crate that has such rows reads and writes by functions of its own: a
+// public function could not require that the place is inside.
 ghost use Rattle.std.specs.Prelude.{◌≡◌, ◌+◌, ◌*◌, ◌≤◌, ◌<◌, length};
 ghost use Rattle.endian.specs.Rows.{number_at, NumberPut};
 ghost use Rattle.sorting.specs.Rows.{Back};

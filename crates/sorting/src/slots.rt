@@ -13,11 +13,14 @@ pub(crate) fn word<'a>(words: &'a [u8], i: usize) -> &'a [u8]
     &words[from..to]
 }
 
-// Copies the bytes of slot i to slot p.
+// Copies the bytes of slot i to slot p, by way of an array: `copy_within` goes byte by byte, the last first.
 pub(crate) fn copy_slot(words: &mut [u8], i: usize, p: usize)
     requires { (33 * i + 33 ≤ length words.old) × (33 * p + 33 ≤ length words.old) }
     ensures { SlotCopied words.old (33 * i) (33 * p) words.new }
 {
     let from = 33 * i;
-    words.copy_within(from..from + 33, 33 * p);
+    let to = 33 * p;
+    let mut slot = [0; 33];
+    slot.copy_from_slice(&words[from..from + 33]);
+    words[to..to + 33].copy_from_slice(&slot);
 }
