@@ -1,11 +1,9 @@
 -- `descent::descend` meets its contract: before each arc so much of the code is left as the path counts before it
 -- leave, and it is for the arcs to come. Assumes nothing.
-use Prim.Native.Nat.{◌+◌}
 use mathlib.Core.Path.{◌≡◌}
 use mathlib.Core.List.{[]}
 use lib.ListN.{get_or}
 use native.Mathlib.Omega.{arith}
-use Rattle.lexicon.specs.Lexicon.{sink_of}
 use Rattle.graph.specs.Graph.{graph_of, path_count}
 use Rattle.codes.proofs.Heads.{ArcHere, vertex_low, list_long, arc_here, paths_of}
 use Rattle.codes.proofs.Walks.{pass_start, pass_here, pass_on, pass_more}

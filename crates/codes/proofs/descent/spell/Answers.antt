@@ -8,7 +8,6 @@ use lib.ListN.{length}
 use Rattle.lexicon.specs.Lexicon.{node_count, sink_of, node_letter}
 use Rattle.graph.specs.Graph.{word_count}
 use Rattle.checking.proofs.Arcs.{shape_of}
-use Rattle.checking.proofs.Filling.{count-there}
 use Rattle.codes.proofs.Words.{letter-inside}
 use Rattle.codes.proofs.Walks.{step-rises, letters-start, letters_room, letters_next, letters_done}
 use Rattle.codes.proofs.descent.spell.Goals as goal

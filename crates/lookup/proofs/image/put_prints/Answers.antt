@@ -10,7 +10,6 @@ use Rattle.lexicon.specs.Lexicon.{node_count, node_letter, sink_of}
 use Rattle.graph.specs.Checking.{Accepted}
 use Rattle.graph.proofs.Accepted.{accepted}
 use Rattle.checking.proofs.Arcs.{shape_of}
-use Rattle.checking.proofs.Filling.{count-there}
 use Rattle.codes.specs.Steps.{Readable}
 use Rattle.codes.proofs.Words.{formed, readable}
 use Rattle.lookup.proofs.Prints.{table-countable, prints-start, prints-next, prints-done}

@@ -26,7 +26,7 @@ pub loop-pair-preserved : goal.loop-pair-preserved
 unfolding number_at
 loop-pair-preserved c = (
   c.put_number.ensures.long ∙ c.loop-pair.invariant.0,
-  rw c.u16_at.ensures
+  rw c.u16_at-before.ensures
       (rest-chained c.loop-pair.invariant.1 c.loop-pair-test.true c.put_number.ensures),
 )
 
