@@ -17,7 +17,7 @@ use crate::offsets::find_offsets;
 use crate::orphans::has_orphan;
 use crate::pairs::{PAIR_BYTES, has_same_letters};
 use crate::places::place_count;
-use crate::vertices::put_rows;
+use crate::vertices::put_vertices;
 use call::{Refusal, WORK_SPACE, clear};
 
 mod counts;
@@ -35,16 +35,28 @@ pub const LETTERS: u16 = 32;
 
 const WORDS: u32 = 1048576;
 
-// The columns of a vertex's row: the offset of its successors' count, which their list follows; its path count; and its
-// first slot in the token store and the emission that enters it at a frame, which are the search's to fill. A lookup
-// puts what the vertex prints in the place of the slot.
-pub const ARCS_AT: usize = 0;
+// What the calls after checking are handed of a vertex.
+#[derive(Clone, Copy)]
+pub struct Vertex {
+    // the offset of its successors' count, which their list follows
+    pub arcs_at: u32,
+    // its path count
+    pub paths: u32,
+    // its first slot in the token store, which is the search's to fill; a lookup puts here what the vertex prints
+    pub first_slot: u32,
+    // the emission that enters it at a frame, which is the search's to fill
+    pub emission: u32,
+}
 
-pub const PATHS: usize = 1;
-
-pub const FIRST_SLOT: usize = 2;
-
-pub const EMISSION: usize = 3;
+impl Vertex {
+    // A vertex of which nothing is known.
+    pub const BLANK: Vertex = Vertex {
+        arcs_at: 0,
+        paths: 0,
+        first_slot: 0,
+        emission: 0,
+    };
+}
 
 // Rows 6 to 10, or W. A count of paths stops above the limit, so that W is exact wherever row 9 does not apply.
 fn judge_graph(
@@ -120,7 +132,7 @@ pub fn open(
     voice: &[u8],
     lexicon: &[u8],
     work: &mut [u8],
-    vertices: &mut [[u32; 4]; 402],
+    vertices: &mut [Vertex; 402],
 ) -> Result<u32, Refusal>
     ensures result_value { answer_of result ≡ check_answer voice.now lexicon.now work.old }
     ensures work_after { work.new ≡ check_work voice.now lexicon.now work.old }
@@ -141,7 +153,7 @@ pub fn open(
     );
     clear(work);
     let words = answer?;
-    put_rows(&offsets, &counts, vertices);
+    put_vertices(&offsets, &counts, vertices);
     Ok(words)
 }
 
@@ -150,6 +162,6 @@ pub fn check(voice: &[u8], lexicon: &[u8], work: &mut [u8]) -> Result<u32, Refus
     ensures result_value { answer_of result ≡ check_answer voice.now lexicon.now work.old }
     ensures work_after { work.new ≡ check_work voice.now lexicon.now work.old }
 {
-    let mut vertices = [[0u32; 4]; 402];
+    let mut vertices = [Vertex::BLANK; 402];
     open(voice, lexicon, work, &mut vertices)
 }

@@ -65,5 +65,5 @@ returns c =
     record {
       result_value = answered c.args.voice.now c.args.work.now long j;
       work_after = c.clear.ensures ∙ work-cleared c.args.work.now _ long c.judge_images-answer.auto.pairs;
-      vertices_after = c.put_rows.ensures c.args.lexicon.now (j.opened _ refl) ∙ sym (opened-value _ _ refl);
+      vertices_after = c.put_vertices.ensures c.args.lexicon.now (j.opened _ refl) ∙ sym (opened-value _ _ refl);
     }
