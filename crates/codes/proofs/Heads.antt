@@ -1,6 +1,6 @@
 -- The row of a vertex, and its list in the image: the numbers that are read there are its successors. Assumes nothing.
 use Prim.Native.Nat.{ℕ, ◌+◌, ◌≤◌, ◌<◌}
-use mathlib.Core.Path.{◌≡◌, sym, ap, ◌∙◌}
+use mathlib.Core.Path.{◌≡◌, refl, sym, ap, ◌∙◌}
 use mathlib.Core.List.{List, [], ◌∷◌, Memᴰ}
 use mathlib.Core.List.Memᴰ
 use native.Mathlib.Numerals.{add-one}
@@ -12,6 +12,8 @@ use Rattle.endian.proofs.Lists.{mem_get_d}
 use Rattle.lexicon.specs.Lexicon.{node_count, sink_of, successors, listed, numbers_of}
 use Rattle.lexicon.proofs.Listed.{listed-successors, length-numbers, numbers-at}
 use Rattle.graph.specs.Graph.{graph_of, path_count, sink}
+use Rattle.checking.specs.declared.Vertex.{Vertex}
+use Rattle.checking.specs.Tables.{no_vertex, paths_field}
 use Rattle.checking.proofs.Arcs.{shape_of, sound_of, has-entry}
 use Rattle.checking.proofs.VertexRows.{row-entry, arcs-entry}
 use Rattle.codes.specs.Steps.{Tabled}
@@ -27,23 +29,23 @@ pub record ArcHere (x : List ℕ) (u i s : ℕ) : Type 0 where
   -- it is the first of the arcs from number i on
   pub first : drop i (successors x u) ≡ s ∷ drop (i + 1) (successors x u)
 
-module _ {x : List ℕ} {vertices : List (List ℕ)} (t : Tabled x vertices) {u : ℕ} where
-  pub paths_of : u ≤ sink_of x → get_or (get_or vertices u []) 1 0 ≡ path_count (graph_of x) u
-  paths_of h = row-entry 1 vertices t.counted (omega arith)
+module _ {x : List ℕ} {vertices : List Vertex} (t : Tabled x vertices) {u : ℕ} where
+  pub paths_of : u ≤ sink_of x → (get_or vertices u no_vertex).paths ≡ path_count (graph_of x) u
+  paths_of h = row-entry paths_field refl vertices t.counted (omega arith)
 
   module _ (h : u ≤ node_count x) where
     pub vertex_low : u < 402
     unfolding sink_of
     vertex_low = has-entry t.located.formed (omega arith)
 
-    list_of : listed x (get_or (get_or vertices u []) 0 0) ≡ successors x u
+    list_of : listed x (get_or vertices u no_vertex).arcs_at ≡ successors x u
     unfolding sink_of
     list_of =
         ap (listed x) (arcs-entry vertices t.located h)
         ∙ listed-successors x u (omega (arith, (shape_of t.located.formed).there {u = u} (omega arith)))
 
     -- these pairs of bytes are read as the list
-    module _ (pairs : List (List ℕ)) (e : numbers_of pairs ≡ listed x (get_or (get_or vertices u []) 0 0)) where
+    module _ (pairs : List (List ℕ)) (e : numbers_of pairs ≡ listed x (get_or vertices u no_vertex).arcs_at) where
       pub list_long : length pairs ≡ length (successors x u)
       list_long = sym (length-numbers pairs) ∙ ap length (e ∙ list_of)
 

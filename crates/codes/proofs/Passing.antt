@@ -13,6 +13,7 @@ use Rattle.graph.specs.Graph.{graph_of, sink}
 use Rattle.graph.proofs.Sound.{Sound}
 use Rattle.graph.proofs.Accepted.{accepted, sound-images}
 use Rattle.graph.proofs.Ways.{some-way}
+use Rattle.checking.specs.declared.Vertex.{Vertex}
 use Rattle.codes.specs.Steps.{Readable}
 use Rattle.codes.specs.Lines.{lines_from, lines_over, WalksFrom, Enters, RoomForLines, Wrote}
 use Rattle.codes.proofs.Words.{readable}
@@ -68,7 +69,7 @@ module _ {v x : List ℕ} {u depth at : ℕ} {word₀ out₀ : List ℕ} where
 
 -- ---- the arcs of a vertex
 
-module _ {v x : List ℕ} {vertices : List (List ℕ)} {u depth : ℕ} (p : WalksFrom v x vertices u depth) where
+module _ {v x : List ℕ} {vertices : List Vertex} {u depth : ℕ} (p : WalksFrom v x vertices u depth) where
   pub enters : {i s : ℕ} → ArcHere x u i s → Enters v x vertices s depth
   enters a = record {
     opened = p.opened;
@@ -79,7 +80,7 @@ module _ {v x : List ℕ} {vertices : List (List ℕ)} {u depth : ℕ} (p : Walk
 
 -- ---- the vertex that an arc leads to
 
-module _ {v x : List ℕ} {vertices : List (List ℕ)} {u depth : ℕ} (e : Enters v x vertices u depth) where
+module _ {v x : List ℕ} {vertices : List Vertex} {u depth : ℕ} (e : Enters v x vertices u depth) where
   ok : Sound (graph_of x)
   ok = sound-images (accepted e.opened.accepted)
 

@@ -1,6 +1,6 @@
 -- Adding up the arcs on all ways from a vertex, successor by successor, from the numbers of the vertices above it. Assumes nothing.
 use mathlib.Core.Path.{◌≡◌, sym, ◌∙◌}
-use mathlib.Core.List.{List, [], map}
+use mathlib.Core.List.{List, map}
 use Prim.Native.Nat.{ℕ, suc, ◌+◌, ◌^◌, ◌≤◌, ◌<◌}
 use native.Mathlib.Omega.{arith}
 use native.Mathlib.Decide.{ℕ_discrete}
@@ -10,6 +10,8 @@ use Rattle.endian.specs.Lists.{sum}
 use Rattle.lexicon.specs.Lexicon.{node_count, sink_of, successors}
 use Rattle.graph.specs.Graph.{graph_of, sink}
 use Rattle.graph.proofs.Sound.{Sound}
+use Rattle.checking.specs.declared.Vertex.{Vertex}
+use Rattle.checking.specs.Tables.{no_vertex}
 use Rattle.checking.proofs.Arcs.{shape_of, sound_of}
 use Rattle.checking.proofs.Filling.{count-there}
 use Rattle.codes.specs.Lines.{arcs_on_ways, Countable, CountedFrom}
@@ -20,7 +22,7 @@ use Rattle.codes.proofs.Heads.{ArcHere, paths_of}
 pub record Added (x : List ℕ) (u i total : ℕ) : Type 0 where
   pub whole : total + sum (map (arcs_on_ways (graph_of x)) (drop i (successors x u))) ≡ arcs_on_ways (graph_of x) u
 
-module _ {x : List ℕ} {vertices : List (List ℕ)} (c : Countable x vertices) where
+module _ {x : List ℕ} {vertices : List Vertex} (c : Countable x vertices) where
   ok : Sound (graph_of x)
   ok = sound_of c.tabled.located.formed
 
@@ -33,7 +35,7 @@ module _ {x : List ℕ} {vertices : List (List ℕ)} (c : Countable x vertices) 
   total-fits {u} h = omega (arith, arcs-most ok (omega (arith, nodes.1)) u, c.few h)
 
   module _ {u : ℕ} (h : u ≤ node_count x) where
-    pub added_none : Added x u 0 (get_or (get_or vertices u []) 1 0)
+    pub added_none : Added x u 0 (get_or vertices u no_vertex).paths
     unfolding sink_of sink
     added_none = record { whole = rw (paths_of c.tabled {u = u} (omega arith)) (sym (arcs-below ok (omega arith))) }
 
@@ -54,7 +56,7 @@ module _ {x : List ℕ} {vertices : List (List ℕ)} (c : Countable x vertices) 
 
 -- ---- the table, from the sink down
 
-module _ {x : List ℕ} {vertices : List (List ℕ)} (c : Countable x vertices) where
+module _ {x : List ℕ} {vertices : List Vertex} (c : Countable x vertices) where
   pub counted_none : {totals : List ℕ} → get_or totals (sink_of x) 0 ≡ 0 → CountedFrom x totals (sink_of x)
   unfolding sink_of sink
   counted_none e = record { holds = λ {s} h k. let q : s ≡ sink_of x = omega arith in rw q (e ∙ sym (arcs-sink (ok c))) }

@@ -20,6 +20,7 @@ use Rattle.graph.specs.Graph.{path_code, path_letters}
 use Rattle.graph.proofs.Sound.{Sound, below-sink}
 use Rattle.graph.proofs.Codes.{path_count-sink, path_count-below, increment-at}
 use Rattle.graph.proofs.Paths.{full-paths, at_code}
+use Rattle.checking.specs.declared.Vertex.{Vertex}
 use Rattle.checking.proofs.Arcs.{sound_of}
 use Rattle.codes.proofs.Heads.{ArcHere}
 use Rattle.codes.specs.Steps.{Tabled, Stepped, letters_of_code, Spellable, Spelled}
@@ -106,7 +107,7 @@ module _ {g : Graph} (ok : Sound g) where
 
 -- ---- the arcs of one vertex, in the image
 
-module _ {x : List ℕ} {vertices : List (List ℕ)} (t : Tabled x vertices) {u : ℕ} (h : u ≤ node_count x) where
+module _ {x : List ℕ} {vertices : List Vertex} (t : Tabled x vertices) {u : ℕ} (h : u ≤ node_count x) where
   ok-image : Sound (graph_of x)
   ok-image = sound_of t.located.formed
 
@@ -154,7 +155,7 @@ pub record LettersLeft (x : List ℕ) (code : ℕ) (before letters : List ℕ) (
       → letters_of_code (graph_of x) code ≡ take n letters ++ path_letters (graph_of x) (u ∷ q)
   pub rest : drop n letters ≡ drop n before
 
-module _ {x : List ℕ} {vertices : List (List ℕ)} (spell : Spellable x vertices)
+module _ {x : List ℕ} {vertices : List Vertex} (spell : Spellable x vertices)
     {code : ℕ} (k : code < word_count (graph_of x)) where
   ok : Sound (graph_of x)
   ok = sound_of spell.tabled.located.formed

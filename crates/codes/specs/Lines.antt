@@ -10,6 +10,7 @@ use Rattle.call.specs.Buffers.{written}
 use Rattle.lexicon.specs.Lexicon.{node_count, sink_of, successors}
 use Rattle.graph.specs.Graph.{Graph, graph_of, sink, ways, path_count}
 use Rattle.graph.specs.Words.{word_of_path}
+use Rattle.checking.specs.declared.Vertex.{Vertex}
 use Rattle.codes.specs.Steps.{Tabled, OpenedImages}
 
 -- ---- the lines
@@ -29,13 +30,13 @@ Fits v g depth u = (p : List ℕ) → Memᴰ p (ways g (sink g) u) → depth + l
 -- ---- the walk
 
 -- the walk goes through the arcs of u, the root or a node
-pub record WalksFrom (v x : List ℕ) (vertices : List (List ℕ)) (u depth : ℕ) : Type 0 where
+pub record WalksFrom (v x : List ℕ) (vertices : List Vertex) (u depth : ℕ) : Type 0 where
   pub opened : OpenedImages v x vertices
   pub below : u ≤ node_count x
   pub fits : {s : ℕ} → Memᴰ s (successors x u) → Fits v (graph_of x) depth s
 
 -- the walk enters u, a node or the sink
-pub record Enters (v x : List ℕ) (vertices : List (List ℕ)) (u depth : ℕ) : Type 0 where
+pub record Enters (v x : List ℕ) (vertices : List Vertex) (u depth : ℕ) : Type 0 where
   pub opened : OpenedImages v x vertices
   pub above : 0 < u
   pub bounded : u ≤ sink_of x
@@ -62,7 +63,7 @@ unfoldable pub arcs_on_ways : Graph → ℕ → ℕ
 arcs_on_ways g u = sum (map length (ways g (sink g) u))
 
 -- the table of a lexicon that has no more words than any may have
-pub record Countable (x : List ℕ) (vertices : List (List ℕ)) : Type 0 where
+pub record Countable (x : List ℕ) (vertices : List Vertex) : Type 0 where
   pub tabled : Tabled x vertices
   pub few : {u : ℕ} → u ≤ sink_of x → path_count (graph_of x) u ≤ most_words
 

@@ -8,7 +8,7 @@ ghost use Rattle.graph.specs.Words.{spelled};
 ghost use Rattle.codes.specs.Steps.{Tabled, Stepped, letters_of_code, Spellable, Spelled, Printable, room_answer};
 
 use call::Refusal;
-use checking::{ARCS_AT, PATHS};
+use checking::Vertex;
 use endian::{number_of, u16_at};
 use lexicon::list_at;
 
@@ -21,15 +21,15 @@ struct Step {
 
 // The arc along which the code leads, and what of the code is left behind it: the path counts of the successors before
 // it are taken off.
-fn descend(lexicon: &[u8], vertices: &[[u32; 4]; 402], vertex: usize, code: u32) -> Step
+fn descend(lexicon: &[u8], vertices: &[Vertex; 402], vertex: usize, code: u32) -> Step
     requires tabled { Tabled lexicon.now vertices.now }
     requires vertex_bound { (vertex ≤ node_count lexicon.now) × (code < path_count (graph_of lexicon.now) vertex) }
     ensures { Stepped (graph_of lexicon.now) vertex code result.vertex result.code }
 {
     let mut left = code;
-    for &pair in list_at(lexicon, vertices[vertex][ARCS_AT] as usize) {
+    for &pair in list_at(lexicon, vertices[vertex].arcs_at as usize) {
         let next = number_of(pair) as usize;
-        let count = vertices[next][PATHS];
+        let count = vertices[next].paths;
         if left < count {
             return Step {
                 vertex: next,
@@ -45,7 +45,7 @@ fn descend(lexicon: &[u8], vertices: &[[u32; 4]; 402], vertex: usize, code: u32)
 // Writes the letters of the word of a code below W, as indexes, and answers their number.
 pub(crate) fn spell(
     lexicon: &[u8],
-    vertices: &[[u32; 4]; 402],
+    vertices: &[Vertex; 402],
     code: u32,
     letters: &mut [u8; 32],
 ) -> usize

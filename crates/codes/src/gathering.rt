@@ -8,6 +8,7 @@ ghost use Rattle.codes.specs.Slots.{Gatherable, SlotsAnswered};
 
 use crate::descent::spell;
 use call::Refusal;
+use checking::Vertex;
 
 // The bytes of a slot: the length of a word, and room for its letters.
 const SLOT: usize = 33;
@@ -16,7 +17,7 @@ const SLOT: usize = 33;
 const WORDS: u32 = 2000;
 
 // Writes the slot of a code below W from an offset on, whole, since the output may hold anything.
-fn put_slot(lexicon: &[u8], vertices: &[[u32; 4]; 402], code: u32, out: &mut [u8], at: usize)
+fn put_slot(lexicon: &[u8], vertices: &[Vertex; 402], code: u32, out: &mut [u8], at: usize)
     requires spellable { Spellable lexicon.now vertices.now }
     requires code_bound { (code < word_count (graph_of lexicon.now)) × (at + 33 ≤ length out.old) }
     ensures { out.new ≡ take at out.old
@@ -31,7 +32,7 @@ fn put_slot(lexicon: &[u8], vertices: &[[u32; 4]; 402], code: u32, out: &mut [u8
 // Rows 17 and 16, and then a slot for each code.
 pub(crate) fn put_slots(
     lexicon: &[u8],
-    vertices: &[[u32; 4]; 402],
+    vertices: &[Vertex; 402],
     words: u32,
     out: &mut [u8],
 ) -> Result<u32, Refusal>

@@ -11,7 +11,7 @@ use crate::descent::{put_word, spell};
 use crate::gathering::put_slots;
 use crate::listing::put_listing;
 use call::Refusal;
-use checking::open;
+use checking::{Vertex, open};
 
 mod descent;
 mod gathering;
@@ -33,7 +33,7 @@ pub fn code_to_word(
     ensures out_after { out.new ≡ code_to_word_out voice.now lexicon.now code
         work.old out.old }
 {
-    let mut vertices = [[0u32; 4]; 402];
+    let mut vertices = [Vertex::BLANK; 402];
     let words = open(voice, lexicon, work, &mut vertices)?;
     if words <= code {
         return Err(Refusal::Code);
@@ -51,7 +51,7 @@ pub fn list(voice: &[u8], lexicon: &[u8], work: &mut [u8], out: &mut [u8]) -> Re
     ensures out_after { out.new ≡ list_out voice.now lexicon.now work.old
         out.old }
 {
-    let mut vertices = [[0u32; 4]; 402];
+    let mut vertices = [Vertex::BLANK; 402];
     open(voice, lexicon, work, &mut vertices)?;
     put_listing(voice, lexicon, &vertices, out)
 }
@@ -64,7 +64,7 @@ pub fn gather(voice: &[u8], lexicon: &[u8], work: &mut [u8], out: &mut [u8]) -> 
     ensures out_after { out.new ≡ gather_out voice.now lexicon.now work.old
         out.old }
 {
-    let mut vertices = [[0u32; 4]; 402];
+    let mut vertices = [Vertex::BLANK; 402];
     let words = open(voice, lexicon, work, &mut vertices)?;
     put_slots(lexicon, &vertices, words, out)
 }

@@ -11,7 +11,7 @@ ghost use Rattle.codes.specs.Lines.{Countable, CountedFrom, BytesAnswered};
 
 use crate::image::print_byte;
 use call::Refusal;
-use checking::{ARCS_AT, PATHS};
+use checking::Vertex;
 use endian::{number_of, u16_at};
 use lexicon::list_at;
 
@@ -31,7 +31,7 @@ fn put_line(word: &[u8; 32], letters: usize, out: &mut [u8], at: usize) -> usize
 fn vertex_step(
     voice: &[u8],
     lexicon: &[u8],
-    vertices: &[[u32; 4]; 402],
+    vertices: &[Vertex; 402],
     vertex: usize,
     word: &mut [u8; 32],
     depth: usize,
@@ -45,7 +45,7 @@ fn vertex_step(
         (take depth word.old)) depth at word.old word.new out.old out.new result }
 {
     let mut end = at;
-    for &pair in list_at(lexicon, vertices[vertex][ARCS_AT] as usize) {
+    for &pair in list_at(lexicon, vertices[vertex].arcs_at as usize) {
         let next = number_of(pair) as usize;
         end = arc_step(voice, lexicon, vertices, next, word, depth, out, end);
     }
@@ -58,7 +58,7 @@ fn vertex_step(
 fn arc_step(
     voice: &[u8],
     lexicon: &[u8],
-    vertices: &[[u32; 4]; 402],
+    vertices: &[Vertex; 402],
     vertex: usize,
     word: &mut [u8; 32],
     depth: usize,
@@ -80,26 +80,21 @@ fn arc_step(
 
 // The arcs on all ways from a vertex: each way has its first arc, and the arcs of a way from the vertex that it leads
 // to.
-fn arcs_on_ways(
-    lexicon: &[u8],
-    vertices: &[[u32; 4]; 402],
-    totals: &[u32; 402],
-    vertex: usize,
-) -> u32
+fn arcs_on_ways(lexicon: &[u8], vertices: &[Vertex; 402], totals: &[u32; 402], vertex: usize) -> u32
     requires countable { Countable lexicon.now vertices.now }
     requires vertex_bound { (vertex ≤ node_count lexicon.now) × CountedFrom lexicon.now totals.now (suc vertex) }
     ensures { result ≡ arcs_on_ways (graph_of lexicon.now) vertex }
 {
-    let row = &vertices[vertex];
-    let mut total = row[PATHS];
-    for &pair in list_at(lexicon, row[ARCS_AT] as usize) {
+    let known = &vertices[vertex];
+    let mut total = known.paths;
+    for &pair in list_at(lexicon, known.arcs_at as usize) {
         total += totals[number_of(pair) as usize];
     }
     total
 }
 
 // The bytes of the listing, which are known before one of them is written.
-fn listing_size(lexicon: &[u8], vertices: &[[u32; 4]; 402]) -> u32
+fn listing_size(lexicon: &[u8], vertices: &[Vertex; 402]) -> u32
     requires { Countable lexicon.now vertices.now }
     ensures { result ≡ arcs_on_ways (graph_of lexicon.now) 0 }
 {
@@ -115,7 +110,7 @@ fn listing_size(lexicon: &[u8], vertices: &[[u32; 4]; 402]) -> u32
 pub(crate) fn put_listing(
     voice: &[u8],
     lexicon: &[u8],
-    vertices: &[[u32; 4]; 402],
+    vertices: &[Vertex; 402],
     out: &mut [u8],
 ) -> Result<u32, Refusal>
     requires { OpenedImages voice.now lexicon.now vertices.now }

@@ -23,6 +23,7 @@ use Rattle.graph.specs.Words.{word_of_path, LexiconWord, path_of_word, code_of}
 use Rattle.graph.specs.Checking.{Accepted, first_rows, check_answer}
 use Rattle.graph.proofs.Paths.{full-paths}
 use Rattle.graph.proofs.Accepted.{accepted, sound-images, Passed}
+use Rattle.checking.specs.declared.Vertex.{Vertex}
 use Rattle.codes.specs.Lookup.{word_to_code_rows, word_to_code_answer}
 use Rattle.codes.specs.Theorems.{CodeTheorems}
 use Rattle.codes.proofs.Theorems.{code_theorems}
@@ -69,7 +70,7 @@ found_or (Some c) = refl
 
 -- ---- as word to code answers
 
-pub seekable : {v x : List ℕ} {vertices : List (List ℕ)} → Printed v x vertices → Seekable x vertices
+pub seekable : {v x : List ℕ} {vertices : List Vertex} → Printed v x vertices → Seekable x vertices
 seekable p = record { countable = p.countable; end = p.prints.end }
 
 module _ {v x : List ℕ} (h : Accepted v x) {prints : List ℕ} (p : Prints v x prints) (word : List ℕ)

@@ -8,7 +8,8 @@ use Rattle.call.specs.Table.{Answer, value, refused}
 use Rattle.voice.specs.Voice.{print_byte}
 use Rattle.lexicon.specs.Lexicon.{node_count, sink_of, node_letter}
 use Rattle.graph.specs.Graph.{Graph, path_count}
-use Rattle.checking.specs.Tables.{column}
+use Rattle.checking.specs.declared.Vertex.{Vertex}
+use Rattle.checking.specs.Tables.{column, slot_field}
 use Rattle.codes.specs.Lines.{Countable}
 
 -- ---- the search
@@ -48,9 +49,9 @@ sought_answer prints g word = cond (ltb 32 (length word)) (refused NoWord) (code
 
 -- ---- the table
 
--- what each vertex prints, in the third column of the table of vertices
-abbrev pub prints_column : List (List ℕ) → List ℕ
-prints_column vertices = column 2 vertices
+-- what each vertex prints, in the field of the first slot, which no lookup needs
+abbrev pub prints_column : List Vertex → List ℕ
+prints_column vertices = column slot_field vertices
 
 -- the prints of a lexicon
 pub record Prints (v x prints : List ℕ) : Type 0 where
@@ -59,11 +60,11 @@ pub record Prints (v x prints : List ℕ) : Type 0 where
   pub end : get_or prints (sink_of x) 0 ≡ 256
 
 -- the table of vertices with them
-pub record Printed (v x : List ℕ) (vertices : List (List ℕ)) : Type 0 where
+pub record Printed (v x : List ℕ) (vertices : List Vertex) : Type 0 where
   pub countable : Countable x vertices
   pub prints : Prints v x (prints_column vertices)
 
 -- what the search asks of it
-pub record Seekable (x : List ℕ) (vertices : List (List ℕ)) : Type 0 where
+pub record Seekable (x : List ℕ) (vertices : List Vertex) : Type 0 where
   pub countable : Countable x vertices
   pub end : get_or (prints_column vertices) (sink_of x) 0 ≡ 256

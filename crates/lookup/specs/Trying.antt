@@ -5,6 +5,7 @@ use Rattle.std.specs.Prelude.{Option, None, Some}
 use Rattle.endian.specs.Lists.{sum}
 use Rattle.lexicon.specs.Lexicon.{node_count, successors}
 use Rattle.graph.specs.Graph.{graph_of, path_count}
+use Rattle.checking.specs.declared.Vertex.{Vertex}
 use Rattle.lookup.specs.declared.seeking.Arc.{Arc}
 use Rattle.lookup.specs.Seeking.{first_code, code_by, code_after, prints_column, Seekable}
 
@@ -16,7 +17,7 @@ pub record Tried (x prints word : List ℕ) (i u n c : ℕ) : Type 0 where
       ≡ first_code (code_by prints (graph_of x) (drop i word)) (path_count (graph_of x)) (drop n (successors x u)) c
 
 -- what the arcs of u are tried with, behind the first n, at position i of the word
-pub record Trying (x : List ℕ) (vertices : List (List ℕ)) (word : List ℕ) (i u n : ℕ) : Type 0 where
+pub record Trying (x : List ℕ) (vertices : List Vertex) (word : List ℕ) (i u n : ℕ) : Type 0 where
   pub table : Seekable x vertices
   pub position : i ≤ length word
   pub short : length word ≤ 32
@@ -45,7 +46,7 @@ pub data LedOn (x prints word : List ℕ) (i u first : ℕ) (arc : Option Arc) (
       → LedOn x prints word i u first arc c
 
 -- what the search begins with: no pair is marked
-pub record Seeking (x : List ℕ) (vertices : List (List ℕ)) (word m : List ℕ) : Type 0 where
+pub record Seeking (x : List ℕ) (vertices : List Vertex) (word m : List ℕ) : Type 0 where
   pub table : Seekable x vertices
   pub marks : m ≡ replicate 26534 0
   pub short : length word ≤ 32

@@ -9,6 +9,7 @@ ghost use Rattle.lookup.specs.Items.{count_answer, sought_bytes};
 
 use crate::seeking::look_up;
 use call::Refusal;
+use checking::Vertex;
 use endian::u32_bytes;
 
 // The most items of a list (row 19).
@@ -62,7 +63,7 @@ fn put_answer(out: &mut [u8], at: usize, answer: Result<u32, Refusal>)
 // Looks the items up, one after the other, and writes the answers to them.
 pub(crate) fn put_answers(
     lexicon: &[u8],
-    vertices: &[[u32; 4]; 402],
+    vertices: &[Vertex; 402],
     items: &[u8],
     marks: &mut [u8],
     out: &mut [u8],

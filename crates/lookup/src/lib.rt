@@ -11,7 +11,7 @@ use crate::items::{ANSWER, count_items, put_answers};
 use crate::marks::MARKS;
 use crate::seeking::look_up;
 use call::Refusal;
-use checking::open;
+use checking::{Vertex, open};
 
 mod image;
 mod items;
@@ -30,7 +30,7 @@ pub fn word_to_code(
     ensures work_after { work.new ≡ word_to_code_work voice.now lexicon.now word.now
         work.old }
 {
-    let mut vertices = [[0u32; 4]; 402];
+    let mut vertices = [Vertex::BLANK; 402];
     open(voice, lexicon, work, &mut vertices)?;
     put_prints(voice, lexicon, &mut vertices);
     look_up(lexicon, &vertices, word, &mut work[0..MARKS])
@@ -51,7 +51,7 @@ pub fn words_to_codes(
     ensures out_after { out.new ≡ words_to_codes_out voice.now lexicon.now items.now
         work.old out.old }
 {
-    let mut vertices = [[0u32; 4]; 402];
+    let mut vertices = [Vertex::BLANK; 402];
     open(voice, lexicon, work, &mut vertices)?;
     let count = count_items(items)?;
     if out.len() < ANSWER * count as usize {

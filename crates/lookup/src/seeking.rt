@@ -9,10 +9,10 @@ ghost use Rattle.lookup.specs.Seeking.{wanted_at, Seekable};
 ghost use Rattle.lookup.specs.Marks.{Chained};
 ghost use Rattle.lookup.specs.Trying.{Trying, Tried, LedOn, Seeking};
 
-use crate::image::{END, PRINT};
+use crate::image::END;
 use crate::marks::{NONE, ROW, clear_marks, set_mark};
 use call::Refusal;
-use checking::{ARCS_AT, LETTERS, PATHS};
+use checking::{LETTERS, Vertex};
 use endian::{number_of, u16_at};
 use lexicon::list_at;
 
@@ -34,7 +34,7 @@ struct Ahead {
 // From an arc of the vertex's list on, the first that fits.
 fn next_arc(
     lexicon: &[u8],
-    vertices: &[[u32; 4]; 402],
+    vertices: &[Vertex; 402],
     word: &[u8],
     i: usize,
     vertex: usize,
@@ -47,18 +47,19 @@ fn next_arc(
     ensures few { result.passed ≤ 1048576 }
 {
     let wanted = wanted_at(word, i);
-    let arcs = list_at(lexicon, vertices[vertex][ARCS_AT] as usize);
+    let arcs = list_at(lexicon, vertices[vertex].arcs_at as usize);
     let mut passed = 0;
     for index in first..arcs.len() {
         let next = number_of(arcs[index]) as usize;
-        let row = &vertices[next];
-        if row[PRINT] == wanted {
+        let known = &vertices[next];
+        // what it prints
+        if known.first_slot == wanted {
             return Ahead {
                 passed,
                 arc: Some(Arc { index, next }),
             };
         }
-        passed += row[PATHS];
+        passed += known.paths;
     }
     Ahead { passed, arc: None }
 }
@@ -72,7 +73,7 @@ struct Sought {
 
 // The code counts on while the search goes down and up again: behind a vertex that leads nowhere all its paths are
 // counted. For each letter the path has the vertex that the search came through, and the arc that it took.
-fn seek(lexicon: &[u8], vertices: &[[u32; 4]; 402], word: &[u8], marks: &mut [u8]) -> Sought
+fn seek(lexicon: &[u8], vertices: &[Vertex; 402], word: &[u8], marks: &mut [u8]) -> Sought
     requires { Seeking lexicon.now vertices.now word.now marks.old }
     ensures code_value { result.code ≡ code_after (prints_column vertices.now) (graph_of lexicon.now) 0 word.now }
     ensures marks_len { (length marks.new ≡ 26534) × Chained marks.new result.last }
@@ -107,7 +108,7 @@ fn seek(lexicon: &[u8], vertices: &[[u32; 4]; 402], word: &[u8], marks: &mut [u8
             };
         }
         if u16_at(marks, 2 * (1 + ROW * (i + 1) + arc.next)) != 0 {
-            code += vertices[arc.next][PATHS];
+            code += vertices[arc.next].paths;
             first = arc.index + 1;
         } else {
             path[i] = (vertex, arc.index);
@@ -131,7 +132,7 @@ fn wanted_at(word: &[u8], i: usize) -> u32
 // The code of a word, or 13.
 pub(crate) fn look_up(
     lexicon: &[u8],
-    vertices: &[[u32; 4]; 402],
+    vertices: &[Vertex; 402],
     word: &[u8],
     marks: &mut [u8],
 ) -> Result<u32, Refusal>

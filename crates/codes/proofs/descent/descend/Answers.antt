@@ -1,10 +1,10 @@
 -- `descent::descend` meets its contract: before each arc so much of the code is left as the path counts before it
 -- leave, and it is for the arcs to come. Assumes nothing.
 use mathlib.Core.Path.{◌≡◌}
-use mathlib.Core.List.{[]}
 use lib.ListN.{get_or}
 use native.Mathlib.Omega.{arith}
 use Rattle.graph.specs.Graph.{graph_of, path_count}
+use Rattle.checking.specs.Tables.{no_vertex}
 use Rattle.codes.proofs.Heads.{ArcHere, vertex_low, list_long, arc_here, paths_of}
 use Rattle.codes.proofs.Walks.{pass_start, pass_here, pass_on, pass_more}
 use Rattle.codes.proofs.descent.descend.Goals as goal
@@ -27,7 +27,7 @@ next c =
 
 -- the count that is read is its path count
 count : (c : After-number_of-next) →
-    get_or (get_or c.args.vertices.now c.number_of-next.result []) 1 0
+    (get_or c.args.vertices.now c.number_of-next.result no_vertex).paths
     ≡ path_count (graph_of c.args.lexicon.now) c.number_of-next.result
 count c = paths_of c.requires.tabled (next c).bounded
 

@@ -50,7 +50,7 @@ at-sink c = omega (arith, c.loop-node-test.false)
 pub returns : goal.returns
 unfolding node_count
 returns c =
-    rw (← at-sink c)
+    rw (← at-sink (goal.at.returns c).After-loop-node)
     (prints-done c.loop-node.invariant (few _ _ c.requires.0) 256
     (omega (arith, c.loop-node-test.false, c.u16_at.ensures)) refl
     (table-countable _ c.requires.0 c.requires.1))

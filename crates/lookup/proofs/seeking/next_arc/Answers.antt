@@ -1,7 +1,7 @@
 -- `seeking::next_arc` meets its contract: an arc is passed that does not fit. Assumes nothing.
 use Prim.Native.Nat.{ℕ, ◌≤◌, ◌<◌}
 use mathlib.Core.Path.{◌≡◌, refl, sym, ap, ◌∙◌}
-use mathlib.Core.List.{List, []}
+use mathlib.Core.List.{List}
 use native.Mathlib.Omega.{arith}
 use native.Mathlib.Decide.{ℕ_discrete}
 use native.Mathlib.Nat.{add-zero, add_assoc}
@@ -10,7 +10,8 @@ use lib.ListN.{length, get_or, drop}
 use Rattle.std.proofs.Common.{Some}
 use Rattle.lexicon.specs.Lexicon.{sink_of, successors}
 use Rattle.graph.specs.Graph.{graph_of, sink, path_count}
-use Rattle.checking.specs.Tables.{WellFormed}
+use Rattle.checking.specs.declared.Vertex.{Vertex}
+use Rattle.checking.specs.Tables.{no_vertex, slot_field, WellFormed}
 use Rattle.checking.proofs.Columns.{column-at}
 use Rattle.codes.proofs.Heads.{ArcHere, vertex_low, list_long, arc_here, paths_of}
 use Rattle.lookup.specs.Seeking.{wanted_at, code_after, prints_column}
@@ -23,7 +24,7 @@ use Rattle.lookup.proofs.seeking.next_arc.Goals.{After-number_of-next, At-loop-i
 
 -- ---- an arc that fits
 
-module _ {x : List ℕ} {vertices : List (List ℕ)} {word : List ℕ} {i u first : ℕ}
+module _ {x : List ℕ} {vertices : List Vertex} {word : List ℕ} {i u first : ℕ}
     (p : Trying x vertices word i u first) (low : get_or word i 0 < 256)
     {n s : ℕ} (a : ArcHere x u n s) (fits : get_or (prints_column vertices) s 0 ≡ wanted_at word i) where
   abbrev prints : List ℕ
@@ -94,7 +95,7 @@ arc c =
     c.number_of-next.ensures
 
 count : (c : After-number_of-next) →
-    get_or (get_or c.args.vertices.now c.number_of-next.result []) 1 0
+    (get_or c.args.vertices.now c.number_of-next.result no_vertex).paths
     ≡ path_count (graph_of c.args.lexicon.now) c.number_of-next.result
 count c = paths_of c.requires.table.countable.tabled (arc c).bounded
 
@@ -104,19 +105,19 @@ bounds-vertices-next c = (arc c).low
 -- what it prints
 printed : (c : After-number_of-next) →
     get_or (prints_column c.args.vertices.now) c.number_of-next.result 0
-    ≡ get_or (get_or c.args.vertices.now c.number_of-next.result []) 2 0
-printed c = column-at 2 c.number_of-next.result c.args.vertices.now
+    ≡ (get_or c.args.vertices.now c.number_of-next.result no_vertex).first_slot
+printed c = column-at slot_field refl c.number_of-next.result c.args.vertices.now
 
-pub returns-then-row-wanted : goal.returns-then-row-wanted
-returns-then-row-wanted c =
+pub returns-then-known-wanted : goal.returns-then-known-wanted
+returns-then-known-wanted c =
     let p = c.requires in
-    let n = (goal.at.returns-then-row-wanted c).After-number_of-next in
-    let fits = printed n ∙ c.if-row-wanted.true ∙ c.wanted_at-wanted.ensures in
+    let n = (goal.at.returns-then-known-wanted c).After-number_of-next in
+    let fits = printed n ∙ c.if-known-wanted.true ∙ c.wanted_at-wanted.ensures in
     record {
       by_index = λ k d.
           leads p (omega (arith, c.type_inv.word c.args.i)) (arc n) fits c.loop-index.auto.index
           (c.loop-index.invariant k d);
-      few = few (goal.at.returns-then-row-wanted c).At-loop-index;
+      few = few (goal.at.returns-then-known-wanted c).At-loop-index;
     }
 
 pub overflow_add-passed : goal.overflow_add-passed
@@ -139,7 +140,7 @@ loop-index-preserved c =
     let n = (goal.at.loop-index-preserved c).After-number_of-next in
     let a = arc n in
     let none-by = fits_not (prints_column c.args.vertices.now) (graph_of c.args.lexicon.now) c.args.word.now c.args.i _
-    (λ e. c.if-row-wanted.false (sym (printed n) ∙ e ∙ sym c.wanted_at-wanted.ensures)) in
+    (λ e. c.if-known-wanted.false (sym (printed n) ∙ e ∙ sym c.wanted_at-wanted.ensures)) in
     λ k d. rw (count n, ← add_assoc k c.loop-index.passed (path_count (graph_of c.args.lexicon.now) c.number_of-next.result))
     (try_next p.table.countable.tabled.located.formed p.vertex (c.loop-index.invariant k d) a.inside a.entry none-by)
 

@@ -3,13 +3,13 @@
 -- Assumes nothing.
 use Prim.Native.Nat.{◌+◌, ◌*◌, ◌-◌, ◌≤◌, ◌<◌}
 use mathlib.Core.Path.{◌≡◌, refl, sym, ◌∙◌}
-use mathlib.Core.List.{[]}
 use native.Mathlib.Omega.{arith}
 use lib.ListN.{get_or, drop, length-set}
 use Rattle.std.proofs.Common.{None}
 use Rattle.endian.specs.Rows.{number_at}
 use Rattle.lexicon.specs.Lexicon.{node_count, sink_of}
 use Rattle.graph.specs.Graph.{graph_of, path_count}
+use Rattle.checking.specs.Tables.{no_vertex}
 use Rattle.codes.proofs.Heads.{vertex_low, paths_of}
 use Rattle.lookup.specs.Seeking.{code_after, prints_column}
 use Rattle.lookup.specs.Marks.{pair_of}
@@ -201,7 +201,7 @@ unfolding number_at
 number c = c.u16_at.ensures
 
 count : (c : Else-i-word) →
-    get_or (get_or c.args.vertices.now c.in-Some.arc.next []) 1 0
+    (get_or c.args.vertices.now c.in-Some.arc.next no_vertex).paths
     ≡ path_count (graph_of c.args.lexicon.now) c.in-Some.arc.next
 unfolding sink_of
 count c = paths_of c.requires.table.countable.tabled (omega (arith, (arc c).1.node))
