@@ -23,6 +23,7 @@ use Rattle.graph.specs.Graph.{graph_of, sink, path_count, increment}
 use Rattle.graph.proofs.Sound.{Sound}
 use Rattle.graph.proofs.Accepted.{AcceptedImages, accepted, sound-images, words-limit}
 use Rattle.graph.proofs.Codes.{arc-count}
+use Rattle.checking.specs.declared.Vertex.{Vertex}
 use Rattle.checking.specs.Tables.{WellFormed}
 use Rattle.checking.proofs.Arcs.{ArcNext, arc-next, arcs-done}
 use Rattle.checking.proofs.Increments.{CountsPassed, counts_start, split-here, increment-here, counts-below}
@@ -60,7 +61,7 @@ has_more a (z ∷ l) y h n = go (eqb a z) h (has_more a l y)
     go true e ih = e
     go false e ih = ih e n
 
-module _ {x : List ℕ} {vertices : List (List ℕ)} (a : Arcs x vertices) {w : ℕ} (h : w ≤ node_count x) where
+module _ {x : List ℕ} {vertices : List Vertex} (a : Arcs x vertices) {w : ℕ} (h : w ≤ node_count x) where
   formed : WellFormed x
   formed = a.formed
 
@@ -109,7 +110,7 @@ module _ {x : List ℕ} {vertices : List (List ℕ)} (a : Arcs x vertices) {w : 
 
 -- ---- a node's arcs
 
-module _ {v x : List ℕ} {n : ℕ} {vertices : List (List ℕ)} (r : VertexTable v x n vertices) where
+module _ {v x : List ℕ} {n : ℕ} {vertices : List Vertex} (r : VertexTable v x n vertices) where
   pub images : AcceptedImages v x
   images = accepted r.accepted
 
@@ -136,7 +137,7 @@ pub level-down : (d : ℕ) → down_of d ≡ lift + d
 unfolding down_of
 level-down d = omega arith
 
-module _ {x : List ℕ} {n : ℕ} {vertices : List (List ℕ)} {w : ℕ} {b list : List ℕ}
+module _ {x : List ℕ} {n : ℕ} {vertices : List Vertex} {w : ℕ} {b list : List ℕ}
     (e : Ending x n vertices w b list) where
   abbrev v : List ℕ
   v = e.v

@@ -6,6 +6,7 @@ use Rattle.endian.specs.Lists.{has}
 use Rattle.voice.specs.Voice.{letter_count, symbols_at}
 use Rattle.lexicon.specs.Lexicon.{node_count, sink_of, arcs_at}
 use Rattle.graph.specs.Graph.{Graph, graph_of, sink, path_count, increment}
+use Rattle.checking.specs.declared.Vertex.{Vertex}
 use Rattle.checking.specs.Tables.{WellFormed}
 use Rattle.ranking.specs.Hits.{Hit}
 use Rattle.decoder.specs.Score.{reach}
@@ -23,7 +24,7 @@ abbrev pub Empty : List ℕ → Type 0
 Empty b = (j : ℕ) → token_at b j ≡ 0
 
 -- accepted images and frames, the table of vertices, and a store with room
-pub record Run (v x frames : List ℕ) (n : ℕ) (vertices : List (List ℕ)) (b : List ℕ) : Type 0 where
+pub record Run (v x frames : List ℕ) (n : ℕ) (vertices : List Vertex) (b : List ℕ) : Type 0 where
   pub ready : VertexTable v x n vertices
   pub roomy : StoreRoom v x n b
   pub accepted : AcceptedFrames v frames
@@ -39,13 +40,15 @@ pub record CallNumbers (v x : List ℕ) (c : Numbers) (letters : List (List ℕ)
   pub letters_of : NodeLetters v x c.used letters
 
 -- the tables at a frame of symbol k: of gains, and of vertices with their emissions
-pub record FrameTables (v x : List ℕ) (k : ℕ) (c : Numbers) (letters gains vertices : List (List ℕ)) : Type 0 where
+pub record FrameTables (v x : List ℕ) (k : ℕ) (c : Numbers) (letters gains : List (List ℕ)) (vertices : List Vertex)
+    : Type 0 where
   pub gained : Gained v k letters c.used gains
   pub table : VertexTable v x c.n vertices
   pub emissions : NodeEmissions v x k vertices
 
 -- frame t, once its tables are made: the places hold what they held after the frame before, and at the first nothing
-pub record Frame (v x : List ℕ) (t n nodes : ℕ) (vertices gains : List (List ℕ)) (links b : List ℕ) : Type 0 where
+pub record Frame (v x : List ℕ) (t n nodes : ℕ) (vertices : List Vertex) (gains : List (List ℕ)) (links b : List ℕ)
+    : Type 0 where
   pub frames : List ℕ
   pub run : Run v x frames n vertices b
   pub inside : t < length frames
@@ -59,7 +62,7 @@ pub record Frame (v x : List ℕ) (t n nodes : ℕ) (vertices gains : List (List
 -- ---- the end
 
 -- a well-formed lexicon with where its lists begin and its path counts, of which none is above the most words
-pub record Arcs (x : List ℕ) (vertices : List (List ℕ)) : Type 0 where
+pub record Arcs (x : List ℕ) (vertices : List Vertex) : Type 0 where
   pub formed : WellFormed x
   pub begin : {u : ℕ} → u ≤ node_count x → arcs_in vertices u ≡ arcs_at x u
   pub paths : {u : ℕ} → u ≤ sink_of x → paths_in vertices u ≡ path_count (graph_of x) u
@@ -70,7 +73,7 @@ unfoldable pub last_arc : Graph → ℕ → Option ℕ
 last_arc g w = cond (has (sink g) (g.successors w)) (Some (increment g w (sink g))) None
 
 -- the tokens of node w's last state are candidates for a list that holds the n best of s
-pub record Ending (x : List ℕ) (n : ℕ) (vertices : List (List ℕ)) (w : ℕ) (b list : List ℕ) : Type 0 where
+pub record Ending (x : List ℕ) (n : ℕ) (vertices : List Vertex) (w : ℕ) (b list : List ℕ) : Type 0 where
   pub v : List ℕ
   pub P : Store
   pub s : List Hit
@@ -85,7 +88,7 @@ pub record Ending (x : List ℕ) (n : ℕ) (vertices : List (List ℕ)) (w : ℕ
   pub long : length list ≡ 64
 
 -- the list after it
-pub record Ended {x : List ℕ} {n : ℕ} {vertices : List (List ℕ)} {w : ℕ} {b list : List ℕ}
+pub record Ended {x : List ℕ} {n : ℕ} {vertices : List Vertex} {w : ℕ} {b list : List ℕ}
     (e : Ending x n vertices w b list)
     (list' : List ℕ) : Type 0 where
   pub holds : slots n 0 list' ≡ held n (best_tokens n (e.s ++ ending e.v (graph_of x) e.P w))

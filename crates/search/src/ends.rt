@@ -9,24 +9,24 @@ ghost use Rattle.search.specs.Running.{Arcs, last_arc, Ending, Ended, Run, Empty
 
 use crate::frames::all_frames;
 use crate::store::{copy_place, offer};
-use checking::{ARCS_AT, FIRST_SLOT, PATHS};
+use checking::Vertex;
 use decoder::token::LIFT;
 use endian::{u16_at, u16_of};
 use lexicon::list_at;
 
 // The increment of the arc to the sink, if there is one: the path counts of the successors stored before it.
-fn last_increment(lexicon: &[u8], vertices: &[[u32; 4]; 402], node: usize) -> Option<u32>
+fn last_increment(lexicon: &[u8], vertices: &[Vertex; 402], node: usize) -> Option<u32>
     requires { Arcs lexicon.now vertices.now × (node ≤ node_count lexicon.now) }
     ensures { result ≡ last_arc (graph_of lexicon.now) node }
 {
     let sink = u16_at(lexicon, 0) as usize + 1;
     let mut increment = 0;
-    for &[lo, hi] in list_at(lexicon, vertices[node][ARCS_AT] as usize) {
+    for &[lo, hi] in list_at(lexicon, vertices[node].arcs_at as usize) {
         let next = u16_of(lo, hi) as usize;
         if next == sink {
             return Some(increment);
         }
-        increment += vertices[next][PATHS];
+        increment += vertices[next].paths;
     }
     None
 }
@@ -35,7 +35,7 @@ fn last_increment(lexicon: &[u8], vertices: &[[u32; 4]; 402], node: usize) -> Op
 fn offer_end(
     lexicon: &[u8],
     n: usize,
-    vertices: &[[u32; 4]; 402],
+    vertices: &[Vertex; 402],
     node: usize,
     store: &[u8],
     list: &mut [u8],
@@ -48,7 +48,7 @@ fn offer_end(
         return;
     };
     // the place of its last state ends where the next vertex's begins
-    let last = vertices[node + 1][FIRST_SLOT] as usize - n;
+    let last = vertices[node + 1].first_slot as usize - n;
     // the move to the sink scores 0
     offer(list, n, store, last, LIFT, LIFT + increment as u64);
 }
@@ -59,7 +59,7 @@ pub(crate) fn best_words(
     lexicon: &[u8],
     frames: &[u8],
     n: usize,
-    vertices: &mut [[u32; 4]; 402],
+    vertices: &mut [Vertex; 402],
     store: &mut [u8],
 ) -> [u64; 8]
     requires run { Run voice.now lexicon.now frames.now n vertices.old store.old }

@@ -8,6 +8,7 @@ ghost use Rattle.search.specs.Running.{Empty, Run, StoredAt, CallNumbers, FrameT
 use crate::gains::{frame_gains, put_emissions};
 use crate::letters::{letter_table, link_table, symbols_at};
 use crate::turns::{enter_nodes, take_turn};
+use checking::Vertex;
 use endian::u16_at;
 
 // The numbers of a call: hits wanted, nodes, the offset of the section Symbols, and letters in use.
@@ -29,7 +30,7 @@ fn frame_tables(
     numbers: Numbers,
     letters: &[[u32; 10]; 64],
     gains: &mut [[u32; 8]; 64],
-    vertices: &mut [[u32; 4]; 402],
+    vertices: &mut [Vertex; 402],
 )
     requires t_in_bounds { (t < length frames.now) × KnownSymbol voice.now (get_or frames.now t 0) }
     requires call_numbers { CallNumbers voice.now lexicon.now numbers letters.now }
@@ -63,7 +64,7 @@ fn frame(
     lexicon: &[u8],
     t: usize,
     numbers: Numbers,
-    vertices: &[[u32; 4]; 402],
+    vertices: &[Vertex; 402],
     gains: &[[u32; 8]; 64],
     links: &[u32; 64],
     store: &mut [u8],
@@ -90,7 +91,7 @@ pub(crate) fn all_frames(
     lexicon: &[u8],
     frames: &[u8],
     n: usize,
-    vertices: &mut [[u32; 4]; 402],
+    vertices: &mut [Vertex; 402],
     store: &mut [u8],
 )
     requires run { Run voice.now lexicon.now frames.now n vertices.old store.old }

@@ -12,7 +12,7 @@ ghost use Rattle.storing.specs.Gains.{KnownSymbol, StatePut, FirstPut, letter_in
 ghost use Rattle.storing.specs.Places.{VertexRows, NodesRead, EmissionsPut};
 
 use crate::letters::{FIRST_STATE, INDEX, LOOP, STEP, score_at};
-use checking::EMISSION;
+use checking::Vertex;
 use decoder::score::{BIAS, Score};
 
 // The column of the first state's emission, where a step into it would stand: STEP + 0.
@@ -111,7 +111,7 @@ pub(crate) fn put_emissions(
     lexicon: &[u8],
     nodes: usize,
     gains: &[[u32; 8]; 64],
-    vertices: &mut [[u32; 4]; 402],
+    vertices: &mut [Vertex; 402],
 )
     requires { NodesRead lexicon.now nodes × VertexRows vertices.old }
     ensures { EmissionsPut lexicon.now gains.now vertices.old
@@ -119,6 +119,6 @@ pub(crate) fn put_emissions(
 {
     for node in 1..nodes + 1 {
         let letter = lexicon[1 + node] as usize;
-        vertices[node][EMISSION] = gains[letter][ENTRY];
+        vertices[node].emission = gains[letter][ENTRY];
     }
 }

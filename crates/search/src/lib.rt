@@ -2,7 +2,7 @@
 //
 // What is read of the images in more than one place (docs/FORMAT.md): voice[2 + 2 * letter] is a letter's number of
 // states, 1 to 4, and lexicon[1 + node] the letter of a node; nodes have the numbers from 1 on. A table of vertices has
-// 402 rows: for 400 nodes, the root, which is 0, and the sink, which comes after the last node.
+// 402 entries: for 400 nodes, the root, which is 0, and the sink, which comes after the last node.
 #![tactic(auto)]
 
 ghost use Rattle.std.specs.Prelude.{◌≡◌};
@@ -14,7 +14,7 @@ use crate::ends::best_words;
 use crate::judge::judge_call;
 use crate::places::find_slots;
 use call::{Refusal, zero};
-use checking::open;
+use checking::{Vertex, open};
 
 mod ends;
 mod frames;
@@ -45,7 +45,7 @@ pub fn search(
     ensures tokens_after { tokens.new ≡ search_tokens voice.now lexicon.now frames.now
         n work.old out.now tokens.old }
 {
-    let mut vertices = [[0u32; 4]; 402];
+    let mut vertices = [Vertex::BLANK; 402];
     open(voice, lexicon, work, &mut vertices)?;
     judge_call(voice, frames, n, out)?;
     let count = n as usize;

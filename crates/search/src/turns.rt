@@ -16,7 +16,7 @@ use crate::letters::{LOOP, STEP};
 use crate::store::{insert, offer_from, shift};
 use crate::tokens::token_at;
 use call::zero;
-use checking::{ARCS_AT, EMISSION, FIRST_SLOT, PATHS};
+use checking::Vertex;
 use decoder::score::{BIAS, Score};
 use decoder::token::{LIFT, Token, UNIT};
 use endian::u16_of;
@@ -34,7 +34,7 @@ fn number_at(lexicon: &[u8], at: usize) -> usize
 // is left, and the emission of the one that is entered is added.
 fn pass_over(
     n: usize,
-    vertices: &[[u32; 4]; 402],
+    vertices: &[Vertex; 402],
     link: Score,
     from: usize,
     t: usize,
@@ -47,13 +47,13 @@ fn pass_over(
         → Stored a.passing_on.v (graph_of a.x) n (over_one a) store.new }
     ensures store_unchanged { slots n from store.new ≡ slots n from store.old }
 {
-    let emission = Score(vertices[t][EMISSION]);
+    let emission = Score(vertices[t].emission);
     // impossible at this frame; always so at the sink, which has no letter
     if emission.is_impossible() {
         return;
     }
     let up = (link.0 + emission.0 - BIAS) as u64 * UNIT;
-    let slot = vertices[t][FIRST_SLOT] as usize;
+    let slot = vertices[t].first_slot as usize;
     offer_from(store, n, from, slot, up, down);
 }
 
@@ -62,7 +62,7 @@ fn pass_over(
 fn pass_on(
     lexicon: &[u8],
     n: usize,
-    vertices: &[[u32; 4]; 402],
+    vertices: &[Vertex; 402],
     links: &[u32; 64],
     letter: usize,
     node: usize,
@@ -82,7 +82,7 @@ fn pass_on(
     if link.is_impossible() {
         return;
     }
-    let start = vertices[node][ARCS_AT] as usize;
+    let start = vertices[node].arcs_at as usize;
     let stop = start + 2 + 2 * number_at(lexicon, start);
     let mut at = start + 2;
     let mut down = LIFT;
@@ -90,37 +90,37 @@ fn pass_on(
     while at < stop {
         let t = number_at(lexicon, at);
         pass_over(n, vertices, link, from, t, down, store);
-        down += vertices[t][PATHS] as u64;
+        down += vertices[t].paths as u64;
         at += 2;
     }
 }
 
 // The root's token enters node t over the arc of that increment: its score is the emission alone.
-fn enter_node(n: usize, vertices: &[[u32; 4]; 402], t: usize, increment: u32, store: &mut [u8])
+fn enter_node(n: usize, vertices: &[Vertex; 402], t: usize, increment: u32, store: &mut [u8])
     requires { Arc n vertices.now bias true 0 t (lift + increment) store.old }
     ensures { (a : Arc n vertices.now bias true 0 t (lift + increment) store.old)
         → Stored a.passing_on.v (graph_of a.x) n (over_one a) store.new }
 {
-    let score = Score(vertices[t][EMISSION]);
+    let score = Score(vertices[t].emission);
     if score.is_impossible() {
         return;
     }
-    let start = 8 * (vertices[t][FIRST_SLOT] as usize);
+    let start = 8 * (vertices[t].first_slot as usize);
     let end = start + 8 * n;
     insert(&mut store[start..end], n, Token::of(score, increment));
 }
 
 // The root's token enters the first state of each node that the root leads to.
-pub(crate) fn enter_nodes(lexicon: &[u8], n: usize, vertices: &[[u32; 4]; 402], store: &mut [u8])
+pub(crate) fn enter_nodes(lexicon: &[u8], n: usize, vertices: &[Vertex; 402], store: &mut [u8])
     requires { PassingOn lexicon.now n vertices.now bias 0 true 0 store.old }
     ensures { (t : PassingOn lexicon.now n vertices.now bias 0 true 0
         store.old) → PassedOn t store.new }
 {
     let mut increment = 0;
-    for &[lo, hi] in list_at(lexicon, vertices[0][ARCS_AT] as usize) {
+    for &[lo, hi] in list_at(lexicon, vertices[0].arcs_at as usize) {
         let t = u16_of(lo, hi) as usize;
         enter_node(n, vertices, t, increment, store);
-        increment += vertices[t][PATHS];
+        increment += vertices[t].paths;
     }
 }
 
@@ -186,7 +186,7 @@ pub(crate) fn take_turn(
     voice: &[u8],
     lexicon: &[u8],
     n: usize,
-    vertices: &[[u32; 4]; 402],
+    vertices: &[Vertex; 402],
     gains: &[[u32; 8]; 64],
     links: &[u32; 64],
     node: usize,
@@ -198,9 +198,9 @@ pub(crate) fn take_turn(
 {
     let letter = lexicon[1 + node] as usize;
     // the place of its last state ends where the next vertex's begins
-    let last = vertices[node + 1][FIRST_SLOT] as usize - n;
+    let last = vertices[node + 1].first_slot as usize - n;
     pass_on(lexicon, n, vertices, links, letter, node, last, store);
     let states = voice[2 + 2 * letter] as usize;
-    let first = vertices[node][FIRST_SLOT] as usize;
+    let first = vertices[node].first_slot as usize;
     renew_node(store, n, first, states, &gains[letter]);
 }

@@ -17,6 +17,7 @@ use Rattle.voice.proofs.Letters.{states_there}
 use Rattle.lexicon.specs.Lexicon.{node_count, node_letter, sink_of}
 use Rattle.graph.specs.Graph.{Graph, graph_of, sink}
 use Rattle.graph.proofs.Accepted.{accepted}
+use Rattle.checking.specs.declared.Vertex.{Vertex}
 use Rattle.checking.proofs.Arcs.{shape_of, sound_of, nodes-there}
 use Rattle.ranking.specs.Hits.{Hit}
 use Rattle.decoder.specs.Score.{frame_limit, possible, plus}
@@ -60,7 +61,7 @@ module _ (v : List ℕ) (g : Graph) (P : Store) (k u M : ℕ) where
       (λ j. carried-bound M u u 0 _ (P u s) (step_small s) (λ h j. f s h (omega arith) j) (omega arith) j)
       (append_cases _ i)
 
-module _ {v x : List ℕ} {n : ℕ} {vertices gains : List (List ℕ)} {links : List ℕ} {w : ℕ} {b : List ℕ}
+module _ {v x : List ℕ} {n : ℕ} {vertices : List Vertex} {gains : List (List ℕ)} {links : List ℕ} {w : ℕ} {b : List ℕ}
     (t : Turn v x n vertices gains links w b) where
   abbrev g : Graph
   g = graph_of x

@@ -7,6 +7,7 @@ use Rattle.voice.specs.Voice.{states}
 use Rattle.lexicon.specs.Lexicon.{node_count, node_letter, successors}
 use Rattle.graph.specs.Graph.{graph_of, increment}
 use Rattle.graph.specs.Checking.{Accepted}
+use Rattle.checking.specs.declared.Vertex.{Vertex}
 use Rattle.ranking.specs.Hits.{Hit}
 use Rattle.decoder.specs.Score.{frame_limit, reach, number_of}
 use Rattle.passing.specs.Best.{shift}
@@ -64,7 +65,7 @@ joined {n} t = best_tokens n (t.s ++ carried t.score t.d t.l)
 
 -- ---- one arc: from vertex w to u, where the store is as far as the arcs before it left it
 
-pub record Arc (n : ℕ) (vertices : List (List ℕ)) (link : ℕ) (root : Bool) (from u down : ℕ) (b : List ℕ)
+pub record Arc (n : ℕ) (vertices : List Vertex) (link : ℕ) (root : Bool) (from u down : ℕ) (b : List ℕ)
     : Type 0 where
   pub x : List ℕ
   pub w : ℕ
@@ -72,7 +73,7 @@ pub record Arc (n : ℕ) (vertices : List (List ℕ)) (link : ℕ) (root : Bool)
   pub arc : Memᴰ u (successors x w)
   pub down_is : down ≡ down_of (increment (graph_of x) w u)
 
-unfoldable pub over_one : {n : ℕ} {vertices : List (List ℕ)} {link : ℕ} {root : Bool} {from u down : ℕ} {b : List ℕ}
+unfoldable pub over_one : {n : ℕ} {vertices : List Vertex} {link : ℕ} {root : Bool} {from u down : ℕ} {b : List ℕ}
     → Arc n vertices link root from u down b → Store
 over_one {n} {u = u} t =
     let h = t.passing_on in

@@ -10,6 +10,7 @@ use Rattle.call.specs.Table.{Answer, value, unless, answer_of}
 use Rattle.call.specs.Buffers.{cleared}
 use Rattle.graph.specs.Checking.{check_answer}
 use Rattle.graph.proofs.Accepted.{accepted}
+use Rattle.checking.specs.declared.Vertex.{Vertex}
 use Rattle.checking.specs.Tables.{opened_vertices}
 use Rattle.checking.proofs.VertexRows.{opened-vertices}
 use Rattle.search.specs.Calling.{call_rows}
@@ -53,7 +54,7 @@ judge_call-requires c =
     (accepted passes.images).voice
 
 -- no row applies: `a` is what checking answers, `b` what the call's own rows do
-called : (v x work frames out : List ℕ) (n : ℕ) (before : List (List ℕ)) {after : List (List ℕ)} {w : List ℕ}
+called : (v x work frames out : List ℕ) (n : ℕ) (before : List Vertex) {after : List Vertex} {w : List ℕ}
     {a : Answer ℕ} {b : Answer (Unit {0})} {W : ℕ} {k : Unit {0}} → a ≡ check_answer v x work → a ≡ value W → w ≡ cleared work
     → after ≡ opened_vertices a x before → b ≡ unless (call_rows v frames n out) tt → b ≡ value k
     → Called v x frames n after w
@@ -73,7 +74,7 @@ find_slots-slots-requires c =
     let i = accepted h.images in
     record {
       voice_value = (i.voice, i.lexicon);
-      n_bound = (h.few, record { long = h.table.long; wide = h.table.wide });
+      n_bound = (h.few, record { long = h.table.long });
     }
 
 pub overflow_mul-bytes : goal.overflow_mul-bytes

@@ -4,6 +4,7 @@ use Rattle.std.proofs.Common.{ℕ, ◌+◌, ◌*◌, ◌≤◌, ◌<◌, ◌≡�
 use Rattle.endian.specs.Bytes.{u16}
 use Rattle.lexicon.specs.Lexicon.{node_count, sink_of}
 use Rattle.graph.specs.Graph.{graph_of, path_count}
+use Rattle.checking.specs.declared.Vertex.{Vertex}
 use Rattle.checking.specs.Tables.{WellFormed}
 use Rattle.checking.proofs.Arcs.{ListThere, has-entry, list-there}
 use Rattle.storing.specs.Places.{arcs_in, paths_in}
@@ -20,7 +21,7 @@ unfolding sink_of
 low f h = has-entry f (omega (arith, h))
 
 -- where the node's list stands
-list : {x : List ℕ} {vertices : List (List ℕ)} {node : ℕ} → Arcs x vertices × (node ≤ node_count x)
+list : {x : List ℕ} {vertices : List Vertex} {node : ℕ} → Arcs x vertices × (node ≤ node_count x)
     → ListThere x (arcs_in vertices node)
 list p = list-there p.0.formed p.1 (p.0.begin p.1)
 

@@ -8,12 +8,13 @@ use Rattle.endian.specs.Bytes.{u16}
 use Rattle.voice.specs.Fields.{well_formed}
 use Rattle.voice.specs.Voice.{letter_count, voice_verdict}
 use Rattle.lexicon.specs.Lexicon.{node_count, sink_of, lexicon_verdict}
+use Rattle.checking.specs.declared.Vertex.{Vertex}
 use Rattle.checking.proofs.Arcs.{shape_of}
 use Rattle.checking.proofs.Counting.{Images, formed, NodeRead, node-read}
 use Rattle.storing.proofs.Numbering.{SlotsFound, slots-start, slots_next, slots-done}
 use Rattle.search.proofs.places.find_slots.Goals as goal
 
-module _ {v x : List ℕ} {n nodes node slot : ℕ} {t t' : List (List ℕ)} (m : Images v x)
+module _ {v x : List ℕ} {n nodes node slot : ℕ} {t t' : List Vertex} (m : Images v x)
     (e : nodes ≡ u16 x 0) (i : SlotsFound v x n node slot t t') where
   -- the number that is read first
   counted : nodes ≡ node_count x
@@ -67,8 +68,8 @@ bounds-vertices-sink c =
     let h = few (images c.requires.voice_value) c.u16_at.ensures c.loop-node.invariant in
     omega arith
 
-pub bounds-vertices-sink-after-loop-node : goal.bounds-vertices-sink-after-loop-node
-bounds-vertices-sink-after-loop-node c =
+pub bounds-vertices-sink-2 : goal.bounds-vertices-sink-2
+bounds-vertices-sink-2 c =
     let h = few (images c.requires.voice_value) c.u16_at.ensures c.loop-node.invariant in
     omega arith
 

@@ -2,14 +2,11 @@
 -- successors, which are few. Assumes nothing.
 use Prim.Native.Nat.{ℕ, ◌+◌, ◌*◌, ◌≤◌, ◌<◌}
 use mathlib.Core.Path.{◌≡◌, refl, ◌∙◌}
-use mathlib.Core.Bool.{true}
-use mathlib.Core.List.{List}
 use native.Mathlib.Omega.{arith}
 use Rattle.endian.specs.Bytes.{u16}
-use Rattle.decoder.specs.Score.{bias}
 use Rattle.storing.specs.Held.{lift}
 use Rattle.storing.specs.Places.{arcs_in, paths_in}
-use Rattle.storing.specs.Stored.{source, PassingOn}
+use Rattle.storing.specs.Stored.{source}
 use Rattle.storing.proofs.PassingOn.{list-of, passing_start, left_arc, successor_few}
 use Rattle.storing.proofs.PassingOn.{root_few, passing_next, passing_done}
 use Rattle.search.proofs.Listed.{number-here, before-end, at-end, first-arc, next_arc}
