@@ -11,6 +11,7 @@ ghost use Rattle.registering.specs.Register.{Shared};
 ghost use Rattle.registering.specs.Building.{Given, Buildable, ImageAnswered};
 
 use crate::marking::mark_words;
+use crate::register::NO_ROW;
 use crate::sharing::share;
 use crate::walk::walk_all;
 use crate::writing::build_image;
@@ -44,7 +45,7 @@ fn build(
     ensures { ImageAnswered voice.now (words_from words.now 0 n) (answer_of result)
         out.old out.new }
 {
-    let mut rows = [[0u16; 6]; 401];
+    let mut rows = [NO_ROW; 401];
     let mut chains = [0u16; 256];
     let mut links = [0u16; 2400];
     let count = walk_all(words, n, shared, &mut rows, &mut chains, &mut links).ok_or(

@@ -8,9 +8,8 @@ ghost use Rattle.registering.specs.Numbering.{numbers_in};
 ghost use Rattle.registering.specs.Arcs.{partings_of, link_number, list_of, list_length, Spanned, Readable};
 ghost use Rattle.registering.specs.Image.{Put, ArcsPut};
 
-use crate::numbering::NUMBER;
-use crate::register::{DEPTH, FIRST, MANY};
 use crate::walk::WORD_LINKS;
+use registering::Row;
 
 // Writes a number at an offset.
 pub(crate) fn put_number(out: &mut [u8], at: usize, n: u16)
@@ -21,13 +20,13 @@ pub(crate) fn put_number(out: &mut [u8], at: usize, n: u16)
 }
 
 // How many arcs a vertex has.
-pub(crate) fn list_length(shared: &[u8], row: &[u16; 6]) -> usize
+pub(crate) fn list_length(shared: &[u8], row: &Row) -> usize
     requires { Spanned shared.now row.now }
     ensures { result ≡ list_length shared.now row.now }
 {
-    let first = row[FIRST] as usize;
-    let stop = first + row[MANY] as usize;
-    let depth = row[DEPTH];
+    let first = row.first as usize;
+    let stop = first + row.many as usize;
+    let depth = row.depth;
     let mut arcs = 1;
     for i in first + 1..stop {
         if shared[i] as u16 == depth {
@@ -38,19 +37,19 @@ pub(crate) fn list_length(shared: &[u8], row: &[u16; 6]) -> usize
 }
 
 // The number of the node that a word leads to which parts from the word before it.
-fn link_number(links: &[u16; 2400], rows: &[[u16; 6]; 401], i: usize) -> u16
+fn link_number(links: &[u16; 2400], rows: &[Row; 401], i: usize) -> u16
     requires { (i < 2000) × (get_or links.now (400 + i) 0 < 400) }
     ensures { result ≡ link_number links.now (numbers_in rows.now) i }
 {
-    rows[links[WORD_LINKS + i] as usize][NUMBER]
+    rows[links[WORD_LINKS + i] as usize].chain_or_number
 }
 
 // Writes the numbers that the arcs of a vertex lead to behind the first, from an offset on, and answers how many.
 fn put_arcs(
     shared: &[u8],
     links: &[u16; 2400],
-    rows: &[[u16; 6]; 401],
-    row: &[u16; 6],
+    rows: &[Row; 401],
+    row: &Row,
     out: &mut [u8],
     at: usize,
 ) -> usize
@@ -59,9 +58,9 @@ fn put_arcs(
     ensures { ArcsPut shared.now links.now (numbers_in rows.now)
         row.now at out.old out.new result }
 {
-    let first = row[FIRST] as usize;
-    let stop = first + row[MANY] as usize;
-    let depth = row[DEPTH];
+    let first = row.first as usize;
+    let stop = first + row.many as usize;
+    let depth = row.depth;
     let mut arcs = 0;
     for i in first + 1..stop {
         if shared[i] as u16 == depth {
@@ -76,8 +75,8 @@ fn put_arcs(
 pub(crate) fn put_list(
     shared: &[u8],
     links: &[u16; 2400],
-    rows: &[[u16; 6]; 401],
-    row: &[u16; 6],
+    rows: &[Row; 401],
+    row: &Row,
     first: u16,
     out: &mut [u8],
     at: usize,

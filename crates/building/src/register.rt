@@ -1,5 +1,5 @@
 // The register of nodes, each by the words that have its prefix.
-ghost use Rattle.std.specs.Prelude.{◌≡◌, [], ◌∷◌, ◌*◌, ◌+◌, ◌≤◌, ◌<◌, get_or, drop, set};
+ghost use Rattle.std.specs.Prelude.{◌≡◌, ◌*◌, ◌+◌, ◌≤◌, ◌<◌, get_or, drop, set};
 ghost use Rattle.endian.specs.Lists.{same};
 ghost use Rattle.canonical.specs.Nodes.{same_words, same_node};
 ghost use Rattle.sorting.specs.Slots.{word_at, Slot};
@@ -8,24 +8,17 @@ ghost use Rattle.registering.specs.Register.{rests_from, node_at, row_node};
 ghost use Rattle.registering.specs.Finding.{Lettered, Found};
 
 use crate::sharing::Group;
+use registering::Row;
 
-// The columns of a row: the first word behind its node, how many there are, how many of their letters stand before it,
-// the letters of the longest continuation, the node before it in its chain, and the mark of its continuations. Places
-// in a chain are counted from 1, and 0 ends it: an Option of a place would take twice the stack.
-//
-// A row is no struct: the last two columns have other meanings, with names of their own, once all nodes are registered,
-// and fields for both would take a call past 16 KiB of stack.
-pub(crate) const FIRST: usize = 0;
-
-pub(crate) const MANY: usize = 1;
-
-pub(crate) const DEPTH: usize = 2;
-
-pub(crate) const LONGEST: usize = 3;
-
-const CHAIN: usize = 4;
-
-const MARK: usize = 5;
+// The row of no node.
+pub(crate) const NO_ROW: Row = Row {
+    first: 0,
+    many: 0,
+    depth: 0,
+    longest: 0,
+    chain_or_number: 0,
+    mark_or_place: 0,
+};
 
 // The most nodes that are registered.
 const NODES: usize = 400;
@@ -54,28 +47,28 @@ fn same_rests(words: &[u8], i: usize, d: usize, j: usize, e: usize, n: usize) ->
 
 // Whether the node of a row is that of a group with the same letter: another mark, another number of words, or another
 // longest continuation, tells that it is not before any word is looked at.
-fn is_node(words: &[u8], n: usize, row: &[u16; 6], a: Group) -> bool
+fn is_node(words: &[u8], n: usize, row: &Row, a: Group) -> bool
     requires words { Words words.now n × GroupRow words.now n row.now }
     requires word_group { WordGroup words.now n a.first a.many a.depth a.longest a.mark }
     requires row_value { (row_node words.now row.now).letter ≡ get_or words.now (33 * a.first + a.depth) 0 }
     ensures { result ≡ same_node (row_node words.now row.now)
         (node_at words.now a.first a.many a.depth) }
 {
-    if row[MARK] as usize != a.mark {
+    if row.mark_or_place as usize != a.mark {
         return false;
     }
-    let many = row[MANY] as usize;
+    let many = row.many as usize;
     if many != a.many {
         return false;
     }
-    let longest = row[LONGEST] as usize;
+    let longest = row.longest as usize;
     if longest != a.longest {
         return false;
     }
     same_rests(
         words,
-        row[FIRST] as usize,
-        row[DEPTH] as usize,
+        row.first as usize,
+        row.depth as usize,
         a.first,
         a.depth,
         many,
@@ -86,7 +79,7 @@ fn is_node(words: &[u8], n: usize, row: &[u16; 6], a: Group) -> bool
 fn find(
     words: &[u8],
     n: usize,
-    rows: &[[u16; 6]; 401],
+    rows: &[Row; 401],
     chains: &[u16; 256],
     count: usize,
     letter: u8,
@@ -105,28 +98,34 @@ fn find(
         if is_node(words, n, row, a) {
             return Some(r);
         }
-        place = row[CHAIN] as usize;
+        place = row.chain_or_number as usize;
     }
     None
 }
 
 // Puts the row of a group behind count rows, and at the head of the chain of its letter.
-fn append(rows: &mut [[u16; 6]; 401], chains: &mut [u16; 256], count: usize, letter: u8, a: Group)
+fn append(rows: &mut [Row; 401], chains: &mut [u16; 256], count: usize, letter: u8, a: Group)
     requires { (count < 400) × (a.first ≤ 2000) × (a.many ≤ 2000) × (a.depth ≤ 32) × (a.longest ≤ 32)
         × (a.mark < 65536) }
-    ensures rows_after { rows.new ≡ set rows.old count
-        (a.first ∷ a.many ∷ a.depth ∷ a.longest ∷ get_or chains.old letter 0 ∷ a.mark ∷ []) }
+    ensures rows_after { rows.new ≡ set rows.old count (record {
+            first = a.first;
+            many = a.many;
+            depth = a.depth;
+            longest = a.longest;
+            chain_or_number = get_or chains.old letter 0;
+            mark_or_place = a.mark;
+        }) }
     ensures chains_after { chains.new ≡ set chains.old letter (count + 1) }
 {
     let chain = letter as usize;
-    rows[count] = [
-        a.first as u16,
-        a.many as u16,
-        a.depth as u16,
-        a.longest as u16,
-        chains[chain],
-        a.mark as u16,
-    ];
+    rows[count] = Row {
+        first: a.first as u16,
+        many: a.many as u16,
+        depth: a.depth as u16,
+        longest: a.longest as u16,
+        chain_or_number: chains[chain],
+        mark_or_place: a.mark as u16,
+    };
     chains[chain] = (count + 1) as u16;
 }
 
@@ -135,7 +134,7 @@ fn append(rows: &mut [[u16; 6]; 401], chains: &mut [u16; 256], count: usize, let
 pub(crate) fn enter(
     words: &[u8],
     n: usize,
-    rows: &mut [[u16; 6]; 401],
+    rows: &mut [Row; 401],
     chains: &mut [u16; 256],
     count: usize,
     a: Group,

@@ -5,6 +5,7 @@ ghost use Rattle.registering.specs.Walking.{Walked, Passed};
 
 use crate::register::enter;
 use crate::sharing::group_of;
+use registering::Row;
 
 // Where the links of words begin, behind those of nodes.
 pub(crate) const WORD_LINKS: usize = 400;
@@ -23,7 +24,7 @@ fn walk_word(
     words: &[u8],
     n: usize,
     shared: &[u8],
-    rows: &mut [[u16; 6]; 401],
+    rows: &mut [Row; 401],
     chains: &mut [u16; 256],
     links: &mut [u16; 2400],
     count: usize,
@@ -61,7 +62,7 @@ pub(crate) fn walk_all(
     words: &[u8],
     n: usize,
     shared: &[u8],
-    rows: &mut [[u16; 6]; 401],
+    rows: &mut [Row; 401],
     chains: &mut [u16; 256],
     links: &mut [u16; 2400],
 ) -> Option<usize>

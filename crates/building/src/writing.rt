@@ -10,14 +10,16 @@ ghost use Rattle.registering.specs.Image.{Lettered, Measured, Listed, Voiced, Dr
 
 use crate::lists::{list_length, put_list, put_number};
 use crate::numbering::number_all;
+use crate::register::NO_ROW;
 use crate::vertices::{ROOT, first_arc, letter_of, place_of};
 use call::Refusal;
+use registering::Row;
 
 // The most places of a lexicon.
 const PLACES: usize = 1000;
 
 // The bytes of the image: the number of nodes, their letters, the lists of the vertices, and the reserve.
-fn image_size(shared: &[u8], rows: &[[u16; 6]; 401], count: usize) -> usize
+fn image_size(shared: &[u8], rows: &[Row; 401], count: usize) -> usize
     requires { Measured shared.now rows.now count }
     ensures { result ≡ 4 + count + lists_length shared.now rows.now 0 (suc count) }
 {
@@ -30,7 +32,7 @@ fn image_size(shared: &[u8], rows: &[[u16; 6]; 401], count: usize) -> usize
 }
 
 // The places of the nodes, one for each state of each.
-fn place_total(voice: &[u8], words: &[u8], rows: &[[u16; 6]; 401], count: usize) -> usize
+fn place_total(voice: &[u8], words: &[u8], rows: &[Row; 401], count: usize) -> usize
     requires lettered { Lettered words.now rows.now count }
     requires voiced { Voiced voice.now words.now rows.now count }
     ensures { result ≡ sum (map (states voice.now)
@@ -45,7 +47,7 @@ fn place_total(voice: &[u8], words: &[u8], rows: &[[u16; 6]; 401], count: usize)
 }
 
 // Writes the letters of the nodes, behind their number.
-fn put_letters(words: &[u8], rows: &[[u16; 6]; 401], count: usize, out: &mut [u8])
+fn put_letters(words: &[u8], rows: &[Row; 401], count: usize, out: &mut [u8])
     requires { Lettered words.now rows.now count × (2 + count ≤ length out.old) }
     ensures { Put (letters_from words.now rows.now 1 count) 2
         out.old out.new (2 + count) }
@@ -60,7 +62,7 @@ fn put_lists(
     words: &[u8],
     shared: &[u8],
     links: &[u16; 2400],
-    rows: &[[u16; 6]; 401],
+    rows: &[Row; 401],
     count: usize,
     out: &mut [u8],
 ) -> usize
@@ -86,7 +88,7 @@ fn put_image(
     words: &[u8],
     shared: &[u8],
     links: &[u16; 2400],
-    rows: &[[u16; 6]; 401],
+    rows: &[Row; 401],
     count: usize,
     out: &mut [u8],
 )
@@ -110,7 +112,7 @@ pub(crate) fn build_image(
     words: &[u8],
     n: usize,
     shared: &[u8],
-    rows: &mut [[u16; 6]; 401],
+    rows: &mut [Row; 401],
     links: &[u16; 2400],
     count: usize,
     out: &mut [u8],
@@ -120,7 +122,10 @@ pub(crate) fn build_image(
         out.old out.new }
 {
     // the root has all words behind it, and none of their letters before it
-    rows[ROOT] = [0, n as u16, 0, 0, 0, 0];
+    rows[ROOT] = Row {
+        many: n as u16,
+        ..NO_ROW
+    };
     number_all(rows, count);
     if PLACES < place_total(voice, words, rows, count) {
         return Err(Refusal::CanonicalImage);

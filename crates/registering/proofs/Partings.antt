@@ -12,6 +12,7 @@ use Rattle.endian.specs.Bytes.{u16_bytes}
 use Rattle.endian.proofs.Lists.{flat_map_append}
 use Rattle.image.specs.Image.{list_bytes}
 use Rattle.image.proofs.Reading.{length-list}
+use Rattle.registering.specs.declared.Row.{Row}
 use Rattle.registering.specs.Register.{first_of, many_of, depth_of}
 use Rattle.registering.specs.Arcs.{partings, partings_of, link_number, later_arcs, list_of, list_length, Spanned}
 use Rattle.registering.specs.Image.{ArcsPut}
@@ -22,10 +23,10 @@ use Rattle.registering.proofs.Putting.{put-none, put_both, put_front}
 -- ---- the words that part
 
 -- those of a row from word i on
-abbrev pub partings_from : List ℕ → List ℕ → ℕ → List ℕ
+abbrev pub partings_from : List ℕ → Row → ℕ → List ℕ
 partings_from shared row i = partings shared (depth_of row) i (first_of row + many_of row - i)
 
-module _ (shared row : List ℕ) (i : ℕ) where
+module _ (shared : List ℕ) (row : Row) (i : ℕ) where
   abbrev parts : ℕ → Bool
   parts k = eqb (get_or shared k 0) (depth_of row)
 
@@ -44,18 +45,18 @@ module _ (shared row : List ℕ) (i : ℕ) where
   part_end h = select-end parts i (first_of row + many_of row) h
 
 -- all of them
-part-start : (shared row : List ℕ) → partings_of shared row ≡ partings_from shared row (first_of row + 1)
+part-start : (shared : List ℕ) (row : Row) → partings_of shared row ≡ partings_from shared row (first_of row + 1)
 part-start shared row =
     let e : first_of row + many_of row - (first_of row + 1) ≡ many_of row - 1 = omega arith in rw (e, add-one)
 
 -- ---- how many there are
 
-pub record Counting (shared row : List ℕ) (arcs i : ℕ) : Type 0 where
+pub record Counting (shared : List ℕ) (row : Row) (arcs i : ℕ) : Type 0 where
   pub inside : i ≤ first_of row + many_of row
   pub few : arcs ≤ i
   pub total : arcs + length (partings_from shared row i) ≡ list_length shared row
 
-module _ {shared row : List ℕ} where
+module _ {shared : List ℕ} {row : Row} where
   pub count-start : Spanned shared row → Counting shared row 1 (first_of row + 1)
   unfolding list_length
   count-start s = record {
@@ -87,7 +88,7 @@ module _ {shared row : List ℕ} where
 -- ---- their numbers in the output
 
 -- those of the words passed are put
-pub record Putting (shared links numbers row : List ℕ) (at : ℕ) (out₀ out : List ℕ) (arcs i : ℕ) : Type 0 where
+pub record Putting (shared links numbers : List ℕ) (row : Row) (at : ℕ) (out₀ out : List ℕ) (arcs i : ℕ) : Type 0 where
   pub inside : i ≤ first_of row + many_of row
   pub beyond : first_of row < i
   pub few : arcs ≤ i
@@ -97,7 +98,7 @@ pub record Putting (shared links numbers row : List ℕ) (at : ℕ) (out₀ out 
   pub put : Put (flat_map u16_bytes done) at out₀ out (at + 2 * arcs)
   pub size : length out ≡ length out₀
 
-module _ {shared links numbers row : List ℕ} {at : ℕ} {out₀ : List ℕ} where
+module _ {shared links numbers : List ℕ} {row : Row} {at : ℕ} {out₀ : List ℕ} where
   pub put-start : Spanned shared row → Putting shared links numbers row at out₀ out₀ 0 (first_of row + 1)
   unfolding flat_map
   put-start s =
@@ -180,7 +181,7 @@ module _ {shared links numbers row : List ℕ} {at : ℕ} {out₀ : List ℕ} wh
 
 -- ---- the list: the first arc before them, and the count before that
 
-pub list-long : (shared links numbers row : List ℕ) (first : ℕ)
+pub list-long : (shared links numbers : List ℕ) (row : Row) (first : ℕ)
     → length (list_bytes (list_of shared links numbers row first)) ≡ 4 + 2 * length (partings_of shared row)
 unfolding list_of
 list-long shared links numbers row first =
@@ -190,7 +191,7 @@ list-long shared links numbers row first =
       length-map (partings_of shared row) (link_number links numbers),
     )
 
-module _ {shared links numbers row : List ℕ} (first : ℕ) {at arcs : ℕ} {out out₁ out₂ out₃ : List ℕ} where
+module _ {shared links numbers : List ℕ} {row : Row} (first : ℕ) {at arcs : ℕ} {out out₁ out₂ out₃ : List ℕ} where
   pub list_put : at + 4 ≤ length out → length out₁ ≡ length out → length out₂ ≡ length out
       → ArcsPut shared links numbers row (at + 4) out out₁ arcs
       → Put (u16_bytes first) (at + 2) out₁ out₂ (at + 2 + 2) → Put (u16_bytes (arcs + 1)) at out₂ out₃ (at + 2)

@@ -17,6 +17,7 @@ use Rattle.canonical.specs.Nodes.{Node, same_words, same_node}
 use Rattle.canonical.proofs.Nodes.{node-eq}
 use Rattle.sorting.specs.Slots.{word_at, Slot}
 use Rattle.sorting.proofs.SlotWords.{word-length}
+use Rattle.registering.specs.declared.Row.{Row}
 use Rattle.registering.specs.Register.{Words, Group, GroupRow, rests_from, marks_of, node_at, row_node}
 use Rattle.registering.specs.Register.{first_of, many_of, depth_of, longest_of, mark_of}
 use Rattle.registering.specs.Finding.{Lettered}
@@ -157,7 +158,7 @@ group-small {t} {n} {i} {m} {d} w g =
     )
 
 -- the node of a row beside that of a group
-module _ {t : List ℕ} {n : ℕ} (row : List ℕ) {i m d high mark : ℕ} (r : GroupRow t n row)
+module _ {t : List ℕ} {n : ℕ} (row : Row) {i m d high mark : ℕ} (r : GroupRow t n row)
     (g : Group t n i m d high mark) where
   pub other_mark : ¬ (mark_of row ≡ mark) → false ≡ same_node (row_node t row) (node_at t i m d)
   unfolding row_node

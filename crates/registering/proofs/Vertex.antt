@@ -4,7 +4,7 @@
 use Prim.Native.Nat.{ℕ, zero, suc, ◌+◌, ◌*◌, ◌≤◌, ◌<◌}
 use mathlib.Core.Path.{◌≡◌, sym, ap, ap₂, ◌∙◌}
 use mathlib.Core.Bool.{cond}
-use mathlib.Core.List.{List, []}
+use mathlib.Core.List.{List}
 use native.Mathlib.Decide.{ℕ_discrete}
 use native.Mathlib.Numerals.{add-one}
 use native.Mathlib.Omega.{arith}
@@ -16,8 +16,9 @@ use Rattle.canonical.proofs.Continuations.{Below}
 use Rattle.canonical.proofs.Vertices.{vertex-letter}
 use Rattle.sorting.specs.Slots.{word_at, words_from}
 use Rattle.sorting.proofs.SlotWords.{word-length}
+use Rattle.registering.specs.declared.Row.{Row}
 use Rattle.registering.specs.Register.{Words, previous, Shared, first_of, many_of, depth_of, rests_from, node_at}
-use Rattle.registering.specs.Register.{row_node, Register, Linked, Links}
+use Rattle.registering.specs.Register.{no_row, row_node, Register, Linked, Links}
 use Rattle.registering.specs.Numbering.{numbers_in, order_in, Numbered}
 use Rattle.registering.specs.Arcs.{place_in, vertex_in, first_arc, list_of, vertex_list, NodeRow, Places, Spanned}
 use Rattle.registering.specs.Image.{letter_in, Lettered, Measured, Listed}
@@ -25,7 +26,7 @@ use Rattle.registering.proofs.Arcs.{Behind, First, ends, goes, list-is}
 use Rattle.registering.proofs.Behind.{words-short, word-list, group-behind, root_rest, root_behind}
 
 -- m words from f on with e letters before a vertex, and the place in the links of the place that the first leads to
-pub record Vertex (t : List ℕ) (n : ℕ) (shared : List ℕ) (rows : List (List ℕ)) (links : List ℕ)
+pub record Vertex (t : List ℕ) (n : ℕ) (shared : List ℕ) (rows : List Row) (links : List ℕ)
     (count u f m e link : ℕ) : Type 0 where
   pub behind : Behind t n f m e
   pub rest : rest_of (words_from t 0 n) u ≡ rests_from t e f m
@@ -34,26 +35,26 @@ pub record Vertex (t : List ℕ) (n : ℕ) (shared : List ℕ) (rows : List (Lis
       → Linked t n rows count (get_or links (400 + i) 0) i (e + 1)
 
 -- a row has these words, and so many of their letters before it
-pub record HasWords (row : List ℕ) (f m e : ℕ) : Type 0 where
+pub record HasWords (row : Row) (f m e : ℕ) : Type 0 where
   pub first : first_of row ≡ f
   pub many : many_of row ≡ m
   pub depth : depth_of row ≡ e
 
 -- the words, and all that the tables have of them: the register as it was filled, and as it is with numbers and root
-pub record Tables (t : List ℕ) (n : ℕ) (shared : List ℕ) (rows : List (List ℕ)) (links : List ℕ)
-    (numbered : List (List ℕ)) (count : ℕ) : Type 0 where
+pub record Tables (t : List ℕ) (n : ℕ) (shared : List ℕ) (rows : List Row) (links : List ℕ)
+    (numbered : List Row) (count : ℕ) : Type 0 where
   pub words : Words t n
   pub some : 1 ≤ n
   pub alike : Shared t n shared
   pub register : Register t n rows count
   pub linked : Links t n shared rows links count
   pub numbers : Numbered t n rows (order_in numbered) (numbers_in numbered) count
-  pub root : HasWords (get_or numbered 400 []) 0 n 0
+  pub root : HasWords (get_or numbered 400 no_row) 0 n 0
   pub same : (r : ℕ) → r < count
-      → HasWords (get_or numbered r []) (first_of (get_or rows r [])) (many_of (get_or rows r []))
-      (depth_of (get_or rows r []))
+      → HasWords (get_or numbered r no_row) (first_of (get_or rows r no_row)) (many_of (get_or rows r no_row))
+      (depth_of (get_or rows r no_row))
 
-module _ {t : List ℕ} {n : ℕ} {shared : List ℕ} {rows : List (List ℕ)} {links : List ℕ} {numbered : List (List ℕ)}
+module _ {t : List ℕ} {n : ℕ} {shared : List ℕ} {rows : List Row} {links : List ℕ} {numbered : List Row}
     {count : ℕ} (q : Tables t n shared rows links numbered count) where
   abbrev w : Words t n
   w = q.words
@@ -67,7 +68,7 @@ module _ {t : List ℕ} {n : ℕ} {shared : List ℕ} {rows : List (List ℕ)} {
   abbrev ws : List (List ℕ)
   ws = words_from t 0 n
 
-  abbrev row : ℕ → List ℕ
+  abbrev row : ℕ → Row
   row u = vertex_in numbered u
 
   abbrev VertexAt : ℕ → Type 0

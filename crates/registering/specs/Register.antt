@@ -6,6 +6,7 @@ use Rattle.canonical.specs.Dictionary.{words_in_order, longest}
 use Rattle.canonical.specs.Nodes.{Node, node, same_node, node_of, reached}
 use Rattle.canonical.specs.Groups.{begins, common}
 use Rattle.sorting.specs.Slots.{word_at, Holds, words_from}
+use Rattle.registering.specs.declared.Row.{Row}
 
 -- ---- the words
 
@@ -67,33 +68,37 @@ node_at t i n d = node (get_or t (33 * i + d) 0) (rests_from t d i n)
 -- A node's row: the first word that has its prefix, how many have it, its letters, the letters of its longest
 -- continuation, its chain, and the mark of its continuations. The chain is the place, from 1, of the node of the same
 -- letter that was registered last before it, or 0.
-abbrev pub first_of : List ℕ → ℕ
-first_of row = get_or row 0 0
+abbrev pub first_of : Row → ℕ
+first_of row = row.first
 
-abbrev pub many_of : List ℕ → ℕ
-many_of row = get_or row 1 0
+abbrev pub many_of : Row → ℕ
+many_of row = row.many
 
-abbrev pub depth_of : List ℕ → ℕ
-depth_of row = get_or row 2 0
+abbrev pub depth_of : Row → ℕ
+depth_of row = row.depth
 
-abbrev pub longest_of : List ℕ → ℕ
-longest_of row = get_or row 3 0
+abbrev pub longest_of : Row → ℕ
+longest_of row = row.longest
 
-abbrev pub chain_of : List ℕ → ℕ
-chain_of row = get_or row 4 0
+abbrev pub chain_of : Row → ℕ
+chain_of row = row.chain_or_number
 
-abbrev pub mark_of : List ℕ → ℕ
-mark_of row = get_or row 5 0
+abbrev pub mark_of : Row → ℕ
+mark_of row = row.mark_or_place
 
-unfoldable pub row_node : List ℕ → List ℕ → Node
+-- the row of no node
+abbrev pub no_row : Row
+no_row = record { first = 0; many = 0; depth = 0; longest = 0; chain_or_number = 0; mark_or_place = 0 }
+
+unfoldable pub row_node : List ℕ → Row → Node
 row_node t row = node_at t (first_of row) (many_of row) (depth_of row)
 
 -- the node at place r
-abbrev pub node_in : List ℕ → List (List ℕ) → ℕ → Node
-node_in t rows r = row_node t (get_or rows r [])
+abbrev pub node_in : List ℕ → List Row → ℕ → Node
+node_in t rows r = row_node t (get_or rows r no_row)
 
 -- count nodes from place r on
-unfoldable pub registered : List ℕ → List (List ℕ) → ℕ → ℕ → List Node
+unfoldable pub registered : List ℕ → List Row → ℕ → ℕ → List Node
 registered t rows r zero = []
 registered t rows r (suc count) = node_in t rows r ∷ registered t rows (suc r) count
 
@@ -108,46 +113,45 @@ pub record Group (t : List ℕ) (N i n d most mark : ℕ) : Type 0 where
   pub marked : mark ≡ marks_of 0 (rests_from t d i n)
 
 -- a row is that of a group
-abbrev pub GroupRow : List ℕ → ℕ → List ℕ → Type 0
+abbrev pub GroupRow : List ℕ → ℕ → Row → Type 0
 GroupRow t n row = Group t n (first_of row) (many_of row) (depth_of row) (longest_of row) (mark_of row)
 
 -- count rows are filled; behind the 400 rows of nodes there is one for the root
-pub record Register (t : List ℕ) (n : ℕ) (rows : List (List ℕ)) (count : ℕ) : Type 0 where
+pub record Register (t : List ℕ) (n : ℕ) (rows : List Row) (count : ℕ) : Type 0 where
   pub few : count ≤ 400
   pub long : length rows ≡ 401
-  pub wide : (r : ℕ) → r < 401 → length (get_or rows r []) ≡ 6
-  pub groups : (r : ℕ) → r < count → GroupRow t n (get_or rows r [])
+  pub groups : (r : ℕ) → r < count → GroupRow t n (get_or rows r no_row)
 
 -- ---- chains
 
 -- the place, from 1, of the last node with letter a among the first count, or 0
-unfoldable pub last_alike : List ℕ → List (List ℕ) → ℕ → ℕ → ℕ
+unfoldable pub last_alike : List ℕ → List Row → ℕ → ℕ → ℕ
 last_alike t rows a zero = 0
 last_alike t rows a (suc r) =
     let earlier = last_alike t rows a r in
     cond (eqb a (node_in t rows r).letter) (suc r) earlier
 
-pub record Chained (t : List ℕ) (rows : List (List ℕ)) (table : List ℕ) (count : ℕ) : Type 0 where
+pub record Chained (t : List ℕ) (rows : List Row) (table : List ℕ) (count : ℕ) : Type 0 where
   pub long : length table ≡ 256
   pub heads : (a : ℕ) → a < 256 → get_or table a 0 ≡ last_alike t rows a count
-  pub chains : (r : ℕ) → r < count → chain_of (get_or rows r []) ≡ last_alike t rows (node_in t rows r).letter r
+  pub chains : (r : ℕ) → r < count → chain_of (get_or rows r no_row) ≡ last_alike t rows (node_in t rows r).letter r
 
 -- ---- links
 
 -- the node at a place is that of the first d letters of the word in slot i
-pub record Linked (t : List ℕ) (n : ℕ) (rows : List (List ℕ)) (count place i d : ℕ) : Type 0 where
+pub record Linked (t : List ℕ) (n : ℕ) (rows : List Row) (count place i d : ℕ) : Type 0 where
   pub inside : place < count
   pub node : node_in t rows place ≡ node_of (words_from t 0 n) (take d (word_at t i))
 
 -- Links 0 to 399 lead from the node at that place, where its first word goes on, to the node of a letter more; links
 -- from 400 on lead to the node of one letter more than the word in that slot shares with the word before it.
-pub record Links (t : List ℕ) (n : ℕ) (shared : List ℕ) (rows : List (List ℕ)) (links : List ℕ) (count : ℕ)
+pub record Links (t : List ℕ) (n : ℕ) (shared : List ℕ) (rows : List Row) (links : List ℕ) (count : ℕ)
     : Type 0 where
   pub long : length links ≡ 2400
-  pub down : (r : ℕ) → r < count → depth_of (get_or rows r []) < get_or t (33 * first_of (get_or rows r [])) 0
-      → Linked t n rows count (get_or links r 0) (first_of (get_or rows r [])) (depth_of (get_or rows r []) + 1)
-  pub across : (i r : ℕ) → r < count → first_of (get_or rows r []) < i
-      → i < first_of (get_or rows r []) + many_of (get_or rows r []) → get_or shared i 0 ≡ depth_of (get_or rows r [])
+  pub down : (r : ℕ) → r < count → depth_of (get_or rows r no_row) < get_or t (33 * first_of (get_or rows r no_row)) 0
+      → Linked t n rows count (get_or links r 0) (first_of (get_or rows r no_row)) (depth_of (get_or rows r no_row) + 1)
+  pub across : (i r : ℕ) → r < count → first_of (get_or rows r no_row) < i
+      → i < first_of (get_or rows r no_row) + many_of (get_or rows r no_row) → get_or shared i 0 ≡ depth_of (get_or rows r no_row)
       → Linked t n rows count (get_or links (400 + i) 0) i (get_or shared i 0 + 1)
   pub root : (i : ℕ) → i < n → get_or shared i 0 ≡ 0 → Linked t n rows count (get_or links (400 + i) 0) i 1
 
@@ -158,7 +162,7 @@ abbrev pub Full : List ℕ → ℕ → Type 0
 Full t n = 400 < length (reached (words_from t 0 n))
 
 -- the nodes that the words' prefixes reach are registered, in the order of their first prefixes, and linked
-pub record Built (t : List ℕ) (n : ℕ) (shared : List ℕ) (rows : List (List ℕ)) (table : List ℕ) (count : ℕ)
+pub record Built (t : List ℕ) (n : ℕ) (shared : List ℕ) (rows : List Row) (table : List ℕ) (count : ℕ)
     : Type 0 where
   pub register : Register t n rows count
   pub nodes : registered t rows 0 count ≡ reached (words_from t 0 n)
@@ -167,12 +171,12 @@ pub record Built (t : List ℕ) (n : ℕ) (shared : List ℕ) (rows : List (List
 -- ---- a node more
 
 -- no node among the first count is this one
-abbrev pub Unknown : List ℕ → List (List ℕ) → ℕ → Node → Type 0
+abbrev pub Unknown : List ℕ → List Row → ℕ → Node → Type 0
 Unknown t rows count a = (r : ℕ) → r < count → same_node (node_in t rows r) a ≡ false
 
 -- the row of a group of words was put behind count rows
-pub record Added (t : List ℕ) (n : ℕ) (rows : List (List ℕ)) (count i m d : ℕ) (rows' : List (List ℕ)) : Type 0 where
-  pub row : List ℕ
+pub record Added (t : List ℕ) (n : ℕ) (rows : List Row) (count i m d : ℕ) (rows' : List Row) : Type 0 where
+  pub row : Row
   pub put : rows' ≡ set rows count row
   pub first : first_of row ≡ i
   pub many : many_of row ≡ m
@@ -181,7 +185,7 @@ pub record Added (t : List ℕ) (n : ℕ) (rows : List (List ℕ)) (count i m d 
 
 -- The node of m words with d letters, the first in slot i, was looked for among count nodes: it stands at the place
 -- answered, and it was there already, or it was put there; or there is no room for it.
-pub data Entered (t : List ℕ) (n : ℕ) (rows : List (List ℕ)) (count i m d : ℕ) (rows' : List (List ℕ))
+pub data Entered (t : List ℕ) (n : ℕ) (rows : List Row) (count i m d : ℕ) (rows' : List Row)
     (chains' : List ℕ) : Option ℕ → Type 0 where
   known : {r : ℕ} → r < count → rows' ≡ rows → node_in t rows r ≡ node_at t i m d → Chained t rows' chains' count
       → Entered t n rows count i m d rows' chains' (Some r)

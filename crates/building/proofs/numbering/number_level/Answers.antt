@@ -1,31 +1,32 @@
 -- `numbering::number_level` meets its contract: before each row the places of this height from it on are left. Assumes
 -- nothing.
 use Prim.Native.Nat.{ℕ, ◌+◌, ◌-◌, ◌<◌}
-use mathlib.Core.Path.{◌≡◌, sym, ◌∙◌}
-use mathlib.Core.List.{List, [], ◌∷◌, ◌++◌}
+use mathlib.Core.Path.{◌≡◌, sym, ap, ◌∙◌}
+use mathlib.Core.List.{List, ◌∷◌, ◌++◌}
 use native.Mathlib.Omega.{arith}
 use lib.ListN.{get_or}
-use Rattle.checking.proofs.Columns.{column-at}
-use Rattle.registering.specs.Register.{longest_of}
+use Rattle.registering.specs.declared.Row.{Row}
+use Rattle.registering.specs.Register.{longest_of, no_row}
 use Rattle.registering.specs.Numbering.{heights_in, places_of, places_below, Rows, PlacedIn}
+use Rattle.registering.proofs.Fields.{field-at}
 use Rattle.registering.proofs.Numbers.{places-here, places-past, places-none}
-use Rattle.registering.proofs.Placing.{entry-same, place-room, placed-more}
+use Rattle.registering.proofs.Placing.{row-same, place-room, placed-more}
 use Rattle.building.proofs.numbering.number_level.Goals as goal
 use Rattle.building.proofs.numbering.number_level.Goals.{then-rows-r, else-rows-r}
 
 -- the turn of row r
-module _ {rows now : List (List ℕ)} {count r next : ℕ} (h : ℕ) (g : Rows rows count) (t : r < count)
+module _ {rows now : List Row} {count r next : ℕ} (h : ℕ) (g : Rows rows count) (t : r < count)
     (p : PlacedIn rows now count
     (places_of (heights_in rows) h r (count - r) ++ places_below (heights_in rows) count h) next)
   where
     -- its height, which no number has changed
-    height : get_or (heights_in rows) r 0 ≡ longest_of (get_or now r [])
-    height = column-at 3 r rows ∙ sym (entry-same p.same r 3 (omega arith))
+    height : get_or (heights_in rows) r 0 ≡ longest_of (get_or now r no_row)
+    height = field-at longest_of r rows no_row ∙ ap longest_of (sym (row-same p.same r))
 
-    low : longest_of (get_or now r []) < 33
+    low : longest_of (get_or now r no_row) < 33
     low = rw height at (g.low r t)
 
-    module _ (e : longest_of (get_or now r []) ≡ h) where
+    module _ (e : longest_of (get_or now r no_row) ≡ h) where
       -- it has the next place
       here : PlacedIn rows now count
           (r ∷ places_of (heights_in rows) h (r + 1) (count - (r + 1)) ++ places_below (heights_in rows) count h) next
@@ -34,7 +35,7 @@ module _ {rows now : List (List ℕ)} {count r next : ℕ} (h : ℕ) (g : Rows r
       room : (r < 400) × (next < 400)
       room = place-room g here
 
-    past : (longest_of (get_or now r []) ≡ h → ⊥) → PlacedIn rows now count
+    past : (longest_of (get_or now r no_row) ≡ h → ⊥) → PlacedIn rows now count
         (places_of (heights_in rows) h (r + 1) (count - (r + 1)) ++ places_below (heights_in rows) count h) next
     past n = rw (places-past (heights_in rows) h count r t (λ e. n (sym height ∙ e))) at p
 

@@ -2,15 +2,15 @@
 -- nothing.
 use Prim.Native.Nat.{ℕ, ◌+◌, ◌<◌, max}
 use mathlib.Core.Path.{◌≡◌, sym, ap, ◌∙◌}
-use mathlib.Core.List.{[]}
 use native.Mathlib.Decide.{ℕ_discrete}
 use native.Mathlib.Omega.{arith}
 use lib.ListN.{get_or, take, length-take}
 use lib.Seq.{get_or-take}
 use Rattle.std.specs.Ordering.{ord_max, nat_cmp}
 use Rattle.std.proofs.lemmas.Bool.Decides.{nat_tests}
-use Rattle.checking.proofs.Columns.{column-at}
+use Rattle.registering.specs.Register.{longest_of, no_row}
 use Rattle.registering.specs.Numbering.{heights_in}
+use Rattle.registering.proofs.Fields.{field-at}
 use Rattle.building.proofs.numbering.top_of.Goals as goal
 
 greater : (a b : ℕ) → ord_max nat_cmp a b ≡ max a b
@@ -21,8 +21,8 @@ loop-row-preserved c =
     let rows = c.args.rows.now in
     let i = c.loop-row.row-index in
     let h : i < c.args.count = omega (arith, length-take c.args.count rows, c.loop-row-test.true) in
-    let e : get_or (get_or (take c.args.count rows) i []) 3 0 ≡ get_or (heights_in rows) i 0 =
-    ap (λ row. get_or row 3 0) (get_or-take c.args.count rows i [] h) ∙ sym (column-at 3 i rows) in
+    let e : longest_of (get_or (take c.args.count rows) i no_row) ≡ get_or (heights_in rows) i 0 =
+    ap longest_of (get_or-take c.args.count rows i no_row h) ∙ sym (field-at longest_of i rows no_row) in
     let m : c.max-top.result ≡ max c.loop-row.top (get_or (heights_in rows) i 0 + 1) =
     c.max-top.ensures ∙ greater c.loop-row.top _ ∙ ap (λ k. max c.loop-row.top (k + 1)) e in (
       λ r q. elim (ℕ_discrete r i) [

@@ -1,7 +1,8 @@
 -- `vertices::first_arc` meets its contract: both ways it is the definition. Assumes nothing.
 use mathlib.Core.Path.{sym, ◌∙◌}
-use Rattle.checking.proofs.Columns.{column-at}
+use Rattle.registering.specs.Register.{no_row}
 use Rattle.registering.specs.Numbering.{numbers_in}
+use Rattle.registering.proofs.Fields.{field-at}
 use Rattle.registering.proofs.Placing.{arc-ends, arc-goes}
 use Rattle.building.proofs.vertices.first_arc.Goals as goal
 
@@ -13,5 +14,5 @@ returns-then-words-row c =
 pub returns : goal.returns
 returns c =
     let a = c.args in
-    sym (column-at 4 a.place a.rows.now)
+    sym (field-at (λ row. row.chain_or_number) a.place a.rows.now no_row)
     ∙ arc-goes a.words.now (numbers_in a.rows.now) a.count a.row.now a.place c.if-words-row.false

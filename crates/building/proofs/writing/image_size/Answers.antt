@@ -2,9 +2,9 @@
 -- nothing.
 use Prim.Native.Nat.{◌≤◌}
 use mathlib.Core.Path.{ap, ◌∙◌}
-use mathlib.Core.List.{[]}
 use native.Mathlib.Omega.{arith}
 use lib.ListN.{get_or}
+use Rattle.registering.specs.Register.{no_row}
 use Rattle.registering.specs.Arcs.{list_length}
 use Rattle.registering.proofs.Images.{list-few, size_none, size-more}
 use Rattle.building.proofs.writing.image_size.Goals as goal
@@ -30,7 +30,7 @@ loop-vertex-preserved c =
         arith,
         i.invariant.0,
         c.list_length.ensures
-            ∙ ap (λ k. list_length a.shared.now (get_or a.rows.now k [])) c.place_of-place.ensures,
+            ∙ ap (λ k. list_length a.shared.now (get_or a.rows.now k no_row)) c.place_of-place.ensures,
         size-more a.shared.now a.rows.now i.vertex,
       ),
       omega (arith, i.invariant.1, few (goal.at.loop-vertex-preserved c).After-list_length),

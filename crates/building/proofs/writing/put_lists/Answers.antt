@@ -2,10 +2,11 @@
 -- nothing.
 use Prim.Native.Nat.{ℕ, ◌+◌}
 use mathlib.Core.Path.{◌≡◌, refl, ap, ◌∙◌}
-use mathlib.Core.List.{List, []}
 use native.Mathlib.Omega.{arith}
 use lib.ListN.{length, get_or}
 use Rattle.image.specs.Image.{list_bytes}
+use Rattle.registering.specs.declared.Row.{Row}
+use Rattle.registering.specs.Register.{no_row}
 use Rattle.registering.specs.Numbering.{numbers_in}
 use Rattle.registering.specs.Arcs.{first_arc, list_of, vertex_list}
 use Rattle.registering.proofs.Putting.{put-none, put_both}
@@ -15,13 +16,13 @@ use Rattle.building.proofs.writing.put_lists.Goals.{After-first_arc-first}
 
 -- the list that is put
 list-is : (c : After-first_arc-first) → let a = c.args in
-    list_of a.shared.now a.links.now (numbers_in a.rows.now) (get_or a.rows.now c.place_of-place.result [])
+    list_of a.shared.now a.links.now (numbers_in a.rows.now) (get_or a.rows.now c.place_of-place.result no_row)
     c.first_arc-first.result
     ≡ vertex_list a.words.now a.shared.now a.links.now a.rows.now a.count c.loop-vertex.vertex
 list-is c =
     let a = c.args in
     let numbers = numbers_in a.rows.now in
-    let row : ℕ → List ℕ = λ i. get_or a.rows.now i [] in
+    let row : ℕ → Row = λ i. get_or a.rows.now i no_row in
     let i = c.place_of-place.result in
     ap (list_of a.shared.now a.links.now numbers (row i)) c.first_arc-first.ensures
     ∙ ap
