@@ -108,13 +108,13 @@ fn append(rows: &mut [Row; 401], chains: &mut [u16; 256], count: usize, letter: 
     requires { (count < 400) × (a.first ≤ 2000) × (a.many ≤ 2000) × (a.depth ≤ 32) × (a.longest ≤ 32)
         × (a.mark < 65536) }
     ensures rows_after { rows.new ≡ set rows.old count (record {
-            first = a.first;
-            many = a.many;
-            depth = a.depth;
-            longest = a.longest;
-            chain_or_number = get_or chains.old letter 0;
-            mark_or_place = a.mark;
-        }) }
+      first = a.first;
+      many = a.many;
+      depth = a.depth;
+      longest = a.longest;
+      chain_or_number = get_or chains.old letter 0;
+      mark_or_place = a.mark;
+    }) }
     ensures chains_after { chains.new ≡ set chains.old letter (count + 1) }
 {
     let chain = letter as usize;

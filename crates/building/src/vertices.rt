@@ -25,13 +25,7 @@ pub(crate) fn place_of(rows: &[Row; 401], vertex: usize) -> usize
 
 // Where the first arc of a vertex leads: to the sink where its first word ends, else along that word to the node at a
 // place.
-pub(crate) fn first_arc(
-    words: &[u8],
-    rows: &[Row; 401],
-    count: usize,
-    row: &Row,
-    place: u16,
-) -> u16
+pub(crate) fn first_arc(words: &[u8], rows: &[Row; 401], count: usize, row: &Row, place: u16) -> u16
     requires { (count ≤ 400) × NodeRow words.now row.now place }
     ensures { result ≡ first_arc words.now (numbers_in rows.now) count row.now
         place }

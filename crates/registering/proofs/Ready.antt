@@ -4,7 +4,7 @@ use Prim.Native.Nat.{ℕ}
 use mathlib.Core.Path.{refl, subst}
 use mathlib.Core.List.{List, Memᴰ as In}
 use native.Mathlib.Omega.{arith}
-use lib.ListN.{length, replicate, length-replicate}
+use lib.ListN.{replicate, length-replicate}
 use Rattle.endian.proofs.Lists.{get_d_copies}
 use Rattle.call.specs.declared.Refusal.TheVariants.{CanonicalImage}
 use Rattle.call.specs.Table.{Answer, refused, unless}

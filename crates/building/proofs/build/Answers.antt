@@ -1,6 +1,6 @@
 -- `build` meets its contract: the nodes of all prefixes are registered and linked; over 400 of them are 18, and else
 -- the image decides. Assumes nothing.
-use Rattle.std.proofs.Common.{◌≡◌, ℕ, Some, None, Ok, Err, Option, Result, refl}
+use Rattle.std.proofs.Common.{◌≡◌, ℕ, Some, None, Err, Option, Result, refl}
 use Rattle.std.specs.Option.{MatchOption, ok_or}
 use Rattle.std.proofs.lemmas.Result.{err_from_is_err_and}
 use Rattle.call.specs.declared.Refusal.{Refusal}
