@@ -13,7 +13,7 @@ use Rattle.canonical.proofs.Vertices.{WordList}
 use Rattle.sorting.specs.Slots.{word_at, words_from}
 use Rattle.sorting.proofs.SlotWords.{words-length, words-out}
 use Rattle.registering.specs.declared.Row.{Row}
-use Rattle.registering.specs.Register.{Words, rests_from, node_at, Group, Register, no_row, longest_of}
+use Rattle.registering.specs.Register.{Words, rests_from, node_at, Group, Register, no_row}
 use Rattle.registering.specs.Numbering.{Rows}
 use Rattle.registering.proofs.Fields.{field-at}
 use Rattle.registering.proofs.RestWords.{longest-low}
@@ -61,7 +61,7 @@ module _ {t : List ℕ} {n : ℕ} (w : Words t n) where
   register_rows {rows} g = record {
     few = g.few;
     long = g.long;
-    low = λ r h. rw (field-at longest_of r rows no_row) (omega (arith, group_low (g.groups r h)));
+    low = λ r h. rw (field-at (λ row. row.longest) r rows no_row) (omega (arith, group_low (g.groups r h)));
   }
 
   -- ---- the root

@@ -6,7 +6,8 @@ use mathlib.Core.List.{List, [], ◌∷◌, map}
 use lib.ListN.{get_or, set}
 
 module _ {X Y : Type 0} (field : X → Y) where
-  pub field-at : (r : ℕ) (rows : List X) (none : X) → get_or (map field rows) r (field none) ≡ field (get_or rows r none)
+  pub field-at : (r : ℕ) (rows : List X) (none : X)
+      → get_or (map field rows) r (field none) ≡ field (get_or rows r none)
   field-at zero [] none = refl
   field-at (suc r) [] none = refl
   field-at zero (row ∷ rows) none = refl

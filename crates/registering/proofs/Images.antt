@@ -17,7 +17,6 @@ use Rattle.voice.specs.Voice.{states}
 use Rattle.image.specs.Image.{list_bytes}
 use Rattle.image.proofs.Reading.{length_from, length-u16}
 use Rattle.registering.specs.declared.Row.{Row}
-use Rattle.registering.specs.Register.{first_of, many_of, depth_of}
 use Rattle.registering.specs.Numbering.{numbers_in}
 use Rattle.registering.specs.Arcs.{place_in, vertex_in, first_arc, vertex_list, partings, partings_of, list_of}
 use Rattle.registering.specs.Arcs.{list_length, Spanned}
@@ -83,8 +82,8 @@ unfolding partings
 parts-few {shared} {row} s =
     omega (
       arith,
-      select-few (λ k. eqb (get_or shared k 0) (depth_of row)) (from (suc (first_of row)) (many_of row - 1)),
-      length_from (suc (first_of row)) (many_of row - 1),
+      select-few (λ k. eqb (get_or shared k 0) row.depth) (from (suc row.first) (row.many - 1)),
+      length_from (suc row.first) (row.many - 1),
       s.few,
       s.some,
     )

@@ -9,7 +9,7 @@ use native.Mathlib.Omega.{arith}
 use lib.ListN.{length, get_or, set, length-set}
 use lib.Seq.{get_or-set_same, get_or-set_other}
 use Rattle.registering.specs.declared.Row.{Row}
-use Rattle.registering.specs.Register.{first_of, many_of, depth_of, no_row, row_node, Linked}
+use Rattle.registering.specs.Register.{no_row, row_node, Linked}
 use Rattle.registering.specs.Walking.{LinksTo, Gap, ahead, within}
 
 -- the first count rows are as they were
@@ -20,10 +20,11 @@ Kept rows rows' count = (r : ℕ) → r < count → get_or rows' r no_row ≡ ge
 pub record Filled (t : List ℕ) (n : ℕ) (shared : List ℕ) (rows : List Row) (links : List ℕ) (old count i : ℕ)
     : Type 0 where
   pub long : length links ≡ 2400
-  pub down : (r : ℕ) → r < old → depth_of (get_or rows r no_row) < get_or t (33 * first_of (get_or rows r no_row)) 0
-      → Linked t n rows count (get_or links r 0) (first_of (get_or rows r no_row)) (depth_of (get_or rows r no_row) + 1)
-  pub across : (j r : ℕ) → j < i → r < old → first_of (get_or rows r no_row) < j
-      → j < first_of (get_or rows r no_row) + many_of (get_or rows r no_row) → get_or shared j 0 ≡ depth_of (get_or rows r no_row)
+  pub down : (r : ℕ) → r < old → (get_or rows r no_row).depth < get_or t (33 * (get_or rows r no_row).first) 0
+      → Linked t n rows count (get_or links r 0) (get_or rows r no_row).first ((get_or rows r no_row).depth + 1)
+  pub across : (j r : ℕ) → j < i → r < old → (get_or rows r no_row).first < j
+      → j < (get_or rows r no_row).first + (get_or rows r no_row).many
+      → get_or shared j 0 ≡ (get_or rows r no_row).depth
       → Linked t n rows count (get_or links (400 + j) 0) j (get_or shared j 0 + 1)
   pub root : (j : ℕ) → j < i → get_or shared j 0 ≡ 0 → Linked t n rows count (get_or links (400 + j) 0) j 1
   pub entry : Linked t n rows count (get_or links (400 + i) 0) i (get_or shared i 0 + 1)
@@ -47,7 +48,7 @@ module _ {t : List ℕ} {n : ℕ} {shared : List ℕ} {rows : List Row} {links :
   gap_shared (within low first depth past entry) = omega arith
 
   gap_row : {link : ℕ} → Gap t n shared rows links count i d link → count ≤ 400 → link < count
-      → (first_of (get_or rows link no_row) ≡ i) × (depth_of (get_or rows link no_row) ≡ d)
+      → ((get_or rows link no_row).first ≡ i) × ((get_or rows link no_row).depth ≡ d)
   gap_row (ahead e) few h = absurd (omega arith)
   gap_row (within low first depth past entry) few h = (first, depth)
 
@@ -73,9 +74,9 @@ module _ {t : List ℕ} {n : ℕ} {shared : List ℕ} {rows rows' : List Row} {l
   past : (k : ℕ) → ¬ (k ≡ link) → get_or (set links link place) k 0 ≡ get_or links k 0
   past k h = get_or-set_other links link k place 0 h
 
-  down : (r : ℕ) → r < count → depth_of (get_or rows r no_row) < get_or t (33 * first_of (get_or rows r no_row)) 0
-      → Linked t n rows' count' (get_or (set links link place) r 0) (first_of (get_or rows r no_row))
-      (depth_of (get_or rows r no_row) + 1)
+  down : (r : ℕ) → r < count → (get_or rows r no_row).depth < get_or t (33 * (get_or rows r no_row).first) 0
+      → Linked t n rows' count' (get_or (set links link place) r 0) (get_or rows r no_row).first
+      ((get_or rows r no_row).depth + 1)
   down r h short = elim (ℕ_discrete r link) [
     | yes e ↦
         let u = gap_row gap few (omega arith) in
@@ -104,9 +105,9 @@ module _ {t : List ℕ} {n : ℕ} {shared : List ℕ} {rows rows' : List Row} {l
 -- where the words behind slot i up to slot k want no link, the links of slot i are those up to slot k
 pub filled_on : {t : List ℕ} {n : ℕ} {shared : List ℕ} {rows : List Row} {links : List ℕ} {count i : ℕ}
     (k gap : ℕ) → Filled t n shared rows links count count i
-    → ((j : ℕ) → i < j → j < k → (r : ℕ) → r < count → first_of (get_or rows r no_row) < j
-    → j < first_of (get_or rows r no_row) + many_of (get_or rows r no_row)
-    → ¬ (get_or shared j 0 ≡ depth_of (get_or rows r no_row)))
+    → ((j : ℕ) → i < j → j < k → (r : ℕ) → r < count → (get_or rows r no_row).first < j
+    → j < (get_or rows r no_row).first + (get_or rows r no_row).many
+    → ¬ (get_or shared j 0 ≡ (get_or rows r no_row).depth))
     → ((j : ℕ) → i < j → j < k → 1 ≤ get_or shared j 0) → LinksTo t n shared rows links count k gap
 filled_on {t} {n} {shared} {rows} {links} {count} {i} k gap f none some = record {
   long = f.long;
@@ -136,8 +137,8 @@ filled-end {t} {n} {shared} {rows} {links} {count} {i} {d} {link} few old gap en
   down = λ r h short. elim (ℕ_discrete r link) [
     | yes e ↦
         let u = gap_row gap few (omega arith) in
-        let f : first_of (get_or rows r no_row) ≡ i = ap (λ k. first_of (get_or rows k no_row)) e ∙ u.0 in
-        let g : depth_of (get_or rows r no_row) ≡ d = ap (λ k. depth_of (get_or rows k no_row)) e ∙ u.1 in
+        let f : (get_or rows r no_row).first ≡ i = ap (λ k. (get_or rows k no_row).first) e ∙ u.0 in
+        let g : (get_or rows r no_row).depth ≡ d = ap (λ k. (get_or rows k no_row).depth) e ∙ u.1 in
         absurd (omega (arith, f, g, ap (λ k. get_or t (33 * k) 0) f))
     | no e ↦ old.down r h e short
   ];

@@ -29,7 +29,7 @@ use Rattle.canonical.proofs.Nodes.{down_in, down-falls, nodes-apart, place-of}
 use Rattle.canonical.proofs.Registering.{nodes-from}
 use Rattle.sorting.specs.Slots.{words_from}
 use Rattle.registering.specs.declared.Row.{Row}
-use Rattle.registering.specs.Register.{longest_of, no_row, node_at, row_node, node_in, registered, Register}
+use Rattle.registering.specs.Register.{no_row, node_at, row_node, node_in, registered, Register}
 use Rattle.registering.specs.Numbering.{places_of, places_below, Low, Placed, Numbered}
 use Rattle.registering.proofs.Selected.{select-here, select-past, select-end}
 
@@ -243,7 +243,7 @@ module _ (ws : List (List ℕ)) (top : ℕ) (low : (n : Node) → In n (reached 
 
 module _ {t : List ℕ} {n : ℕ} {rows : List Row} (heights : List ℕ) {count : ℕ} (g : Register t n rows count)
     (is : registered t rows 0 count ≡ reached (words_from t 0 n))
-    (high : (r : ℕ) → r < count → get_or heights r 0 ≡ longest_of (get_or rows r no_row)) where
+    (high : (r : ℕ) → r < count → get_or heights r 0 ≡ (get_or rows r no_row).longest) where
   abbrev ws : List (List ℕ)
   ws = words_from t 0 n
 

@@ -9,7 +9,7 @@ use lib.ListN.{length, get_or, set, length-map}
 use borrow.Author.Tests.{eq-eqb, ne_eqb}
 use Rattle.std.proofs.lemmas.List.{map-set}
 use Rattle.registering.specs.declared.Row.{Row}
-use Rattle.registering.specs.Register.{first_of, depth_of, longest_of, no_row}
+use Rattle.registering.specs.Register.{no_row}
 use Rattle.registering.specs.Numbering.{heights_in, numbers_in, order_in, bare, SameRows, places_below, Low, Rows}
 use Rattle.registering.specs.Numbering.{Placed, PlacedIn}
 use Rattle.registering.specs.Arcs.{first_arc}
@@ -31,7 +31,9 @@ same-stored rows u row e = record { kept = field-kept bare u rows no_row row e }
 
 module _ {rows rows' : List Row} (s : SameRows rows rows') where
   pub heights_same : heights_in rows' ≡ heights_in rows
-  heights_same = sym (map-map longest_of bare rows') ∙ ap (map longest_of) s.kept ∙ map-map longest_of bare rows
+  heights_same =
+      let height : Row → ℕ = λ row. row.longest in
+      sym (map-map height bare rows') ∙ ap (map height) s.kept ∙ map-map height bare rows
 
   pub rows_long : length rows' ≡ length rows
   rows_long = sym (length-map rows' bare) ∙ ap length s.kept ∙ length-map rows bare
@@ -113,12 +115,12 @@ module _ {rows rows' : List Row} (s : SameRows rows rows') {count k : ℕ} (left
 
 module _ (t numbers : List ℕ) (count : ℕ) (row : Row) (place : ℕ) where
   -- to the sink
-  pub arc-ends : get_or t (33 * first_of row) 0 ≡ depth_of row → count + 1 ≡ first_arc t numbers count row place
+  pub arc-ends : get_or t (33 * row.first) 0 ≡ row.depth → count + 1 ≡ first_arc t numbers count row place
   unfolding first_arc
-  arc-ends e = rw (eq-eqb (get_or t (33 * first_of row) 0) (depth_of row) e, add-one)
+  arc-ends e = rw (eq-eqb (get_or t (33 * row.first) 0) row.depth e, add-one)
 
   -- along the first word
-  pub arc-goes : ¬ (get_or t (33 * first_of row) 0 ≡ depth_of row)
+  pub arc-goes : ¬ (get_or t (33 * row.first) 0 ≡ row.depth)
       → get_or numbers place 0 ≡ first_arc t numbers count row place
   unfolding first_arc
-  arc-goes e = rw (ne_eqb (get_or t (33 * first_of row) 0) (depth_of row) e)
+  arc-goes e = rw (ne_eqb (get_or t (33 * row.first) 0) row.depth e)

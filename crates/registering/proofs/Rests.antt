@@ -19,7 +19,7 @@ use Rattle.sorting.specs.Slots.{word_at, Slot}
 use Rattle.sorting.proofs.SlotWords.{word-length}
 use Rattle.registering.specs.declared.Row.{Row}
 use Rattle.registering.specs.Register.{Words, Group, GroupRow, rests_from, marks_of, node_at, row_node}
-use Rattle.registering.specs.Register.{first_of, many_of, depth_of, longest_of, mark_of}
+use Rattle.registering.specs.Register.{mark_of}
 use Rattle.registering.specs.Finding.{Lettered}
 use Rattle.registering.proofs.RestWords.{length_rests, longest-low}
 use Rattle.registering.proofs.Marks.{marks-low}
@@ -163,26 +163,26 @@ module _ {t : List ℕ} {n : ℕ} (row : Row) {i m d high mark : ℕ} (r : Group
   pub other_mark : ¬ (mark_of row ≡ mark) → false ≡ same_node (row_node t row) (node_at t i m d)
   unfolding row_node
   other_mark k =
-      sym (nodes-number t (first_of row) (many_of row) (depth_of row) i m d (marks_of 0)
+      sym (nodes-number t row.first row.many row.depth i m d (marks_of 0)
       (λ e. k (r.marked ∙ e ∙ sym g.marked)))
 
-  pub other-many : ¬ (many_of row ≡ m) → false ≡ same_node (row_node t row) (node_at t i m d)
+  pub other-many : ¬ (row.many ≡ m) → false ≡ same_node (row_node t row) (node_at t i m d)
   unfolding row_node
-  other-many k = sym (nodes-many t (first_of row) (many_of row) (depth_of row) i m d k)
+  other-many k = sym (nodes-many t row.first row.many row.depth i m d k)
 
-  pub other-longest : ¬ (longest_of row ≡ high) → false ≡ same_node (row_node t row) (node_at t i m d)
+  pub other-longest : ¬ (row.longest ≡ high) → false ≡ same_node (row_node t row) (node_at t i m d)
   unfolding row_node
   other-longest k =
-      sym (nodes-number t (first_of row) (many_of row) (depth_of row) i m d longest
+      sym (nodes-number t row.first row.many row.depth i m d longest
       (λ e. k (r.high ∙ e ∙ sym g.high)))
 
   -- of the same letter and the same number of words
-  pub same-letters : (row_node t row).letter ≡ get_or t (33 * i + d) 0 → many_of row ≡ m
-      → {b : Bool} → b ≡ same_words (rests_from t (depth_of row) (first_of row) (many_of row))
-      (rests_from t d i (many_of row))
+  pub same-letters : (row_node t row).letter ≡ get_or t (33 * i + d) 0 → row.many ≡ m
+      → {b : Bool} → b ≡ same_words (rests_from t row.depth row.first row.many)
+      (rests_from t d i row.many)
       → b ≡ same_node (row_node t row) (node_at t i m d)
   unfolding row_node node_at
   same-letters e k q =
       q
-      ∙ ap (λ l. same_words (rests_from t (depth_of row) (first_of row) (many_of row)) (rests_from t d i l)) k
-      ∙ sym (nodes_rests t (first_of row) (many_of row) (depth_of row) i m d e)
+      ∙ ap (λ l. same_words (rests_from t row.depth row.first row.many) (rests_from t d i l)) k
+      ∙ sym (nodes_rests t row.first row.many row.depth i m d e)

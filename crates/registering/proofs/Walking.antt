@@ -17,8 +17,8 @@ use Rattle.canonical.proofs.Nodes.{distinct-out}
 use Rattle.sorting.specs.Slots.{word_at, words_from}
 use Rattle.sorting.proofs.SlotWords.{words-out}
 use Rattle.registering.specs.declared.Row.{Row}
-use Rattle.registering.specs.Register.{Words, previous, Shared, Group, first_of, many_of, depth_of, row_node, node_at}
-use Rattle.registering.specs.Register.{no_row, node_in, registered, Register, Chained, Full, Built, Unknown, Added, Entered}
+use Rattle.registering.specs.Register.{Words, previous, Shared, Group, no_row, row_node, node_at, node_in}
+use Rattle.registering.specs.Register.{registered, Register, Chained, Full, Built, Unknown, Added, Entered}
 use Rattle.registering.specs.Register.{known, added, full}
 use Rattle.registering.specs.Walking.{fresh_all, fresh_to, ahead, within, Walked, Walking}
 use Rattle.registering.proofs.Common.{common-most, common-short}
@@ -153,12 +153,12 @@ module _ {t : List ℕ} {n : ℕ} {shared : List ℕ} (w : Words t n) (s : Share
               let u = words-out t i (suc k) j in
               rw (u.3, ← add-one d) (g.reach.have u.0 u.1 (omega (arith, u.2)))
 
-      none : (j : ℕ) → i < j → j < i + m → (r : ℕ) → r < count → first_of (get_or rows r no_row) < j
-          → j < first_of (get_or rows r no_row) + many_of (get_or rows r no_row)
-          → ¬ (get_or shared j 0 ≡ depth_of (get_or rows r no_row))
+      none : (j : ℕ) → i < j → j < i + m → (r : ℕ) → r < count → (get_or rows r no_row).first < j
+          → j < (get_or rows r no_row).first + (get_or rows r no_row).many
+          → ¬ (get_or shared j 0 ≡ (get_or rows r no_row).depth)
       none j a b r h c e q =
           let more = alike g j a b in
-          elim (ℕ_discrete (first_of (get_or rows r no_row)) i) [
+          elim (ℕ_discrete (get_or rows r no_row).first i) [
             | yes f ↦ omega (arith, p.own r h f)
             | no f ↦
                 let first = p.before r h in
@@ -238,11 +238,11 @@ module _ {t : List ℕ} {n : ℕ} {shared : List ℕ} (w : Words t n) (s : Share
           kept : Kept rows rows' count
           kept r h = ap (λ q. get_or q r no_row) a.put ∙ get_or-set_other rows count r a.row no_row (omega arith)
 
-          first-of : (r : ℕ) → r ≡ count → first_of (get_or rows' r no_row) ≡ i
-          first-of r e = ap first_of (here r e) ∙ a.first
+          first-of : (r : ℕ) → r ≡ count → (get_or rows' r no_row).first ≡ i
+          first-of r e = ap (λ row. row.first) (here r e) ∙ a.first
 
-          depth-of : (r : ℕ) → r ≡ count → depth_of (get_or rows' r no_row) ≡ d + 1
-          depth-of r e = ap depth_of (here r e) ∙ a.depth
+          depth-of : (r : ℕ) → r ≡ count → (get_or rows' r no_row).depth ≡ d + 1
+          depth-of r e = ap (λ row. row.depth) (here r e) ∙ a.depth
 
           node : row_node t a.row ≡ x
           node = rw (a.first, a.many, a.depth) (run-node w g)

@@ -22,7 +22,7 @@ use Rattle.canonical.specs.Canonical.{words_graph, words_image, outside_limits, 
 use Rattle.sorting.specs.Slots.{words_from}
 use Rattle.sorting.proofs.SlotWords.{words-length}
 use Rattle.registering.specs.declared.Row.{Row}
-use Rattle.registering.specs.Register.{first_of, many_of, depth_of, longest_of, no_row, Register}
+use Rattle.registering.specs.Register.{no_row, Register}
 use Rattle.registering.specs.Numbering.{heights_in, bare, Rows, PlacedIn}
 use Rattle.registering.specs.Arcs.{vertex_in, root_row, vertex_list}
 use Rattle.registering.specs.Image.{Put, letter_in, letters_from, lists_from, table_image, Lettered, Measured}
@@ -54,8 +54,10 @@ module _ {v t : List ℕ} {n : ℕ} {shared : List ℕ} {rows : List Row} {links
   node_at_lem r h = get_or-set_other rows 400 r (root_row n) no_row h
 
   -- the nodes keep their heights
-  high : (r : ℕ) → r < count → get_or (heights_in rooted) r 0 ≡ longest_of (get_or rows r no_row)
-  high r h = field-at longest_of r rooted no_row ∙ ap longest_of (node_at_lem r (omega (arith, register.few)))
+  high : (r : ℕ) → r < count → get_or (heights_in rooted) r 0 ≡ (get_or rows r no_row).longest
+  high r h =
+      field-at (λ row. row.longest) r rooted no_row
+      ∙ ap (λ row. row.longest) (node_at_lem r (omega (arith, register.few)))
 
   pub drawn_rows : Rows rooted count
   drawn_rows =
@@ -63,7 +65,7 @@ module _ {v t : List ℕ} {n : ℕ} {shared : List ℕ} {rows : List Row} {links
       record {
         few = register.few;
         long = length-set rows 400 (root_row n) ∙ g.long;
-        low = λ r h. rw (high r h, sym (field-at longest_of r rows no_row)) (g.low r h);
+        low = λ r h. rw (high r h, sym (field-at (λ row. row.longest) r rows no_row)) (g.low r h);
       }
 
   module _ {numbered : List Row} (p : PlacedIn rooted numbered count [] count) where
@@ -82,16 +84,16 @@ module _ {v t : List ℕ} {n : ℕ} {shared : List ℕ} {rows : List Row} {links
       linked = d.built.links;
       numbers = numbers_are (heights_in rooted) register d.built.nodes high p.placed;
       root = record {
-        first = ap first_of root_entry;
-        many = ap many_of root_entry;
-        depth = ap depth_of root_entry;
+        first = ap (λ row. row.first) root_entry;
+        many = ap (λ row. row.many) root_entry;
+        depth = ap (λ row. row.depth) root_entry;
       };
       same = λ r h.
           let k : ¬ (r ≡ 400) = omega (arith, register.few) in
           record {
-            first = ap first_of (entry r k);
-            many = ap many_of (entry r k);
-            depth = ap depth_of (entry r k);
+            first = ap (λ row. row.first) (entry r k);
+            many = ap (λ row. row.many) (entry r k);
+            depth = ap (λ row. row.depth) (entry r k);
           };
     }
 

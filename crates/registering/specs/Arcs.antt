@@ -3,7 +3,7 @@
 use Rattle.std.specs.Prelude.{ℕ, zero, suc, ◌+◌, ◌*◌, ◌-◌, ◌≤◌, ◌<◌, ◌≡◌, cond, List, ◌∷◌, map, length, get_or, eqb}
 use Rattle.endian.specs.Lists.{from, select}
 use Rattle.registering.specs.declared.Row.{Row}
-use Rattle.registering.specs.Register.{first_of, many_of, depth_of, no_row}
+use Rattle.registering.specs.Register.{no_row}
 use Rattle.registering.specs.Numbering.{numbers_in, order_in}
 
 -- ---- the row of a vertex
@@ -22,9 +22,9 @@ root_row n = record no_row { many = n }
 
 -- a vertex's first word can be read, and where that leads if it goes on
 pub record NodeRow (t : List ℕ) (row : Row) (place : ℕ) : Type 0 where
-  pub few : first_of row < 2000
-  pub there : 33 * first_of row < length t
-  pub linked : ¬ (get_or t (33 * first_of row) 0 ≡ depth_of row) → place < 400
+  pub few : row.first < 2000
+  pub there : 33 * row.first < length t
+  pub linked : ¬ (get_or t (33 * row.first) 0 ≡ row.depth) → place < 400
 
 -- the place of each vertex is in the register
 pub record Places (rows : List Row) (count : ℕ) : Type 0 where
@@ -36,7 +36,7 @@ pub record Places (rows : List Row) (count : ℕ) : Type 0 where
 -- where its first arc leads: to the sink where the first word ends, else along that word to the node at a place
 unfoldable pub first_arc : List ℕ → List ℕ → ℕ → Row → ℕ → ℕ
 first_arc t numbers count row place =
-    cond (eqb (get_or t (33 * first_of row) 0) (depth_of row)) (suc count) (get_or numbers place 0)
+    cond (eqb (get_or t (33 * row.first) 0) row.depth) (suc count) (get_or numbers place 0)
 
 -- of many words from i on, those that part from the word before them behind e letters
 unfoldable pub partings : List ℕ → ℕ → ℕ → ℕ → List ℕ
@@ -44,7 +44,7 @@ partings shared e i many = select (λ k. eqb (get_or shared k 0) e) (from i many
 
 -- the partings of a row's words
 abbrev pub partings_of : List ℕ → Row → List ℕ
-partings_of shared row = partings shared (depth_of row) (suc (first_of row)) (many_of row - 1)
+partings_of shared row = partings shared row.depth (suc row.first) (row.many - 1)
 
 -- the number of the node that such a word leads to
 abbrev pub link_number : List ℕ → List ℕ → ℕ → ℕ
@@ -70,13 +70,13 @@ vertex_list t shared links rows count u =
 
 -- its words are in the table
 pub record Spanned (shared : List ℕ) (row : Row) : Type 0 where
-  pub few : first_of row + many_of row ≤ 2000
-  pub long : first_of row + many_of row ≤ length shared
-  pub some : 1 ≤ many_of row
-  pub low : depth_of row ≤ 32
+  pub few : row.first + row.many ≤ 2000
+  pub long : row.first + row.many ≤ length shared
+  pub some : 1 ≤ row.many
+  pub low : row.depth ≤ 32
 
 -- and those that part have links
 pub record Readable (shared links : List ℕ) (row : Row) : Type 0 where
   pub spanned : Spanned shared row
-  pub linked : (i : ℕ) → first_of row < i → i < first_of row + many_of row → get_or shared i 0 ≡ depth_of row
+  pub linked : (i : ℕ) → row.first < i → i < row.first + row.many → get_or shared i 0 ≡ row.depth
       → get_or links (400 + i) 0 < 400

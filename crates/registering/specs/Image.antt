@@ -7,7 +7,7 @@ use Rattle.voice.specs.Fields.{well_formed}
 use Rattle.voice.specs.Voice.{letter_count, voice_verdict}
 use Rattle.image.specs.Image.{list_bytes}
 use Rattle.registering.specs.declared.Row.{Row}
-use Rattle.registering.specs.Register.{first_of, depth_of, Shared, Built}
+use Rattle.registering.specs.Register.{Shared, Built}
 use Rattle.registering.specs.Building.{Buildable}
 use Rattle.registering.specs.Arcs.{place_in, vertex_in, partings_of, later_arcs, vertex_list, list_length}
 use Rattle.registering.specs.Arcs.{NodeRow, Places, Spanned, Readable}
@@ -29,7 +29,7 @@ pub record ArcsPut (shared links numbers : List ℕ) (row : Row) (at : ℕ) (out
 
 -- the letter of a vertex, which is the last before the words behind it
 abbrev pub letter_in : List ℕ → Row → ℕ
-letter_in t row = get_or t (33 * first_of row + depth_of row) 0
+letter_in t row = get_or t (33 * row.first + row.depth) 0
 
 -- of the nodes from vertex u on
 unfoldable pub letters_from : List ℕ → List Row → ℕ → ℕ → List ℕ
@@ -56,9 +56,9 @@ table_image t shared links rows count =
 
 -- the letter of a vertex is there
 pub record LetterRow (t : List ℕ) (row : Row) : Type 0 where
-  pub first : first_of row < 2000
-  pub low : depth_of row ≤ 32
-  pub there : 33 * first_of row + depth_of row < length t
+  pub first : row.first < 2000
+  pub low : row.depth ≤ 32
+  pub there : 33 * row.first + row.depth < length t
 
 -- those of all nodes
 pub record Lettered (t : List ℕ) (rows : List Row) (count : ℕ) : Type 0 where

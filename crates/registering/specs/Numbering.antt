@@ -7,13 +7,13 @@ use Rattle.endian.specs.Lists.{from, select}
 use Rattle.canonical.specs.Nodes.{node, down_from, nodes, place_of}
 use Rattle.sorting.specs.Slots.{words_from}
 use Rattle.registering.specs.declared.Row.{Row}
-use Rattle.registering.specs.Register.{longest_of, node_in}
+use Rattle.registering.specs.Register.{node_in}
 
 -- ---- fields of the register's rows
 
 -- the letters of the longest continuation of the node at each place
 abbrev pub heights_in : List Row → List ℕ
-heights_in rows = map longest_of rows
+heights_in rows = map (λ row. row.longest) rows
 
 -- the number of the node at each place
 abbrev pub numbers_in : List Row → List ℕ

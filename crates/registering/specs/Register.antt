@@ -65,21 +65,9 @@ rests_from t d i (suc n) = drop d (word_at t i) ∷ rests_from t d (suc i) n
 unfoldable pub node_at : List ℕ → ℕ → ℕ → ℕ → Node
 node_at t i n d = node (get_or t (33 * i + d) 0) (rests_from t d i n)
 
--- A node's row: the first word that has its prefix, how many have it, its letters, the letters of its longest
--- continuation, its chain, and the mark of its continuations. The chain is the place, from 1, of the node of the same
--- letter that was registered last before it, or 0.
-abbrev pub first_of : Row → ℕ
-first_of row = row.first
-
-abbrev pub many_of : Row → ℕ
-many_of row = row.many
-
-abbrev pub depth_of : Row → ℕ
-depth_of row = row.depth
-
-abbrev pub longest_of : Row → ℕ
-longest_of row = row.longest
-
+-- A node's row: the first word that has its prefix, how many have it, its letters, and the letters of its longest
+-- continuation. While nodes are registered, two fields more are its chain and the mark of its continuations. The chain
+-- is the place, from 1, of the node of the same letter that was registered last before it, or 0.
 abbrev pub chain_of : Row → ℕ
 chain_of row = row.chain_or_number
 
@@ -91,7 +79,7 @@ abbrev pub no_row : Row
 no_row = record { first = 0; many = 0; depth = 0; longest = 0; chain_or_number = 0; mark_or_place = 0 }
 
 unfoldable pub row_node : List ℕ → Row → Node
-row_node t row = node_at t (first_of row) (many_of row) (depth_of row)
+row_node t row = node_at t row.first row.many row.depth
 
 -- the node at place r
 abbrev pub node_in : List ℕ → List Row → ℕ → Node
@@ -114,7 +102,7 @@ pub record Group (t : List ℕ) (N i n d most mark : ℕ) : Type 0 where
 
 -- a row is that of a group
 abbrev pub GroupRow : List ℕ → ℕ → Row → Type 0
-GroupRow t n row = Group t n (first_of row) (many_of row) (depth_of row) (longest_of row) (mark_of row)
+GroupRow t n row = Group t n row.first row.many row.depth row.longest (mark_of row)
 
 -- count rows are filled; behind the 400 rows of nodes there is one for the root
 pub record Register (t : List ℕ) (n : ℕ) (rows : List Row) (count : ℕ) : Type 0 where
@@ -148,10 +136,11 @@ pub record Linked (t : List ℕ) (n : ℕ) (rows : List Row) (count place i d : 
 pub record Links (t : List ℕ) (n : ℕ) (shared : List ℕ) (rows : List Row) (links : List ℕ) (count : ℕ)
     : Type 0 where
   pub long : length links ≡ 2400
-  pub down : (r : ℕ) → r < count → depth_of (get_or rows r no_row) < get_or t (33 * first_of (get_or rows r no_row)) 0
-      → Linked t n rows count (get_or links r 0) (first_of (get_or rows r no_row)) (depth_of (get_or rows r no_row) + 1)
-  pub across : (i r : ℕ) → r < count → first_of (get_or rows r no_row) < i
-      → i < first_of (get_or rows r no_row) + many_of (get_or rows r no_row) → get_or shared i 0 ≡ depth_of (get_or rows r no_row)
+  pub down : (r : ℕ) → r < count → (get_or rows r no_row).depth < get_or t (33 * (get_or rows r no_row).first) 0
+      → Linked t n rows count (get_or links r 0) (get_or rows r no_row).first ((get_or rows r no_row).depth + 1)
+  pub across : (i r : ℕ) → r < count → (get_or rows r no_row).first < i
+      → i < (get_or rows r no_row).first + (get_or rows r no_row).many
+      → get_or shared i 0 ≡ (get_or rows r no_row).depth
       → Linked t n rows count (get_or links (400 + i) 0) i (get_or shared i 0 + 1)
   pub root : (i : ℕ) → i < n → get_or shared i 0 ≡ 0 → Linked t n rows count (get_or links (400 + i) 0) i 1
 
@@ -178,9 +167,9 @@ Unknown t rows count a = (r : ℕ) → r < count → same_node (node_in t rows r
 pub record Added (t : List ℕ) (n : ℕ) (rows : List Row) (count i m d : ℕ) (rows' : List Row) : Type 0 where
   pub row : Row
   pub put : rows' ≡ set rows count row
-  pub first : first_of row ≡ i
-  pub many : many_of row ≡ m
-  pub depth : depth_of row ≡ d
+  pub first : row.first ≡ i
+  pub many : row.many ≡ m
+  pub depth : row.depth ≡ d
   pub register : Register t n rows' (count + 1)
 
 -- The node of m words with d letters, the first in slot i, was looked for among count nodes: it stands at the place

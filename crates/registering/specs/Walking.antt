@@ -7,7 +7,7 @@ use Rattle.canonical.specs.Nodes.{Node, distinct, node_of}
 use Rattle.canonical.specs.Groups.{begins, fresh_from}
 use Rattle.sorting.specs.Slots.{word_at, words_from}
 use Rattle.registering.specs.declared.Row.{Row}
-use Rattle.registering.specs.Register.{previous, first_of, many_of, depth_of, no_row, registered, Register, Chained}
+use Rattle.registering.specs.Register.{previous, no_row, registered, Register, Chained}
 use Rattle.registering.specs.Register.{Linked}
 
 -- ---- nodes
@@ -28,10 +28,11 @@ pub record LinksTo (t : List ℕ) (n : ℕ) (shared : List ℕ) (rows : List Row
     : Type 0 where
   pub long : length links ≡ 2400
   pub down : (r : ℕ) → r < count → ¬ (r ≡ gap)
-      → depth_of (get_or rows r no_row) < get_or t (33 * first_of (get_or rows r no_row)) 0
-      → Linked t n rows count (get_or links r 0) (first_of (get_or rows r no_row)) (depth_of (get_or rows r no_row) + 1)
-  pub across : (j r : ℕ) → j < i → r < count → first_of (get_or rows r no_row) < j
-      → j < first_of (get_or rows r no_row) + many_of (get_or rows r no_row) → get_or shared j 0 ≡ depth_of (get_or rows r no_row)
+      → (get_or rows r no_row).depth < get_or t (33 * (get_or rows r no_row).first) 0
+      → Linked t n rows count (get_or links r 0) (get_or rows r no_row).first ((get_or rows r no_row).depth + 1)
+  pub across : (j r : ℕ) → j < i → r < count → (get_or rows r no_row).first < j
+      → j < (get_or rows r no_row).first + (get_or rows r no_row).many
+      → get_or shared j 0 ≡ (get_or rows r no_row).depth
       → Linked t n rows count (get_or links (400 + j) 0) j (get_or shared j 0 + 1)
   pub root : (j : ℕ) → j < i → get_or shared j 0 ≡ 0 → Linked t n rows count (get_or links (400 + j) 0) j 1
 
@@ -40,7 +41,7 @@ pub record LinksTo (t : List ℕ) (n : ℕ) (shared : List ℕ) (rows : List Row
 pub data Gap (t : List ℕ) (n : ℕ) (shared : List ℕ) (rows : List Row) (links : List ℕ) (count i d : ℕ)
     : ℕ → Type 0 where
   ahead : d ≡ get_or shared i 0 → Gap t n shared rows links count i d (400 + i)
-  within : {r : ℕ} → r < count → first_of (get_or rows r no_row) ≡ i → depth_of (get_or rows r no_row) ≡ d
+  within : {r : ℕ} → r < count → (get_or rows r no_row).first ≡ i → (get_or rows r no_row).depth ≡ d
       → get_or shared i 0 < d
       → Linked t n rows count (get_or links (400 + i) 0) i (get_or shared i 0 + 1)
       → Gap t n shared rows links count i d r
@@ -53,7 +54,7 @@ pub record Walked (t : List ℕ) (n : ℕ) (shared : List ℕ) (rows : List Row)
   pub register : Register t n rows count
   pub chained : Chained t rows chains count
   pub nodes : registered t rows 0 count ≡ distinct (fresh_all t n i)
-  pub before : (r : ℕ) → r < count → first_of (get_or rows r no_row) < i
+  pub before : (r : ℕ) → r < count → (get_or rows r no_row).first < i
   pub linked : LinksTo t n shared rows links count i (400 + i)
 
 -- those of the words before slot i, and of the first d prefixes of the word in it
@@ -62,8 +63,8 @@ pub record Walking (t : List ℕ) (n : ℕ) (shared : List ℕ) (rows : List Row
   pub register : Register t n rows count
   pub chained : Chained t rows chains count
   pub nodes : registered t rows 0 count ≡ distinct (fresh_all t n i ++ fresh_to t n i d)
-  pub before : (r : ℕ) → r < count → first_of (get_or rows r no_row) ≤ i
-  pub own : (r : ℕ) → r < count → first_of (get_or rows r no_row) ≡ i → depth_of (get_or rows r no_row) ≤ d
+  pub before : (r : ℕ) → r < count → (get_or rows r no_row).first ≤ i
+  pub own : (r : ℕ) → r < count → (get_or rows r no_row).first ≡ i → (get_or rows r no_row).depth ≤ d
   pub linked : LinksTo t n shared rows links count i link
   pub gap : Gap t n shared rows links count i d link
 

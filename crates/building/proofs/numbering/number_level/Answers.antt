@@ -6,7 +6,7 @@ use mathlib.Core.List.{List, ◌∷◌, ◌++◌}
 use native.Mathlib.Omega.{arith}
 use lib.ListN.{get_or}
 use Rattle.registering.specs.declared.Row.{Row}
-use Rattle.registering.specs.Register.{longest_of, no_row}
+use Rattle.registering.specs.Register.{no_row}
 use Rattle.registering.specs.Numbering.{heights_in, places_of, places_below, Rows, PlacedIn}
 use Rattle.registering.proofs.Fields.{field-at}
 use Rattle.registering.proofs.Numbers.{places-here, places-past, places-none}
@@ -20,13 +20,13 @@ module _ {rows now : List Row} {count r next : ℕ} (h : ℕ) (g : Rows rows cou
     (places_of (heights_in rows) h r (count - r) ++ places_below (heights_in rows) count h) next)
   where
     -- its height, which no number has changed
-    height : get_or (heights_in rows) r 0 ≡ longest_of (get_or now r no_row)
-    height = field-at longest_of r rows no_row ∙ ap longest_of (sym (row-same p.same r))
+    height : get_or (heights_in rows) r 0 ≡ (get_or now r no_row).longest
+    height = field-at (λ row. row.longest) r rows no_row ∙ ap (λ row. row.longest) (sym (row-same p.same r))
 
-    low : longest_of (get_or now r no_row) < 33
+    low : (get_or now r no_row).longest < 33
     low = rw height at (g.low r t)
 
-    module _ (e : longest_of (get_or now r no_row) ≡ h) where
+    module _ (e : (get_or now r no_row).longest ≡ h) where
       -- it has the next place
       here : PlacedIn rows now count
           (r ∷ places_of (heights_in rows) h (r + 1) (count - (r + 1)) ++ places_below (heights_in rows) count h) next
@@ -35,7 +35,7 @@ module _ {rows now : List Row} {count r next : ℕ} (h : ℕ) (g : Rows rows cou
       room : (r < 400) × (next < 400)
       room = place-room g here
 
-    past : (longest_of (get_or now r no_row) ≡ h → ⊥) → PlacedIn rows now count
+    past : ((get_or now r no_row).longest ≡ h → ⊥) → PlacedIn rows now count
         (places_of (heights_in rows) h (r + 1) (count - (r + 1)) ++ places_below (heights_in rows) count h) next
     past n = rw (places-past (heights_in rows) h count r t (λ e. n (sym height ∙ e))) at p
 

@@ -8,7 +8,7 @@ use lib.ListN.{get_or, take, length-take}
 use lib.Seq.{get_or-take}
 use Rattle.std.specs.Ordering.{ord_max, nat_cmp}
 use Rattle.std.proofs.lemmas.Bool.Decides.{nat_tests}
-use Rattle.registering.specs.Register.{longest_of, no_row}
+use Rattle.registering.specs.Register.{no_row}
 use Rattle.registering.specs.Numbering.{heights_in}
 use Rattle.registering.proofs.Fields.{field-at}
 use Rattle.building.proofs.numbering.top_of.Goals as goal
@@ -21,8 +21,9 @@ loop-row-preserved c =
     let rows = c.args.rows.now in
     let i = c.loop-row.row-index in
     let h : i < c.args.count = omega (arith, length-take c.args.count rows, c.loop-row-test.true) in
-    let e : longest_of (get_or (take c.args.count rows) i no_row) ≡ get_or (heights_in rows) i 0 =
-    ap longest_of (get_or-take c.args.count rows i no_row h) ∙ sym (field-at longest_of i rows no_row) in
+    let e : (get_or (take c.args.count rows) i no_row).longest ≡ get_or (heights_in rows) i 0 =
+    ap (λ row. row.longest) (get_or-take c.args.count rows i no_row h)
+    ∙ sym (field-at (λ row. row.longest) i rows no_row) in
     let m : c.max-top.result ≡ max c.loop-row.top (get_or (heights_in rows) i 0 + 1) =
     c.max-top.ensures ∙ greater c.loop-row.top _ ∙ ap (λ k. max c.loop-row.top (k + 1)) e in (
       λ r q. elim (ℕ_discrete r i) [

@@ -10,7 +10,3 @@ pub returns : goal.returns
 returns c =
     let a = c.args in
     ap (λ k. letter_in a.words.now (get_or a.rows.now k no_row)) c.place_of-place.ensures
-
-pub place_of-place-requires : goal.place_of-place-requires
-place_of-place-requires c =
-    c.requires.vertex_bound
