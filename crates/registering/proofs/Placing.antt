@@ -1,5 +1,5 @@
--- Numbers and places put into the rows of the register: they stand in fields of their own, so that words, prefixes and
--- heights stay as they were, and what is put is put in order. Assumes nothing.
+-- Numbers and places put into the rows of the register: only two fields have them, so that words, prefixes and heights
+-- stay as they were, and what is put is put in order. Assumes nothing.
 use Prim.Native.Nat.{ℕ, ◌+◌, ◌*◌, ◌<◌}
 use mathlib.Core.Path.{◌≡◌, refl, sym, ap, subst, ◌∙◌}
 use mathlib.Core.List.{List, ◌∷◌, map, map-map}
@@ -67,30 +67,35 @@ module _ {rows : List Row} {count : ℕ} (g : Rows rows count) where
     pub place-room : (r < 400) × (k < 400)
     place-room = let h = placed-room p.placed g.few in omega (arith, g.few, h.0, h.1)
 
+    abbrev with_place : Row
+    with_place = record (get_or rows' k no_row) { mark_or_place = r }
+
     abbrev ordered : List Row
-    ordered = set rows' k (record (get_or rows' k no_row) { mark_or_place = r })
+    ordered = set rows' k with_place
+
+    abbrev with_number : Row
+    with_number = record (get_or ordered r no_row) { chain_or_number = k + 1 }
 
     abbrev numbered : List Row
-    numbered = set ordered r (record (get_or ordered r no_row) { chain_or_number = k + 1 })
+    numbered = set ordered r with_number
 
     pub placed-more : PlacedIn rows numbered count left (k + 1)
     placed-more = record {
       same =
-          same-on (same-on p.same (same-stored rows' k (record (get_or rows' k no_row) { mark_or_place = r }) refl))
-          (same-stored ordered r (record (get_or ordered r no_row) { chain_or_number = k + 1 }) refl);
+          same-on p.same
+          (same-on (same-stored rows' k with_place refl) (same-stored ordered r with_number refl));
       placed = rw (order, numbers) (placed-put p.placed g.few);
     }
       where
         order : order_in numbered ≡ set (order_in rows') k r
         order =
-            field-kept (λ row. row.mark_or_place) r ordered no_row _ refl
-            ∙ map-set (λ row. row.mark_or_place) rows' k (record (get_or rows' k no_row) { mark_or_place = r })
+            field-kept (λ row. row.mark_or_place) r ordered no_row with_number refl
+            ∙ map-set (λ row. row.mark_or_place) rows' k with_place
 
         numbers : numbers_in numbered ≡ set (numbers_in rows') r (k + 1)
         numbers =
-            map-set (λ row. row.chain_or_number) ordered r
-            (record (get_or ordered r no_row) { chain_or_number = k + 1 })
-            ∙ ap (λ l. set l r (k + 1)) (field-kept (λ row. row.chain_or_number) k rows' no_row _ refl)
+            map-set (λ row. row.chain_or_number) ordered r with_number
+            ∙ ap (λ l. set l r (k + 1)) (field-kept (λ row. row.chain_or_number) k rows' no_row with_place refl)
 
 -- ---- a function that goes on with rows that were made from others
 
