@@ -5,8 +5,9 @@
 // A node's row in the register: the first word behind the node, how many there are, how many of their letters stand
 // before it, and the letters of the longest continuation. The last two fields have two uses, since fields of their own
 // would take more stack than a call may (bench/stack). While nodes are registered they hold the place of the node
-// before this one in its chain, counted from 1, where 0 ends the chain, and the mark of the continuations. Once all
-// nodes are numbered they hold the number of the node at this place, and, in row k, the place of node k + 1.
+// before this one in its chain, counted from 1, where 0 ends the chain (an Option would take twice the bytes), and the
+// mark of the continuations. Once all nodes are numbered they hold the number of the node at this place, and, in row k,
+// the place of node k + 1.
 #[derive(Clone, Copy)]
 pub struct Row {
     pub first: u16,
