@@ -73,13 +73,6 @@ counts_fit total e h f = omega arith
 pub code_fits : (increment p : ℕ) → increment + p < 4294967296 → Fits w32 (increment + p)
 code_fits increment p h = omega arith
 
--- a row of gains has eight entries: four of loops, then that of the first state, which is entered, and three of steps
-pub low-entry : {s : ℕ} → s < 4 → 0 + s < 8
-low-entry h = omega arith
-
-pub high-entry : {s : ℕ} → s < 4 → 4 + s < 8
-high-entry h = omega arith
-
 -- a place's bytes end within 64 bits, and so do its first slot, its first byte and its length
 pub slot-fits : (k n : ℕ) → Fits w64 (8 * k + 8 * n) → Fits w64 k
 slot-fits k n f = omega arith

@@ -12,6 +12,8 @@ use Rattle.ranking.specs.Hits.{Hit}
 use Rattle.decoder.specs.Score.{reach}
 use Rattle.decoder.specs.Decoding.{AcceptedFrames}
 use Rattle.passing.specs.Tokens.{Store, best_tokens, tokens, ending}
+use Rattle.storing.specs.declared.Moves.{Moves}
+use Rattle.storing.specs.declared.Letter.{Letter}
 use Rattle.storing.specs.Slots.{token_at, slots}
 use Rattle.storing.specs.Held.{held, Storable}
 use Rattle.storing.specs.Gains.{NodeLetters, LinkTable, Gained, MoveGains}
@@ -34,20 +36,20 @@ abbrev pub StoredAt : List ℕ → List ℕ → List ℕ → ℕ → ℕ → Lis
 StoredAt v x frames n t b = Stored v (graph_of x) n (tokens v (graph_of x) frames n t) b
 
 -- the numbers of a call, and its table of letters
-pub record CallNumbers (v x : List ℕ) (c : Numbers) (letters : List (List ℕ)) : Type 0 where
+pub record CallNumbers (v x : List ℕ) (c : Numbers) (letters : List Letter) : Type 0 where
   pub nodes : c.nodes ≡ node_count x
   pub symbols : c.symbols ≡ symbols_at v
   pub letters_of : NodeLetters v x c.used letters
 
 -- the tables at a frame of symbol k: of gains, and of vertices with their emissions
-pub record FrameTables (v x : List ℕ) (k : ℕ) (c : Numbers) (letters gains : List (List ℕ)) (vertices : List Vertex)
-    : Type 0 where
+pub record FrameTables (v x : List ℕ) (k : ℕ) (c : Numbers) (letters : List Letter) (gains : List Moves)
+    (vertices : List Vertex) : Type 0 where
   pub gained : Gained v k letters c.used gains
   pub table : VertexTable v x c.n vertices
   pub emissions : NodeEmissions v x k vertices
 
 -- frame t, once its tables are made: the places hold what they held after the frame before, and at the first nothing
-pub record Frame (v x : List ℕ) (t n nodes : ℕ) (vertices : List Vertex) (gains : List (List ℕ)) (links b : List ℕ)
+pub record Frame (v x : List ℕ) (t n nodes : ℕ) (vertices : List Vertex) (gains : List Moves) (links b : List ℕ)
     : Type 0 where
   pub frames : List ℕ
   pub run : Run v x frames n vertices b

@@ -10,19 +10,11 @@ ghost use Rattle.voice.specs.Voice.{voice_verdict};
 ghost use Rattle.lexicon.specs.Lexicon.{node_count, lexicon_verdict};
 ghost use Rattle.checking.specs.Tables.{WellFormed, FewLetters};
 ghost use Rattle.storing.specs.Gains.{letter_pairs, pair_score, StoredPairs, LettersMarked, AtLetter, LetterRow};
-ghost use Rattle.storing.specs.Gains.{RowsRoom, LinkTable, NodeLetters, StatePut, letter_in};
+ghost use Rattle.storing.specs.Gains.{StatesRoom, LettersRoom, LinkTable, NodeLetters, StatePut, letter_in};
 
 use decoder::score::{STORED_IMPOSSIBLE, Score};
 use endian::{i16_of, u16_at};
-
-// Columns: of the loop of state s, LOOP + s; of the step into it, STEP + s; then the letter's index and first state.
-pub(crate) const LOOP: usize = 0;
-
-pub(crate) const STEP: usize = 4;
-
-pub(crate) const INDEX: usize = 8;
-
-pub(crate) const FIRST_STATE: usize = 9;
+use storing::{Letter, Moves};
 
 // The score of a state's loop (0) or of the step out of it (1), from its letter's pairs.
 fn move_score(pairs: [[i16; 2]; 4], state: usize, which: usize) -> Score
@@ -126,41 +118,41 @@ fn mark_letters(lexicon: &[u8], marks: &mut [bool; 64])
 }
 
 // Puts one state's scores: of its loop, and of the step from the state before it.
-fn state_scores(pairs: [[i16; 2]; 4], s: usize, row: &mut [u32; 10])
-    requires s_bound { (s < 4) × (8 ≤ length row.old) }
+fn state_scores(pairs: [[i16; 2]; 4], s: usize, row: &mut Moves)
+    requires s_bound { (s < 4) × StatesRoom row.old }
     requires stored_pairs { StoredPairs pairs }
     ensures { StatePut row.old s (pair_score pairs s 0) (pair_score pairs (s - 1) 1)
         row.new }
 {
     let stay = move_score(pairs, s, 0);
-    row[LOOP + s] = stay.0;
+    row.loops[s] = stay.0;
     if 0 < s {
         let step = move_score(pairs, s - 1, 1);
-        row[STEP + s] = step.0;
+        row.steps[s] = step.0;
     }
 }
 
 // Puts the row of one letter, whose states begin with number `first`. It is made in its place, since a row that is
 // returned would be copied. What the row holds for states that the letter does not have is never read.
-fn letter_row(voice: &[u8], letter: usize, first: u16, row: &mut [u32; 10])
-    requires { AtLetter voice.now letter first × (10 ≤ length row.old) }
+fn letter_row(voice: &[u8], letter: usize, first: u16, row: &mut Letter)
+    requires { AtLetter voice.now letter first × StatesRoom row.old.moves }
     ensures { LetterRow voice.now row.new × (letter_in row.new ≡ letter) }
 {
     let states = voice[2 + 2 * letter] as usize;
     let pairs = letter_pairs(voice, first as usize, states);
-    row[INDEX] = letter as u32;
-    row[FIRST_STATE] = first as u32;
+    row.index = letter as u32;
+    row.first_state = first as u32;
     for s in 0..states {
-        state_scores(pairs, s, row);
+        state_scores(pairs, s, &mut row.moves);
     }
 }
 
 // Fills the table with the letters in use, in rising order; answers how many.
-pub(crate) fn letter_table(voice: &[u8], lexicon: &[u8], letters: &mut [[u32; 10]; 64]) -> usize
+pub(crate) fn letter_table(voice: &[u8], lexicon: &[u8], letters: &mut [Letter; 64]) -> usize
     requires voice_value { (voice_verdict voice.now ≡ well_formed)
         × (lexicon_verdict (letter_count voice.now) lexicon.now
         ≡ well_formed) }
-    requires rows_room { RowsRoom 10 letters.old }
+    requires rows_room { LettersRoom letters.old }
     ensures { NodeLetters voice.now lexicon.now result letters.new }
 {
     let mut marks = [false; 64];

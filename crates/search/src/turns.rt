@@ -12,7 +12,6 @@ ghost use Rattle.storing.specs.Stored.{Stored, PassingOn, PassedOn, Turn, TurnDo
 ghost use Rattle.storing.specs.Carrying.{Staying, Arc, Own, Renewing, Renewal, stayed, over_one, renewed_one};
 ghost use Rattle.storing.specs.Carrying.{renewed_all, renewal};
 
-use crate::letters::{LOOP, STEP};
 use crate::store::{insert, offer_from, shift};
 use crate::tokens::token_at;
 use call::zero;
@@ -21,6 +20,7 @@ use decoder::score::{BIAS, Score};
 use decoder::token::{LIFT, Token, UNIT};
 use endian::u16_of;
 use lexicon::list_at;
+use storing::Moves;
 
 // The number at an offset inside the image.
 fn number_at(lexicon: &[u8], at: usize) -> usize
@@ -139,7 +139,7 @@ fn stay(place: &mut [u8], n: usize, score: Score)
 
 // Renews state s in a node's part of the store: by its loop, and by the step from the state before, whose tokens are
 // still old. The row has the gains of the node's letter at this frame.
-fn renew_state(part: &mut [u8], n: usize, s: usize, row: &[u32; 8])
+fn renew_state(part: &mut [u8], n: usize, s: usize, row: &Moves)
     requires { Renewing n (suc s) row.now part.old }
     ensures { (t : Renewing n (suc s) row.now part.old)
         → Own n t.S (renewed_one t t.node) part.new }
@@ -147,11 +147,11 @@ fn renew_state(part: &mut [u8], n: usize, s: usize, row: &[u32; 8])
     let slot = n * s;
     let start = 8 * slot;
     let end = start + 8 * n;
-    stay(&mut part[start..end], n, Score(row[LOOP + s]));
+    stay(&mut part[start..end], n, Score(row.loops[s]));
     if s == 0 {
         return;
     }
-    let score = Score(row[STEP + s]);
+    let score = Score(row.steps[s]);
     if score.is_impossible() {
         return;
     }
@@ -159,7 +159,7 @@ fn renew_state(part: &mut [u8], n: usize, s: usize, row: &[u32; 8])
 }
 
 // Renews the states in a node's part of the store, from the last to the first.
-fn renew(part: &mut [u8], n: usize, states: usize, row: &[u32; 8])
+fn renew(part: &mut [u8], n: usize, states: usize, row: &Moves)
     requires { Renewing n states row.now part.old }
     ensures { (t : Renewing n states row.now part.old)
         → Own n t.S (renewed_all t t.node) part.new }
@@ -170,7 +170,7 @@ fn renew(part: &mut [u8], n: usize, states: usize, row: &[u32; 8])
 }
 
 // Renews a node's states: its part of the store, which begins with slot `first`, is lent to `renew`.
-fn renew_node(store: &mut [u8], n: usize, first: usize, states: usize, row: &[u32; 8])
+fn renew_node(store: &mut [u8], n: usize, first: usize, states: usize, row: &Moves)
     requires { Renewal n first states row.now store.old }
     ensures { (t : Renewal n first states row.now store.old)
         → Stored t.v (graph_of t.x) n (renewal t) store.new }
@@ -187,7 +187,7 @@ pub(crate) fn take_turn(
     lexicon: &[u8],
     n: usize,
     vertices: &[Vertex; 402],
-    gains: &[[u32; 8]; 64],
+    gains: &[Moves; 64],
     links: &[u32; 64],
     node: usize,
     store: &mut [u8],

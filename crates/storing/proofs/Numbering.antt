@@ -2,7 +2,7 @@
 -- have the same number and all are below their count. And the table of vertices while its first slots, and at a frame
 -- its emissions, are filled, node by node. Assumes nothing.
 use mathlib.Core.Path.{◌≡◌, refl, sym, ap, ◌∙◌}
-use mathlib.Core.List.{List, [], map, map-append}
+use mathlib.Core.List.{List, map, map-append}
 use Prim.Native.Nat.{ℕ, zero, suc, ◌+◌, ◌-◌, ◌*◌, ◌≤◌, ◌<◌}
 use native.Mathlib.Nat.{add-zero, mul-zero, mul-one, mul-add, mul-le-mul}
 use native.Mathlib.Omega.{arith}
@@ -20,6 +20,8 @@ use Rattle.checking.specs.declared.Vertex.{Vertex}
 use Rattle.checking.specs.Tables.{no_vertex, list_field, paths_field, slot_field, emission_field}
 use Rattle.checking.proofs.Arcs.{shape_of}
 use Rattle.checking.proofs.Counting.{Images, formed, node-read}
+use Rattle.storing.specs.declared.Moves.{Moves}
+use Rattle.storing.specs.Gains.{entry_in}
 use Rattle.storing.specs.Places.{first_place, first_slot, arcs_in, paths_in, first_in, emission_in, VertexRows}
 use Rattle.storing.specs.Places.{SlotsPut, NodesRead, EmissionsPut}
 
@@ -207,9 +209,9 @@ slots-done {v} {x} {n} {node} {slot} {t} {t'} p h k = record {
 -- ---- the emissions of a frame
 
 -- the nodes below this one have theirs; nothing else of the table t has changed
-pub record EmissionsFound (x : List ℕ) (gains : List (List ℕ)) (node : ℕ) (t t' : List Vertex) : Type 0 where
+pub record EmissionsFound (x : List ℕ) (gains : List Moves) (node : ℕ) (t t' : List Vertex) : Type 0 where
   pub rows : VertexRows t'
-  pub emission : {u : ℕ} → 1 ≤ u → u < node → emission_in t' u ≡ get_or (get_or gains (node_letter x u) []) 4 0
+  pub emission : {u : ℕ} → 1 ≤ u → u < node → emission_in t' u ≡ entry_in gains (node_letter x u)
   pub sink : emission_in t' (sink_of x) ≡ emission_in t (sink_of x)
   pub arcs : (u : ℕ) → arcs_in t' u ≡ arcs_in t u
   pub paths : (u : ℕ) → paths_in t' u ≡ paths_in t u
@@ -217,7 +219,7 @@ pub record EmissionsFound (x : List ℕ) (gains : List (List ℕ)) (node : ℕ) 
   pub low : 1 ≤ node
   pub high : node ≤ sink_of x
 
-pub emissions-start : (x : List ℕ) (gains : List (List ℕ)) {t : List Vertex} → VertexRows t
+pub emissions-start : (x : List ℕ) (gains : List Moves) {t : List Vertex} → VertexRows t
     → EmissionsFound x gains 1 t t
 unfolding sink_of
 emissions-start x gains r = record {
@@ -231,9 +233,9 @@ emissions-start x gains r = record {
   high = omega arith;
 }
 
-pub emissions-next : {x : List ℕ} {gains : List (List ℕ)} {node nodes : ℕ} {t t' : List Vertex} → NodesRead x nodes
+pub emissions-next : {x : List ℕ} {gains : List Moves} {node nodes : ℕ} {t t' : List Vertex} → NodesRead x nodes
     → EmissionsFound x gains node t t' → node ≤ node_count x
-    → EmissionsFound x gains (node + 1) t (emission_put t' node (get_or (get_or gains (get_or x (1 + node) 0) []) 4 0))
+    → EmissionsFound x gains (node + 1) t (emission_put t' node (entry_in gains (get_or x (1 + node) 0)))
 unfolding node_letter sink_of
 emissions-next {x} {gains} {node} {t = t} {t' = t'} i p h = rw add-one (record {
   rows = rows-put t' node _ p.rows;
@@ -252,7 +254,7 @@ emissions-next {x} {gains} {node} {t = t} {t' = t'} i p h = rw add-one (record {
     room : node < 402
     room = omega (arith, (shape_of i.formed).few)
 
-pub emissions-done : {x : List ℕ} {gains : List (List ℕ)} {node : ℕ} {t t' : List Vertex}
+pub emissions-done : {x : List ℕ} {gains : List Moves} {node : ℕ} {t t' : List Vertex}
     → EmissionsFound x gains node t t' → node_count x < node → EmissionsPut x gains t t'
 emissions-done p h = record {
   rows = p.rows;

@@ -1,7 +1,7 @@
 -- The numbers of the places: those of a node's states follow each other, after those of the nodes below it (document
 -- 01, State paths and hits: each node's tokens fill one stretch of the work space). That no two places have the same
 -- number is proved in proofs/Numbering.antt. And the fields of the table of vertices. Assumes nothing.
-use Rattle.std.specs.Prelude.{ℕ, zero, suc, ◌*◌, ◌≤◌, ◌<◌, ◌≡◌, List, [], map, length, get_or}
+use Rattle.std.specs.Prelude.{ℕ, zero, suc, ◌*◌, ◌≤◌, ◌<◌, ◌≡◌, List, map, length, get_or}
 use Rattle.endian.specs.Lists.{from, sum}
 use Rattle.voice.specs.Voice.{states}
 use Rattle.lexicon.specs.Lexicon.{node_count, node_letter, sink_of}
@@ -9,6 +9,8 @@ use Rattle.graph.specs.Graph.{Graph, graph_of}
 use Rattle.graph.specs.Conditions.{place_count}
 use Rattle.checking.specs.declared.Vertex.{Vertex}
 use Rattle.checking.specs.Tables.{no_vertex, WellFormed}
+use Rattle.storing.specs.declared.Moves.{Moves}
+use Rattle.storing.specs.Gains.{entry_in}
 
 -- the number of node u's first place: the number of states of all nodes below it, so that node 1 begins at 0
 unfoldable pub first_place : List ℕ → Graph → ℕ → ℕ
@@ -56,11 +58,10 @@ pub record NodesRead (x : List ℕ) (nodes : ℕ) : Type 0 where
   pub all : nodes ≡ node_count x
   pub letter : {u : ℕ} → 1 ≤ u → u ≤ node_count x → node_letter x u < 64
 
--- the emission of each node's letter, from column 4 of its row, is put into the table t; the sink's and the other
--- fields stay
-pub record EmissionsPut (x : List ℕ) (gains : List (List ℕ)) (t t' : List Vertex) : Type 0 where
+-- the emission of each node's letter, from its row, is put into the table t; the sink's and the other fields stay
+pub record EmissionsPut (x : List ℕ) (gains : List Moves) (t t' : List Vertex) : Type 0 where
   pub rows : VertexRows t'
-  pub emission : {u : ℕ} → 1 ≤ u → u ≤ node_count x → emission_in t' u ≡ get_or (get_or gains (node_letter x u) []) 4 0
+  pub emission : {u : ℕ} → 1 ≤ u → u ≤ node_count x → emission_in t' u ≡ entry_in gains (node_letter x u)
   pub sink : emission_in t' (sink_of x) ≡ emission_in t (sink_of x)
   pub arcs : (u : ℕ) → arcs_in t' u ≡ arcs_in t u
   pub paths : (u : ℕ) → paths_in t' u ≡ paths_in t u

@@ -17,6 +17,7 @@ use Rattle.passing.specs.InPlace.{pass_on, pass_node}
 use Rattle.storing.specs.Slots.{slots, PlaceRoom}
 use Rattle.storing.specs.Held.{held}
 use Rattle.storing.specs.Places.{first_place, first_slot, arcs_in, paths_in, first_in, emission_in, VertexRows}
+use Rattle.storing.specs.declared.Moves.{Moves}
 use Rattle.storing.specs.Gains.{MoveGains, entry_number, LinkTable}
 
 -- accepted images, and the table of their vertices, as far as it stays for the whole call; the first slots are those of
@@ -115,7 +116,7 @@ pub record PassedOn {x : List ℕ} {n : ℕ} {vertices : List Vertex} {link w : 
 
 -- ---- a node's turn
 
-pub record Turn (v x : List ℕ) (n : ℕ) (vertices : List Vertex) (gains : List (List ℕ)) (links : List ℕ) (w : ℕ)
+pub record Turn (v x : List ℕ) (n : ℕ) (vertices : List Vertex) (gains : List Moves) (links : List ℕ) (w : ℕ)
     (b : List ℕ) : Type 0 where
   pub k : ℕ
   pub M : ℕ
@@ -132,11 +133,11 @@ pub record Turn (v x : List ℕ) (n : ℕ) (vertices : List Vertex) (gains : Lis
   pub fits : M + frame_limit ≤ reach
 
 -- the store after it
-unfoldable pub turned : {v x : List ℕ} {n : ℕ} {vertices : List Vertex} {gains : List (List ℕ)} {links : List ℕ} {w : ℕ}
+unfoldable pub turned : {v x : List ℕ} {n : ℕ} {vertices : List Vertex} {gains : List Moves} {links : List ℕ} {w : ℕ}
     {b : List ℕ} → Turn v x n vertices gains links w b → Store
 turned {v} {x} {n} {w = w} t = pass_node v (graph_of x) n t.k w t.P
 
-pub record TurnDone {v x : List ℕ} {n : ℕ} {vertices : List Vertex} {gains : List (List ℕ)} {links : List ℕ} {w : ℕ}
+pub record TurnDone {v x : List ℕ} {n : ℕ} {vertices : List Vertex} {gains : List Moves} {links : List ℕ} {w : ℕ}
     {b : List ℕ} (t : Turn v x n vertices gains links w b) (b' : List ℕ) : Type 0 where
   pub stored : Stored v (graph_of x) n (turned t) b'
   pub within : Within v (graph_of x) (w - 1) t.M (turned t)

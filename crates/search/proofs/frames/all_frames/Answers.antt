@@ -3,39 +3,52 @@
 use Prim.Native.Nat.{ℕ}
 use mathlib.Core.Path.{◌≡◌, refl, ◌∙◌}
 use native.Mathlib.Omega.{arith}
-use mathlib.Core.List.{List, []}
+use mathlib.Core.List.{List}
 use lib.ListN.{replicate, length-replicate, get_or-replicate}
 use Rattle.lexicon.specs.Lexicon.{node_count}
 use Rattle.graph.proofs.Accepted.{accepted}
 use Rattle.voice.specs.Voice.{symbols_at}
-use Rattle.storing.specs.Gains.{RowsRoom, NodeLetters}
+use Rattle.storing.specs.declared.Moves.{Moves}
+use Rattle.storing.specs.declared.Letter.{Letter}
+use Rattle.storing.specs.Gains.{no_moves, no_letter, StatesRoom, LettersRoom, GainsRoom, NodeLetters}
 use Rattle.search.specs.declared.frames.Numbers.{Numbers}
 use Rattle.search.specs.Running.{CallNumbers}
 use Rattle.search.proofs.Running.{roomy-same, known_symbol, frames-start, frame_of, frames-next}
 use Rattle.search.proofs.Running.{frames_end}
 use Rattle.search.proofs.frames.all_frames.Goals as goal
 
-abbrev zeros : ℕ → List ℕ
-zeros width = replicate width 0
+abbrev blank : Moves
+blank = record { loops = replicate 4 0; steps = replicate 4 0 }
+
+blank-room : StatesRoom blank
+blank-room = record { loops = omega arith; steps = omega arith }
 
 -- no letter has a row yet
-no_rows : (width : ℕ) → RowsRoom width (replicate 64 (zeros width))
-no_rows width = record {
-  long = length-replicate 64 (zeros width);
-  wide = λ {i} h. rw (get_or-replicate 64 i (zeros width) [] h, length-replicate {A = ℕ} width 0) (omega arith);
+no_letters : LettersRoom (replicate 64 record { moves = blank; index = 0; first_state = 0 })
+no_letters =
+    let none : Letter = record { moves = blank; index = 0; first_state = 0 } in
+    record {
+      long = length-replicate 64 none;
+      wide = λ {i} h. rw (get_or-replicate 64 i none no_letter h) blank-room;
+    }
+
+no_gains : GainsRoom (replicate 64 blank)
+no_gains = record {
+  long = length-replicate 64 blank;
+  wide = λ {i} h. rw (get_or-replicate 64 i blank no_moves h) blank-room;
 }
 
 pub letter_table-used-requires : goal.letter_table-used-requires
 letter_table-used-requires c = let i =
-    (accepted c.requires.run.ready.accepted) in record { voice_value = (i.voice, i.lexicon); rows_room = no_rows 10 }
+    (accepted c.requires.run.ready.accepted) in record { voice_value = (i.voice, i.lexicon); rows_room = no_letters }
 
 -- what is read once a call
-numbers : {v x : List ℕ} (c : Numbers) {letters : List (List ℕ)} → c.nodes ≡ node_count x → c.symbols ≡ symbols_at v
+numbers : {v x : List ℕ} (c : Numbers) {letters : List Letter} → c.nodes ≡ node_count x → c.symbols ≡ symbols_at v
     → NodeLetters v x c.used letters → CallNumbers v x c letters
 numbers c e s l = record { nodes = e; symbols = s; letters_of = l }
 
 pub loop-t-init : goal.loop-t-init
-loop-t-init c = (frames-start c.requires.run.ready (no_rows 8) c.requires.empty, refl)
+loop-t-init c = (frames-start c.requires.run.ready no_gains c.requires.empty, refl)
 
 pub frame_tables-requires : goal.frame_tables-requires
 unfolding node_count

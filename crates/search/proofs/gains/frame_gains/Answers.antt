@@ -1,22 +1,24 @@
 -- `gains::frame_gains` meets its contract: before each turn the entries of the letters before this one are filled.
 -- Assumes nothing.
-use Rattle.std.proofs.Common.{ℕ, ◌<◌, ◌≡◌, List, [], length, get_or, take, arith}
+use Rattle.std.proofs.Common.{ℕ, ◌<◌, ◌≡◌, List, length, get_or, take, arith}
 use Rattle.std.proofs.lemmas.List.{length-take, get_or-take}
+use Rattle.storing.specs.declared.Letter.{Letter}
+use Rattle.storing.specs.Gains.{no_letter}
 use Rattle.storing.specs.Gains.{KnownSymbol, LetterTable}
 use Rattle.storing.proofs.Gaining.{letter-small}
 use Rattle.storing.proofs.Filling.{gained-start, gained-next, gained-done, row-letter}
 use Rattle.search.proofs.gains.frame_gains.Goals as goal
 
 -- the row whose turn it is, of those in use
-module _ (letters : List (List ℕ)) (used i : ℕ) (h : i < length (take used letters)) where
+module _ (letters : List Letter) (used i : ℕ) (h : i < length (take used letters)) where
   below : i < used
   below = omega (arith, h, length-take used letters)
 
-  read : get_or (take used letters) i [] ≡ get_or letters i []
-  read = get_or-take used letters i [] below
+  read : get_or (take used letters) i no_letter ≡ get_or letters i no_letter
+  read = get_or-take used letters i no_letter below
 
   row-small : {v : List ℕ} {k : ℕ} → KnownSymbol v k → LetterTable v used letters
-      → get_or (get_or (take used letters) i []) 8 0 < 64
+      → (get_or (take used letters) i no_letter).index < 64
   row-small s t = rw read (letter-small (row-letter s.formed (t.row i below)))
 
 pub loop-letter-init : goal.loop-letter-init

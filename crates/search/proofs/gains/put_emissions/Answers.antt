@@ -4,6 +4,7 @@ use native.Mathlib.Omega.{arith}
 use mathlib.Core.List.{List}
 use lib.ListN.{length, get_or}
 use Rattle.lexicon.specs.Lexicon.{node_count, node_letter}
+use Rattle.storing.specs.declared.Moves.{Moves}
 use Rattle.storing.specs.Places.{NodesRead}
 use Rattle.checking.specs.declared.Vertex.{Vertex}
 use Rattle.checking.proofs.Arcs.{shape_of, nodes-there}
@@ -11,7 +12,7 @@ use Rattle.storing.proofs.Numbering.{EmissionsFound, emissions-start, emissions-
 use Rattle.search.proofs.gains.put_emissions.Goals as goal
 
 -- the node whose turn it is
-module _ {x : List ℕ} {gains : List (List ℕ)} {nodes node : ℕ} {t t' : List Vertex} (h : NodesRead x nodes)
+module _ {x : List ℕ} {gains : List Moves} {nodes node : ℕ} {t t' : List Vertex} (h : NodesRead x nodes)
     (i : EmissionsFound x gains node t t') (k : node < nodes + 1) where
   high : node ≤ node_count x
   high = omega (arith, h.all)
