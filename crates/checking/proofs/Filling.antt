@@ -13,7 +13,7 @@ use borrow.Author.Tests.{ltb-true, ltb-false}
 use Rattle.endian.proofs.Lists.{get_d_copies}
 use Rattle.lexicon.specs.Lexicon.{sink_of}
 use Rattle.lexicon.proofs.Shape.{arcs-next}
-use Rattle.checking.specs.Tables.{TableOf, WellFormed, WithOffsets}
+use Rattle.checking.specs.Tables.{TableOf, WellFormed}
 use Rattle.checking.specs.Filling.{FilledFrom, AtVertex}
 use Rattle.checking.proofs.Arcs.{shape_of}
 use Rattle.checking.proofs.Successors.{SuccessorAt}
@@ -62,7 +62,7 @@ filled-whole {n} {f} {table} t = record { long = t.long; holds = λ u. at u (ltb
     at u false q = t.beyond u (ltb-false u n q)
 
 -- at a vertex the entry of a successor is there
-pub entry-above : {f : ℕ → ℕ} {x offsets table : List ℕ} {u i s : ℕ} → AtVertex f x offsets table u
+pub entry-above : {f : ℕ → ℕ} {x table : List ℕ} {u i s : ℕ} → AtVertex f x table u
     → SuccessorAt x u i s → get_or table s 0 ≡ f s
 entry-above {s = s} v n = v.above.filled s n.rises (omega (arith, n.bounded))
 
@@ -93,16 +93,15 @@ filling_sink {f} {x} {table} {k} {v} w blank e h = record {
 pub filling_blank : {f : ℕ → ℕ} {x : List ℕ} → f (sink_of x) ≡ 0 → FilledDownTo f x (replicate 402 0) (sink_of x)
 filling_blank {f} {x} h = record { low = omega arith; entries = filled_zero (filled_none (suc (sink_of x)) f) refl h }
 
-pub filling_next : {f : ℕ → ℕ} {x offsets table : List ℕ} {u v : ℕ} → AtVertex f x offsets table u → v ≡ f u
+pub filling_next : {f : ℕ → ℕ} {x table : List ℕ} {u v : ℕ} → WellFormed x → AtVertex f x table u → v ≡ f u
     → FilledDownTo f x (set table u v) u
 unfolding sink_of
-filling_next a h = record {
+filling_next w a h = record {
   low = omega (arith, a.vertex);
   entries =
-      filled_next a.above refl h (omega (arith, a.vertex)) (omega (arith, sink-small a.located.formed));
+      filled_next a.above refl h (omega (arith, a.vertex)) (omega (arith, sink-small w));
 }
 
-pub vertex-next : {f : ℕ → ℕ} {x offsets table : List ℕ} {k u : ℕ} → WithOffsets x offsets → FilledDownTo f x table k
-    → suc u ≡ k → AtVertex f x offsets table u
+pub vertex-next : {f : ℕ → ℕ} {x table : List ℕ} {k u : ℕ} → FilledDownTo f x table k → suc u ≡ k → AtVertex f x table u
 unfolding sink_of
-vertex-next l t e = record { located = l; vertex = omega (arith, t.low); above = rw e t.entries }
+vertex-next t e = record { vertex = omega (arith, t.low); above = rw e t.entries }

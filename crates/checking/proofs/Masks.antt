@@ -9,7 +9,7 @@ use borrow.Author.Tests.{le-leb}
 use Rattle.endian.specs.Lists.{any}
 use Rattle.lexicon.specs.Lexicon.{sink_of, successors}
 use Rattle.graph.specs.Graph.{graph_of, sink}
-use Rattle.checking.specs.Tables.{WithOffsets}
+use Rattle.checking.specs.Tables.{WellFormed}
 use Rattle.checking.specs.Bits.{bit, Joined}
 use Rattle.checking.specs.Pairs.{common, meets, clash_after, clash_at}
 use Rattle.checking.specs.PairTable.{pair_bit, PairsMarked, Gathered}
@@ -18,9 +18,9 @@ use Rattle.checking.proofs.Successors.{SuccessorAt}
 use Rattle.checking.proofs.Bits.{bit-zero}
 
 -- no vertex is above 401
-pub few-vertices : {x offsets : List ℕ} → WithOffsets x offsets → sink (graph_of x) < 402
+pub few-vertices : {x : List ℕ} → WellFormed x → sink (graph_of x) < 402
 unfolding sink
-few-vertices l = omega (arith, (shape_of l.formed).few)
+few-vertices w = omega (arith, (shape_of w).few)
 
 -- ---- a search through the successors of a vertex
 

@@ -16,7 +16,7 @@ use Rattle.endian.proofs.Search.{any_same, any_last}
 use Rattle.lexicon.specs.Lexicon.{node_count}
 use Rattle.graph.specs.Graph.{Graph, graph_of, sink}
 use Rattle.graph.proofs.Sound.{Sound}
-use Rattle.checking.specs.Tables.{WithOffsets}
+use Rattle.checking.specs.Tables.{WellFormed}
 use Rattle.checking.specs.Bits.{bit, BitSet}
 use Rattle.checking.specs.Pairs.{common, meets, clash_at, clash}
 use Rattle.checking.specs.PairTable.{pair_bit, PairsMarked, MaskOf, Gathered, PairSet, RowDone, FirstAlike}
@@ -240,13 +240,13 @@ pub record Rows (x : List ℕ) (u : ℕ) (b : List ℕ) : Type 0 where
   pub clashes : clash (graph_of x) ≡ any (clash_at (graph_of x)) (from 0 (suc u))
 
 module _ {x : List ℕ} where
-  pub rows_start : {offsets after : List ℕ} {u k : ℕ} (b : List ℕ) → WithOffsets x offsets → u ≡ node_count x
+  pub rows_start : {after : List ℕ} {u k : ℕ} (b : List ℕ) → WellFormed x → u ≡ node_count x
       → k ≡ sink (graph_of x) → length after ≡ 20502
       → BitSet (k * 408 + k) (zeroed (51 * (k + 1)) b) after → Rows x u after
   unfolding clash sink
-  rows_start {after = after} {u} b l e f h d =
+  rows_start {after = after} {u} b w e f h d =
       let m : PairsMarked (graph_of x) (sink (graph_of x)) after =
-      table-start (graph_of x) (few-vertices l) b h (rw f at d) in
+      table-start (graph_of x) (few-vertices w) b h (rw f at d) in
       record { below = omega arith; marked = rw e m; clashes = rw e }
 
   pub rows_found : {u : ℕ} {b after : List ℕ} {answer : Bool} → Rows x u b → RowDone (graph_of x) u after answer → answer ≡ true

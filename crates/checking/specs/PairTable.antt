@@ -5,7 +5,7 @@ use Rattle.std.specs.Prelude.{ℕ, suc, ◌+◌, ◌*◌, ◌≤◌, ◌<◌, mi
 use Rattle.lexicon.specs.Lexicon.{node_count}
 use Rattle.graph.specs.Graph.{Graph, graph_of, sink}
 use Rattle.graph.specs.Conditions.{orphan}
-use Rattle.checking.specs.Tables.{FewLetters, WithOffsets}
+use Rattle.checking.specs.Tables.{FewLetters}
 use Rattle.checking.specs.Bits.{bit}
 use Rattle.checking.specs.Pairs.{common, meets, clash_at}
 
@@ -68,17 +68,15 @@ pub record Chains (g : Graph) (k : ℕ) (firsts nexts : List (Option ℕ)) : Typ
 
 -- ---- what calls ask
 
--- what the row of node u is made from: the lists, the rows above it, and the chains with u in them
-pub record RowParts (x offsets : List ℕ) (nexts : List (Option ℕ)) (u : ℕ) (b : List ℕ) : Type 0 where
-  pub located : WithOffsets x offsets
+-- what the row of node u is made from, beside the lists: the rows above it, and the chains with u in them
+pub record RowParts (x : List ℕ) (nexts : List (Option ℕ)) (u : ℕ) (b : List ℕ) : Type 0 where
   pub node : 1 ≤ u
   pub inside : u ≤ node_count x
   pub above : PairsMarked (graph_of x) (suc u) b
   pub chained : Chained (graph_of x) u nexts
 
 -- what is known where number 10 is looked for
-pub record PairsAsked (x offsets b : List ℕ) : Type 0 where
-  pub located : WithOffsets x offsets
+pub record PairsAsked (x b : List ℕ) : Type 0 where
   pub reached : orphan (graph_of x) ≡ false
   pub letters : FewLetters x
   pub room : length b ≡ 20502

@@ -13,7 +13,7 @@ ghost use Rattle.checking.specs.Judging.{Blank, graph_rows, ImagesJudged};
 
 use crate::counts::count_paths;
 use crate::heights::longest_word;
-use crate::offsets::find_offsets;
+use crate::offsets::{Lists, find_offsets};
 use crate::orphans::has_orphan;
 use crate::pairs::{PAIR_BYTES, has_same_letters};
 use crate::places::place_count;
@@ -73,21 +73,22 @@ fn judge_graph(
         lexicon.now offsets.new counts.new }
 {
     find_offsets(lexicon, offsets);
-    if has_orphan(lexicon, offsets) {
+    let lists = Lists { lexicon, offsets };
+    if has_orphan(lists) {
         return Err(Refusal::Orphan);
     }
     if PLACES < place_count(voice, lexicon) {
         return Err(Refusal::Places);
     }
-    if LETTERS < longest_word(lexicon, offsets) {
+    if LETTERS < longest_word(lists) {
         return Err(Refusal::LongWord);
     }
-    count_paths(lexicon, offsets, counts);
+    count_paths(lists, counts);
     let words = counts[0];
     if WORDS < words {
         return Err(Refusal::WordCount);
     }
-    if has_same_letters(lexicon, offsets, pairs) {
+    if has_same_letters(lists, pairs) {
         return Err(Refusal::SameLetters);
     }
     Ok(words)

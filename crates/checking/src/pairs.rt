@@ -9,13 +9,12 @@ ghost use Rattle.call.specs.Buffers.{zeroed};
 ghost use Rattle.lexicon.specs.Lexicon.{node_count, node_letter, successors};
 ghost use Rattle.graph.specs.Graph.{graph_of};
 ghost use Rattle.graph.specs.Conditions.{same_letters};
-ghost use Rattle.checking.specs.Tables.{WellFormed, WithOffsets};
 ghost use Rattle.checking.specs.Bits.{bit, BitSet, Joined};
 ghost use Rattle.checking.specs.Pairs.{clash_at};
 ghost use Rattle.checking.specs.PairTable.{PairsMarked, MaskOf, Gathered, PairSet, RowDone, Chains, RowParts};
 ghost use Rattle.checking.specs.PairTable.{PairsAsked};
 
-use crate::offsets::{sink_of, successors};
+use crate::offsets::Lists;
 use call::zero;
 use endian::number_of;
 
@@ -55,14 +54,13 @@ fn join_row(mask: &mut [u8; 51], pairs: &[u8], at: usize)
 }
 
 // The mask of the rows of u's successors, or none if one of them has something in common with an earlier one.
-fn gather(lexicon: &[u8], offsets: &[u16; 402], u: usize, pairs: &[u8]) -> Option<[u8; 51]>
-    requires { WithOffsets lexicon.now offsets.now × (u ≤ node_count lexicon.now)
-        × PairsMarked (graph_of lexicon.now) (suc u) pairs.now }
-    ensures { MatchOption result (clash_at (graph_of lexicon.now) u ≡ true)
-        (Gathered (graph_of lexicon.now) u) }
+fn gather(lists: Lists, u: usize, pairs: &[u8]) -> Option<[u8; 51]>
+    requires { (u ≤ node_count lists.lexicon.now) × PairsMarked (graph_of lists.lexicon.now) (suc u) pairs.now }
+    ensures { MatchOption result (clash_at (graph_of lists.entry.lexicon.now) u ≡ true)
+        (Gathered (graph_of lists.entry.lexicon.now) u) }
 {
     let mut mask = [0; 51];
-    for &pair in successors(lexicon, offsets, u) {
+    for &pair in lists.successors(u) {
         let s = number_of(pair) as usize;
         if has_bit(&mask, s) {
             return None;
@@ -73,11 +71,11 @@ fn gather(lexicon: &[u8], offsets: &[u16; 402], u: usize, pairs: &[u8]) -> Optio
 }
 
 // Some successor of v has its bit in the mask.
-fn meets_mask(lexicon: &[u8], offsets: &[u16; 402], v: usize, mask: &[u8; 51]) -> bool
-    requires { WithOffsets lexicon.now offsets.now × (v ≤ node_count lexicon.now) }
-    ensures { result ≡ any (bit mask.now) (successors lexicon.now v) }
+fn meets_mask(lists: Lists, v: usize, mask: &[u8; 51]) -> bool
+    requires { v ≤ node_count lists.lexicon.now }
+    ensures { result ≡ any (bit mask.now) (successors lists.entry.lexicon.now v) }
 {
-    for &pair in successors(lexicon, offsets, v) {
+    for &pair in lists.successors(v) {
         if has_bit(mask, number_of(pair) as usize) {
             return true;
         }
@@ -86,20 +84,13 @@ fn meets_mask(lexicon: &[u8], offsets: &[u16; 402], v: usize, mask: &[u8; 51]) -
 }
 
 // Marks the pair of u and v, two nodes with the same letter, both ways, if they have something in common.
-fn mark_pair(
-    lexicon: &[u8],
-    offsets: &[u16; 402],
-    u: usize,
-    v: usize,
-    mask: &[u8; 51],
-    pairs: &mut [u8],
-)
-    requires { WithOffsets lexicon.now offsets.now × (u ≤ node_count lexicon.now) × (v ≤ node_count lexicon.now)
+fn mark_pair(lists: Lists, u: usize, v: usize, mask: &[u8; 51], pairs: &mut [u8])
+    requires { (u ≤ node_count lists.lexicon.now) × (v ≤ node_count lists.lexicon.now)
         × (length pairs.old ≡ 20502) }
-    ensures { PairSet u v (any (bit mask.now) (successors lexicon.now v))
+    ensures { PairSet u v (any (bit mask.now) (successors lists.entry.lexicon.now v))
         pairs.old pairs.new }
 {
-    if meets_mask(lexicon, offsets, v, mask) {
+    if meets_mask(lists, v, mask) {
         set_bit(pairs, u * ROW_BITS + v);
         set_bit(pairs, v * ROW_BITS + u);
     }
@@ -107,57 +98,44 @@ fn mark_pair(
 
 // Marks the pair of u with itself, and those with the later nodes of its letter: of the vertices from u on, it can have
 // something in common with no other.
-fn mark_row(
-    lexicon: &[u8],
-    offsets: &[u16; 402],
-    nexts: &[Option<u16>; 402],
-    u: usize,
-    mask: &[u8; 51],
-    pairs: &mut [u8],
-)
-    requires row_parts { RowParts lexicon.now offsets.now nexts.now u pairs.old }
-    requires mask_of { MaskOf (graph_of lexicon.now) u mask.now }
-    ensures { PairsMarked (graph_of lexicon.now) u pairs.new }
+fn mark_row(lists: Lists, nexts: &[Option<u16>; 402], u: usize, mask: &[u8; 51], pairs: &mut [u8])
+    requires row_parts { RowParts lists.lexicon.now nexts.now u pairs.old }
+    requires mask_of { MaskOf (graph_of lists.lexicon.now) u mask.now }
+    ensures { PairsMarked (graph_of lists.entry.lexicon.now) u pairs.new }
 {
     set_bit(pairs, u * ROW_BITS + u);
     let mut next = nexts[u];
     while let Some(node) = next {
         let v = node as usize;
-        mark_pair(lexicon, offsets, u, v, mask, pairs);
+        mark_pair(lists, u, v, mask, pairs);
         next = nexts[v];
     }
 }
 
 // Whether two successors of u have something in common; if not, the pairs with u are marked.
-fn add_row(
-    lexicon: &[u8],
-    offsets: &[u16; 402],
-    nexts: &[Option<u16>; 402],
-    u: usize,
-    pairs: &mut [u8],
-) -> bool
-    requires { RowParts lexicon.now offsets.now nexts.now u pairs.old }
-    ensures { RowDone (graph_of lexicon.now) u pairs.new result }
+fn add_row(lists: Lists, nexts: &[Option<u16>; 402], u: usize, pairs: &mut [u8]) -> bool
+    requires { RowParts lists.lexicon.now nexts.now u pairs.old }
+    ensures { RowDone (graph_of lists.entry.lexicon.now) u pairs.new result }
 {
-    let Some(mask) = gather(lexicon, offsets, u, &pairs[..]) else {
+    let Some(mask) = gather(lists, u, &pairs[..]) else {
         return true;
     };
-    mark_row(lexicon, offsets, nexts, u, &mask, pairs);
+    mark_row(lists, nexts, u, &mask, pairs);
     false
 }
 
 // Puts node u at the beginning of its letter's chain, in which the nodes above it are.
 fn chain_node(
-    lexicon: &[u8],
+    lists: Lists,
     u: usize,
     firsts: &mut [Option<u16>; 64],
     nexts: &mut [Option<u16>; 402],
 )
-    requires { WellFormed lexicon.now × (u ≤ node_count lexicon.now) × (node_letter lexicon.now u < 64)
-        × Chains (graph_of lexicon.now) (suc u) firsts.old nexts.old }
-    ensures { Chains (graph_of lexicon.now) u firsts.new nexts.new }
+    requires { (u ≤ node_count lists.lexicon.now) × (node_letter lists.lexicon.now u < 64)
+        × Chains (graph_of lists.lexicon.now) (suc u) firsts.old nexts.old }
+    ensures { Chains (graph_of lists.entry.lexicon.now) u firsts.new nexts.new }
 {
-    let letter = lexicon[1 + u] as usize;
+    let letter = lists.lexicon[1 + u] as usize;
     nexts[u] = firsts[letter];
     firsts[letter] = Some(u as u16);
 }
@@ -174,20 +152,20 @@ fn begin_table(sink: usize, pairs: &mut [u8])
 
 // Chains the nodes and adds their rows, from node N down, until one finds two successors with something in common. The
 // root has no letter, so it needs no row.
-pub(crate) fn has_same_letters(lexicon: &[u8], offsets: &[u16; 402], pairs: &mut [u8]) -> bool
-    requires { PairsAsked lexicon.now offsets.now pairs.old }
-    ensures value { result ≡ same_letters (graph_of lexicon.now) }
+pub(crate) fn has_same_letters(lists: Lists, pairs: &mut [u8]) -> bool
+    requires { PairsAsked lists.lexicon.now pairs.old }
+    ensures value { result ≡ same_letters (graph_of lists.entry.lexicon.now) }
     ensures pairs_len_unchanged { length pairs.new ≡ length pairs.old }
 {
-    let sink = sink_of(lexicon);
+    let sink = lists.sink();
     begin_table(sink, pairs);
     let mut firsts = [None; 64];
     let mut nexts = [None; 402];
     for u in (1..sink).rev() {
-        chain_node(lexicon, u, &mut firsts, &mut nexts);
-        if add_row(lexicon, offsets, &nexts, u, pairs) {
+        chain_node(lists, u, &mut firsts, &mut nexts);
+        if add_row(lists, &nexts, u, pairs) {
             return true;
         }
     }
-    gather(lexicon, offsets, 0, &pairs[..]).is_none()
+    gather(lists, 0, &pairs[..]).is_none()
 }

@@ -4,27 +4,28 @@ use mathlib.Core.Path.{◌≡◌}
 use mathlib.Core.List.{List}
 use native.Mathlib.Omega.{arith}
 use Rattle.graph.specs.Graph.{graph_of}
-use Rattle.checking.specs.Tables.{WithOffsets, capped_count}
+use Rattle.checking.specs.Tables.{capped_count}
 use Rattle.checking.specs.Filling.{AtVertex}
 use Rattle.checking.proofs.Filling.{FilledDownTo, filling_sink, filling_next, vertex-next, filled-whole}
 use Rattle.checking.proofs.Capped.{capped_sink}
+use Rattle.checking.proofs.Located.{formed}
 use Rattle.checking.proofs.counts.count_paths.Goals as goal
 
 -- one vertex down
-next : {x offsets table : List ℕ} {k : ℕ} → WithOffsets x offsets → FilledDownTo (capped_count (graph_of x)) x table k
-    → 0 < k → AtVertex (capped_count (graph_of x)) x offsets table (k - 1)
-next l t h = vertex-next l t (omega arith)
+next : {x table : List ℕ} {k : ℕ} → FilledDownTo (capped_count (graph_of x)) x table k → 0 < k
+    → AtVertex (capped_count (graph_of x)) x table (k - 1)
+next t h = vertex-next t (omega arith)
 
 pub loop-vertex-init : goal.loop-vertex-init
 loop-vertex-init c =
-    let p = c.requires in filling_sink p.0.formed p.1 c.sink_of-sink.ensures.value (capped_sink p.0.formed)
+    let w = formed c.args.lists.located in filling_sink w c.requires c.sink-sink.ensures.value (capped_sink w)
 
 pub path_count-requires : goal.path_count-requires
-path_count-requires c = next c.requires.0 c.loop-vertex.invariant (omega arith)
+path_count-requires c = next c.loop-vertex.invariant (omega arith)
 
 pub loop-vertex-preserved : goal.loop-vertex-preserved
 loop-vertex-preserved c =
-    filling_next (next c.requires.0 c.loop-vertex.invariant (omega arith)) c.path_count.ensures
+    filling_next (formed c.args.lists.located) (next c.loop-vertex.invariant (omega arith)) c.path_count.ensures
 
 pub returns : goal.returns
 returns c =

@@ -7,5 +7,5 @@ use Rattle.checking.proofs.heights.longest_word.Given as goal
 abbrev pub invariant-loop-vertex : goal.invariant-loop-vertex
 invariant-loop-vertex l = record {
   positive : 1 ≤ l.vertex;
-  filled : FilledDownTo (height (graph_of l.lexicon)) l.lexicon l.heights l.vertex;
+  filled : FilledDownTo (height (graph_of l.lists.lexicon.now)) l.lists.lexicon.now l.heights l.vertex;
 }

@@ -11,12 +11,12 @@ loop-vertex-init c = marked-none _
 pub mark_successors-requires : goal.mark_successors-requires
 unfolding sink_of
 mark_successors-requires c =
-    let e = c.sink_of-sink.ensures.value in
-    (c.requires, omega (arith, c.loop-vertex-test.true), c.loop-vertex.invariant)
+    let e = c.sink-sink.ensures.value in
+    (omega (arith, c.loop-vertex-test.true), c.loop-vertex.invariant)
 
 pub returns : goal.returns
 returns c =
-    let e = c.sink_of-sink.ensures.value in
-    let whole : c.loop-vertex.vertex ≡ sink_of c.args.lexicon.now = omega (arith, c.loop-vertex-test.false) in
+    let e = c.sink-sink.ensures.value in
+    let whole : c.loop-vertex.vertex ≡ sink_of c.args.lists.lexicon.now = omega (arith, c.loop-vertex-test.false) in
     rw e at c.contains.ensures.value
     ∙ unmarked-tells (rw whole at c.loop-vertex.invariant) (omega arith)

@@ -8,9 +8,11 @@ use Rattle.lexicon.specs.Lexicon.{sink_of}
 use Rattle.graph.specs.Graph.{graph_of, sink}
 use Rattle.graph.specs.Conditions.{same_letters}
 use Rattle.checking.specs.Pairs.{clash}
+use Rattle.checking.specs.Tables.{WellFormed}
 use Rattle.checking.specs.PairTable.{PairsAsked}
 use Rattle.checking.proofs.Arcs.{sound_of}
 use Rattle.checking.proofs.Chains.{chains-start}
+use Rattle.checking.proofs.Located.{formed}
 use Rattle.checking.proofs.Forks.{same-letters-clash}
 use Rattle.checking.proofs.PairTable.{rows_start, rows_found, rows_next, rows_done, clash-told}
 use Rattle.checking.proofs.pairs.has_same_letters.Goals as goal
@@ -19,22 +21,22 @@ pub loop-u-init : goal.loop-u-init
 unfolding sink sink_of
 loop-u-init c =
     let h = c.requires in
-    let e = c.sink_of-sink.ensures.value in
-    let s : c.sink_of-sink.result ≡ sink (graph_of c.args.lexicon.now) = e in
+    let e = c.sink-sink.ensures.value in
+    let s : c.sink-sink.result ≡ sink (graph_of c.args.lists.lexicon.now) = e in
     record {
       positive = omega arith;
       rows =
-          rows_start c.args.pairs.now h.located (omega arith) s (c.begin_table.auto.pairs ∙ h.room) c.begin_table.ensures;
-      chains = chains-start (graph_of c.args.lexicon.now) s refl;
+          rows_start c.args.pairs.now (formed c.args.lists.located) (omega arith) s (c.begin_table.auto.pairs ∙ h.room) c.begin_table.ensures;
+      chains = chains-start (graph_of c.args.lists.lexicon.now) s refl;
     }
 
 -- what the rows tell is what is asked
-asked : {x offsets b : List ℕ} → PairsAsked x offsets b → same_letters (graph_of x) ≡ clash (graph_of x)
-asked h = same-letters-clash (sound_of h.located.formed) h.reached
+asked : {x b : List ℕ} → WellFormed x → PairsAsked x b → same_letters (graph_of x) ≡ clash (graph_of x)
+asked w h = same-letters-clash (sound_of w) h.reached
 
 pub returns-then-add_row-clause-value : goal.returns-then-add_row-clause-value
 returns-then-add_row-clause-value c =
-    sym (asked c.requires ∙ rows_found c.loop-u.invariant.rows c.add_row.ensures c.if-add_row.true)
+    sym (asked (formed c.args.lists.located) c.requires ∙ rows_found c.loop-u.invariant.rows c.add_row.ensures c.if-add_row.true)
 
 pub loop-u-preserved : goal.loop-u-preserved
 loop-u-preserved c = record {
@@ -45,5 +47,5 @@ loop-u-preserved c = record {
 
 pub returns-clause-value : goal.returns-clause-value
 returns-clause-value c =
-    sym (asked c.requires ∙ rows_done c.loop-u.invariant.rows (omega (arith, c.loop-u-test.false))
-    ∙ clash-told (graph_of c.args.lexicon.now) 0 _ _ c.gather.ensures c.is_none.ensures)
+    sym (asked (formed c.args.lists.located) c.requires ∙ rows_done c.loop-u.invariant.rows (omega (arith, c.loop-u-test.false))
+    ∙ clash-told (graph_of c.args.lists.lexicon.now) 0 _ _ c.gather.ensures c.is_none.ensures)

@@ -7,8 +7,10 @@ use native.Mathlib.Omega.{arith}
 use lib.ListN.{get_or}
 use Rattle.std.specs.Prelude.{Option, None}
 use Rattle.graph.specs.Graph.{graph_of, sink}
+use Rattle.checking.specs.Tables.{WellFormed}
 use Rattle.checking.specs.PairTable.{LeadsTo, RowParts}
 use Rattle.checking.proofs.Arcs.{sound_of}
+use Rattle.checking.proofs.Located.{formed}
 use Rattle.checking.proofs.Masks.{few-vertices}
 use Rattle.checking.proofs.PairTable.{RowAt, row-start, row-skip, row_next, row_done}
 use Rattle.checking.proofs.pairs.mark_row.Goals as goal
@@ -18,30 +20,31 @@ record BelowSink (x : List ℕ) (u : ℕ) : Type 0 where
   below : u < sink (graph_of x)
   few : sink (graph_of x) < 402
 
-known : {x offsets b : List ℕ} {nexts : List (Option ℕ)} {u : ℕ} → RowParts x offsets nexts u b → BelowSink x u
+known : {x b : List ℕ} {nexts : List (Option ℕ)} {u : ℕ} → WellFormed x → RowParts x nexts u b → BelowSink x u
 unfolding sink
-known h = record { below = omega (arith, h.inside); few = few-vertices h.located }
+known w h = record { below = omega (arith, h.inside); few = few-vertices w }
 
-small : {x offsets b : List ℕ} {nexts : List (Option ℕ)} {u : ℕ} → RowParts x offsets nexts u b → u < 401
-small h = let k = known h in omega (arith, k.below, k.few)
+small : {x b : List ℕ} {nexts : List (Option ℕ)} {u : ℕ} → WellFormed x → RowParts x nexts u b → u < 401
+small w h = let k = known w h in omega (arith, k.below, k.few)
 
 pub set_bit-requires : goal.set_bit-requires
-set_bit-requires c = let h = c.requires.row_parts in omega (arith, h.above.long, small h)
+set_bit-requires c = let h = c.requires.row_parts in omega (arith, h.above.long, small (formed c.args.lists.located) h)
 
 -- the first node after u with its letter
-first : {x offsets b : List ℕ} {nexts : List (Option ℕ)} {u : ℕ} → RowParts x offsets nexts u b
+first : {x b : List ℕ} {nexts : List (Option ℕ)} {u : ℕ} → WellFormed x → RowParts x nexts u b
     → LeadsTo (graph_of x) ((graph_of x).letter u) (suc u) (get_or nexts u None)
-first {u = u} h = h.chained.next u (omega arith) (known h).below
+first {u = u} w h = h.chained.next u (omega arith) (known w h).below
 
 pub loop-next-init : goal.loop-next-init
 loop-next-init c =
     let h = c.requires.row_parts in
-    let k = known h in
-    let f = first h in
+    let w = formed c.args.lists.located in
+    let k = known w h in
+    let f = first w h in
     record {
       row =
-          row-skip (sound_of h.located.formed) k.few h.node k.below (omega arith) (omega arith) f.first
-          (row-start (graph_of c.args.lexicon.now) k.few k.below h.above c.set_bit.auto.pairs c.set_bit.ensures);
+          row-skip (sound_of w) k.few h.node k.below (omega arith) (omega arith) f.first
+          (row-start (graph_of c.args.lists.lexicon.now) k.few k.below h.above c.set_bit.auto.pairs c.set_bit.ensures);
       node = f.node;
     }
 
@@ -50,10 +53,10 @@ unfolding sink
 mark_pair-requires c =
     let h = c.requires.row_parts in
     let below = c.loop-next.invariant.node _ c.in-Some.is in
-    (h.located, h.inside, omega arith, c.loop-next.invariant.row.marked.long)
+    (h.inside, omega arith, c.loop-next.invariant.row.marked.long)
 
 -- the one after it
-next : {x offsets b after : List ℕ} {nexts : List (Option ℕ)} {u v : ℕ} → RowParts x offsets nexts u b
+next : {x b after : List ℕ} {nexts : List (Option ℕ)} {u v : ℕ} → RowParts x nexts u b
     → RowAt (graph_of x) u v after → v < sink (graph_of x)
     → LeadsTo (graph_of x) ((graph_of x).letter u) (suc v) (get_or nexts v None)
 next {v = v} h i l = rw (i.same l) at (h.chained.next v (omega (arith, i.above)) l)
@@ -61,10 +64,11 @@ next {v = v} h i l = rw (i.same l) at (h.chained.next v (omega (arith, i.above))
 pub loop-next-preserved : goal.loop-next-preserved
 loop-next-preserved c =
     let h = c.requires.row_parts in
-    let k = known h in
+    let w = formed c.args.lists.located in
+    let k = known w h in
     let i = rw c.in-Some.is at c.loop-next.invariant.row in
     let l = c.loop-next.invariant.node _ c.in-Some.is in
-    let ok = sound_of h.located.formed in
+    let ok = sound_of w in
     let f = next h i l in
     record {
       row =
@@ -83,21 +87,22 @@ loop-next-smaller c =
 pub returns : goal.returns
 returns c =
     let h = c.requires.row_parts in
-    let k = known h in
-    row_done (sound_of h.located.formed) k.few h.node k.below refl (rw c.in_default.is at c.loop-next.invariant.row).marked
+    let w = formed c.args.lists.located in
+    let k = known w h in
+    row_done (sound_of w) k.few h.node k.below refl (rw c.in_default.is at c.loop-next.invariant.row).marked
 
 pub overflow_mul-u : goal.overflow_mul-u
-overflow_mul-u c = omega (arith, small c.requires.row_parts)
+overflow_mul-u c = omega (arith, small (formed c.args.lists.located) c.requires.row_parts)
 
 pub overflow_add-u : goal.overflow_add-u
-overflow_add-u c = omega (arith, small c.requires.row_parts)
+overflow_add-u c = omega (arith, small (formed c.args.lists.located) c.requires.row_parts)
 
 pub offset_bounds-nexts-u : goal.offset_bounds-nexts-u
-offset_bounds-nexts-u c = omega (arith, small c.requires.row_parts)
+offset_bounds-nexts-u c = omega (arith, small (formed c.args.lists.located) c.requires.row_parts)
 
 pub bounds-nexts-u : goal.bounds-nexts-u
-bounds-nexts-u c = omega (arith, small c.requires.row_parts)
+bounds-nexts-u c = omega (arith, small (formed c.args.lists.located) c.requires.row_parts)
 
 pub bounds-nexts-v : goal.bounds-nexts-v
 bounds-nexts-v c =
-    omega (arith, c.loop-next.invariant.node _ c.in-Some.is, (known c.requires.row_parts).few)
+    omega (arith, c.loop-next.invariant.node _ c.in-Some.is, (known (formed c.args.lists.located) c.requires.row_parts).few)

@@ -8,9 +8,9 @@ use Rattle.checking.proofs.pairs.mark_row.Given as goal
 
 abbrev pub invariant-loop-next : goal.invariant-loop-next
 invariant-loop-next l = record {
-  row : RowAt (graph_of l.lexicon) l.u (led_to (graph_of l.lexicon) l.next) l.pairs;
-  node : (v : ℕ) → l.next ≡ Some v → v < sink (graph_of l.lexicon);
+  row : RowAt (graph_of l.lists.lexicon.now) l.u (led_to (graph_of l.lists.lexicon.now) l.next) l.pairs;
+  node : (v : ℕ) → l.next ≡ Some v → v < sink (graph_of l.lists.lexicon.now);
 }
 
 abbrev pub decreases-loop-next : goal.decreases-loop-next
-decreases-loop-next l = sink (graph_of l.lexicon) - led_to (graph_of l.lexicon) l.next
+decreases-loop-next l = sink (graph_of l.lists.lexicon.now) - led_to (graph_of l.lists.lexicon.now) l.next
