@@ -6,10 +6,10 @@ ghost use Rattle.graph.specs.Graph.{graph_of, word_count};
 ghost use Rattle.ranking.specs.Hits as spec;
 ghost use Rattle.ranking.specs.Hits.{hits_read};
 ghost use Rattle.report.specs.Lines.{AcceptedArguments, HoldsHits};
-ghost use Rattle.report.specs.Text.{TextPut};
+ghost use Rattle.report.specs.Text.{Written};
 ghost use Rattle.report.specs.Report.{hit_line};
 
-use crate::text::put_hit_line;
+use crate::Page;
 use codes::code_to_word;
 use endian::{i32_of, u32_of};
 use ranking::mean;
@@ -34,34 +34,31 @@ fn hit_at(list: &[u8], at: usize) -> Hit
     }
 }
 
-// The line of one hit; what is ready here is never refused.
+// Puts the line of one hit; what is ready here is never refused.
 fn put_hit(
     voice: &[u8],
     lexicon: &[u8],
     frames: u32,
     hit: Hit,
     work: &mut [u8],
-    out: &mut [u8],
-    at: usize,
-) -> usize
+    page: &mut Page<640>,
+)
     requires accepted_arguments { AcceptedArguments voice.now lexicon.now frames work.old }
     requires code_bound { hit.code < word_count (graph_of lexicon.now) }
-    requires at_in_bounds { at + 68 ≤ length out.old }
-    ensures { TextPut (hit_line voice.now (graph_of lexicon.now) frames (spec.hit hit.score hit.code)) at
-        out.old out.new result }
+    requires in_bounds { page.old.length + 68 ≤ 640 }
+    ensures { Written (hit_line voice.now (graph_of lexicon.now) frames (spec.hit hit.score hit.code)) page.old page.new }
 {
     let mut word = [0u8; 32];
     let Ok(size) = code_to_word(voice, lexicon, hit.code, work, &mut word) else {
-        return at;
+        unreachable!();
     };
     let Ok(average) = mean(hit.score, frames) else {
-        return at;
+        unreachable!();
     };
-    let end = size as usize;
-    put_hit_line(hit.code, hit.score, average, &word[..end], out, at)
+    page.put_hit_line(hit.code, hit.score, average, &word[..size as usize]);
 }
 
-// The lines of k hits, in their order.
+// Puts the lines of k hits, in their order.
 pub(crate) fn put_lines(
     voice: &[u8],
     lexicon: &[u8],
@@ -69,20 +66,15 @@ pub(crate) fn put_lines(
     list: &[u8],
     k: u32,
     work: &mut [u8],
-    out: &mut [u8],
-    at: usize,
-) -> usize
+    page: &mut Page<640>,
+)
     requires accepted_arguments { AcceptedArguments voice.now lexicon.now frames work.old }
     requires holds_hits { HoldsHits lexicon.now list.now k }
-    requires k_in_bounds { at + 68 * k ≤ length out.old }
-    ensures { TextPut
-        (flat_map (hit_line voice.now (graph_of lexicon.now) frames)
-        (hits_read list.now k)) at
-        out.old out.new result }
+    requires k_in_bounds { page.old.length + 68 * k ≤ 640 }
+    ensures { Written
+        (flat_map (hit_line voice.now (graph_of lexicon.now) frames) (hits_read list.now k)) page.old page.new }
 {
-    let mut end = at;
     for i in 0..k as usize {
-        end = put_hit(voice, lexicon, frames, hit_at(list, 8 * i), work, out, end);
+        put_hit(voice, lexicon, frames, hit_at(list, 8 * i), work, page);
     }
-    end
 }

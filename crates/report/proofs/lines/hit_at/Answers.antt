@@ -1,6 +1,5 @@
 -- `lines::hit_at` meets its contract: four bytes hold each number. Assumes nothing.
 use mathlib.Core.Path.{◌∙◌}
-use native.Mathlib.Omega.{arith}
 use Rattle.report.proofs.Hits.{i32_four, u32_four, i32-again}
 use Rattle.report.proofs.lines.hit_at.Goals as goal
 

@@ -1,9 +1,7 @@
 -- `lines::put_hit` meets its contract: nothing refuses where all is ready, and the line is put of the code, the score,
 -- its mean and the word. Assumes nothing.
-use Prim.Native.Nat.{◌-◌}
 use mathlib.Core.Path.{◌≡◌, refl, sym, ap, ◌∙◌}
 use native.Mathlib.Omega.{arith}
-use borrow.Author.Rules.{rules}
 use lib.ListN.{length, length-take}
 use mir.Syntax.{w32}
 use mir.Val.{SFits}
@@ -17,16 +15,16 @@ use Rattle.report.proofs.Hits.{mean-again}
 use Rattle.report.proofs.Answers.{no-refusal, mean-answer, word-answer, word-is, part-there, line-is, put_same}
 use Rattle.report.proofs.lines.put_hit.Goals as goal
 
-pub returns-in_default : goal.returns-in_default
-returns-in_default c =
+pub unreachable-requires : goal.unreachable-requires
+unreachable-requires c =
     let r = c.requires in
     let ready = word-answer r.accepted_arguments c.args.hit.code _ r.code_bound refl in
-    absurd (no-refusal (sym ready ∙ sym c.code_to_word.ensures.result_value ∙ ap answer_of c.in_default.is))
+    no-refusal (sym ready ∙ sym c.code_to_word.ensures.result_value ∙ ap answer_of c.in_default.is)
 
-pub returns-in_default-mean : goal.returns-in_default-mean
-returns-in_default-mean c =
+pub unreachable-requires-in_default-mean : goal.unreachable-requires-in_default-mean
+unreachable-requires-in_default-mean c =
     let ready = mean-answer c.requires.accepted_arguments _ in
-    absurd (no-refusal (sym ready ∙ sym c.mean.ensures ∙ ap answer_of c.in_default-mean.is))
+    no-refusal (sym ready ∙ sym c.mean.ensures ∙ ap answer_of c.in_default-mean.is)
 
 -- the word and its length
 pub slice_bounds-word-end : goal.slice_bounds-word-end
@@ -54,7 +52,7 @@ put_hit_line-requires c =
     let e = sym (ap answer_of c.in-Ok.is) ∙ w.ensures.result_value in
     let size = same-value (e ∙ word-answer r.accepted_arguments c.args.hit.code _ r.code_bound refl) in
     let h = word_short (accepted r.accepted_arguments.images) r.code_bound in
-    omega (arith, r.at_in_bounds, size, length-take c.in-Ok.size w.new.out)
+    omega (arith, r.in_bounds, size, length-take c.in-Ok.size w.new.out)
 
 pub returns : goal.returns
 returns c =

@@ -12,7 +12,7 @@ pub put_vertices-requires : goal.put_vertices-requires
 unfolding lexicon_refusal
 put_vertices-requires c = record {
   lexicon_value = sym (lexicon_told well_formed 256 c.args.lexicon.now c.in-Ok.ensures);
-  in_bounds = c.requires;
+  nothing_yet = c.requires;
 }
 
 pub returns-in-Ok : goal.returns-in-Ok

@@ -8,18 +8,17 @@ use Rattle.report.proofs.vertices.put_numbers.Goals as goal
 pub loop-i-init : goal.loop-i-init
 loop-i-init c = numbers-start
 
-pub put_labelled-end-requires : goal.put_labelled-end-requires
-put_labelled-end-requires c =
+pub put_labelled-requires : goal.put_labelled-requires
+put_labelled-requires c =
     let p = c.loop-i.invariant in
-    omega (arith, c.requires, c.loop-i-test.true, p.few_bytes, p.out_long)
+    omega (arith, c.requires, c.loop-i-test.true, p.few_bytes)
 
 pub loop-i-preserved : goal.loop-i-preserved
 loop-i-preserved c =
-    let number = rw (decimal-is c.u16_at.result (omega arith)) at c.put_labelled-end.ensures.text in
-    numbers-next (omega (arith, c.requires)) c.loop-i.invariant c.loop-i-test.true c.u16_at.ensures (omega arith)
-    c.put_labelled-end.auto.out number
+    let number = rw (decimal-is c.u16_at.result (omega arith)) at c.put_labelled.ensures.text in
+    numbers-next (omega (arith, c.requires)) c.loop-i.invariant c.loop-i-test.true c.u16_at.ensures (omega arith) number
 
 pub returns : goal.returns
 returns c =
     let all = numbers_end c.loop-i.invariant c.loop-i-test.false in
-    record { text_put = all.0; upper_bound = all.1 }
+    record { text = all.0; upper_bound = all.1 }
