@@ -7,7 +7,7 @@ use native.Mathlib.Omega.{arith}
 use lib.ListN.{get_or}
 use Rattle.std.specs.Prelude.{Option, None}
 use Rattle.graph.specs.Graph.{graph_of, sink}
-use Rattle.checking.specs.Tables.{WellFormed}
+use Rattle.checking.specs.Tables.{WellFormed, WithOffsets}
 use Rattle.checking.specs.PairTable.{LeadsTo, RowParts}
 use Rattle.checking.proofs.Arcs.{sound_of}
 use Rattle.checking.proofs.Located.{formed}
@@ -24,11 +24,11 @@ known : {x b : List ℕ} {nexts : List (Option ℕ)} {u : ℕ} → WellFormed x 
 unfolding sink
 known w h = record { below = omega (arith, h.inside); few = few-vertices w }
 
-small : {x b : List ℕ} {nexts : List (Option ℕ)} {u : ℕ} → WellFormed x → RowParts x nexts u b → u < 401
-small w h = let k = known w h in omega (arith, k.below, k.few)
+small : {x offsets b : List ℕ} {nexts : List (Option ℕ)} {u : ℕ} → ∥ WithOffsets x offsets ∥₁ → RowParts x nexts u b → u < 401
+small l h = let k = known (formed l) h in omega (arith, k.below, k.few)
 
 pub set_bit-requires : goal.set_bit-requires
-set_bit-requires c = let h = c.requires.row_parts in omega (arith, h.above.long, small (formed c.args.lists.located) h)
+set_bit-requires c = let h = c.requires.row_parts in omega (arith, h.above.long, small c.args.lists.located h)
 
 -- the first node after u with its letter
 first : {x b : List ℕ} {nexts : List (Option ℕ)} {u : ℕ} → WellFormed x → RowParts x nexts u b
@@ -92,16 +92,16 @@ returns c =
     row_done (sound_of w) k.few h.node k.below refl (rw c.in_default.is at c.loop-next.invariant.row).marked
 
 pub overflow_mul-u : goal.overflow_mul-u
-overflow_mul-u c = omega (arith, small (formed c.args.lists.located) c.requires.row_parts)
+overflow_mul-u c = omega (arith, small c.args.lists.located c.requires.row_parts)
 
 pub overflow_add-u : goal.overflow_add-u
-overflow_add-u c = omega (arith, small (formed c.args.lists.located) c.requires.row_parts)
+overflow_add-u c = omega (arith, small c.args.lists.located c.requires.row_parts)
 
 pub offset_bounds-nexts-u : goal.offset_bounds-nexts-u
-offset_bounds-nexts-u c = omega (arith, small (formed c.args.lists.located) c.requires.row_parts)
+offset_bounds-nexts-u c = omega (arith, small c.args.lists.located c.requires.row_parts)
 
 pub bounds-nexts-u : goal.bounds-nexts-u
-bounds-nexts-u c = omega (arith, small (formed c.args.lists.located) c.requires.row_parts)
+bounds-nexts-u c = omega (arith, small c.args.lists.located c.requires.row_parts)
 
 pub bounds-nexts-v : goal.bounds-nexts-v
 bounds-nexts-v c =
