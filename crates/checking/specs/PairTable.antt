@@ -1,7 +1,7 @@
 -- The table of pairs, one bit each: a row for each vertex, and in it a bit for each; and the chains of nodes with the
 -- same letter, by which a row is marked. The vocabulary of the contracts of private functions; no public contract cites
 -- it. Assumes nothing.
-use Rattle.std.specs.Prelude.{ℕ, suc, ◌+◌, ◌*◌, ◌≤◌, ◌<◌, min, ◌≡◌, Option, None, Some, Bool, false, ◌&&◌, ◌||◌, List, length, get_or, eqb, leb}
+use Rattle.std.specs.Prelude.{ℕ, suc, ◌+◌, ◌*◌, ◌≤◌, ◌<◌, min, ◌≡◌, Bool, false, ◌&&◌, ◌||◌, List, length, get_or, eqb, leb}
 use Rattle.lexicon.specs.Lexicon.{node_count}
 use Rattle.graph.specs.Graph.{Graph, graph_of, sink}
 use Rattle.graph.specs.Conditions.{orphan}
@@ -45,31 +45,21 @@ pub record FirstAlike (g : Graph) (l k e : ℕ) : Type 0 where
   pub same : e < sink g → g.letter e ≡ l
   pub none_before : (w : ℕ) → k ≤ w → w < e → ¬ (g.letter w ≡ l)
 
--- the vertex that a chain leads to: the sink at its end
-abbrev pub led_to : Graph → Option ℕ → ℕ
-led_to g None = sink g
-led_to g (Some v) = v
-
--- the chain goes on to the first node from k on with letter l, and ends if there is none
-pub record LeadsTo (g : Graph) (l k : ℕ) (next : Option ℕ) : Type 0 where
-  pub first : FirstAlike g l k (led_to g next)
-  pub node : (v : ℕ) → next ≡ Some v → v < sink g
-
 -- for each node from k on, `nexts` has the next one with its letter
-pub record Chained (g : Graph) (k : ℕ) (nexts : List (Option ℕ)) : Type 0 where
+pub record Chained (g : Graph) (k : ℕ) (nexts : List ℕ) : Type 0 where
   pub long : length nexts ≡ 402
-  pub next : (v : ℕ) → k ≤ v → v < sink g → LeadsTo g (g.letter v) (suc v) (get_or nexts v None)
+  pub next : (v : ℕ) → k ≤ v → v < sink g → FirstAlike g (g.letter v) (suc v) (get_or nexts v 0)
 
 -- and `firsts` has each letter's first node from k on
-pub record Chains (g : Graph) (k : ℕ) (firsts nexts : List (Option ℕ)) : Type 0 where
+pub record Chains (g : Graph) (k : ℕ) (firsts nexts : List ℕ) : Type 0 where
   pub long : length firsts ≡ 64
-  pub first : (l : ℕ) → l < 64 → LeadsTo g l k (get_or firsts l None)
+  pub first : (l : ℕ) → l < 64 → FirstAlike g l k (get_or firsts l 0)
   pub chained : Chained g k nexts
 
 -- ---- what calls ask
 
 -- what the row of node u is made from, beside the lists: the rows above it, and the chains with u in them
-pub record RowParts (x : List ℕ) (nexts : List (Option ℕ)) (u : ℕ) (b : List ℕ) : Type 0 where
+pub record RowParts (x nexts : List ℕ) (u : ℕ) (b : List ℕ) : Type 0 where
   pub node : 1 ≤ u
   pub inside : u ≤ node_count x
   pub above : PairsMarked (graph_of x) (suc u) b

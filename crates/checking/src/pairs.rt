@@ -1,8 +1,8 @@
 // Refusal 10: two different full paths with the same letters. The paths part at some vertex, into two successors that
 // have something in common: ways to the sink with the same letters. Which vertices have something in common is kept in
-// a table of bits, filled from vertex N down. Two nodes can have something in common only if their letters are the
-// same, so the nodes of a letter are chained: `firsts` has each letter's first node, and `nexts` the next after each
-// node.
+// a table of bits, filled from vertex N down. Two nodes can have something in common only if their letters are the same,
+// so the nodes of a letter are chained: `firsts` has each letter's first node, `nexts` the next after each node, and the
+// sink stands for none: Options would take twice the stack, of which a call has 16 KiB.
 ghost use Rattle.std.specs.Prelude.{◌≡◌, suc, ◌+◌, ◌*◌, ◌≤◌, ◌<◌, length, true, MatchOption};
 ghost use Rattle.endian.specs.Lists.{any};
 ghost use Rattle.call.specs.Buffers.{zeroed};
@@ -98,22 +98,22 @@ fn mark_pair(lists: Lists, u: usize, v: usize, mask: &[u8; 51], pairs: &mut [u8]
 
 // Marks the pair of u with itself, and those with the later nodes of its letter: of the vertices from u on, it can have
 // something in common with no other.
-fn mark_row(lists: Lists, nexts: &[Option<u16>; 402], u: usize, mask: &[u8; 51], pairs: &mut [u8])
+fn mark_row(lists: Lists, nexts: &[u16; 402], u: usize, mask: &[u8; 51], pairs: &mut [u8])
     requires row_parts { RowParts lists.lexicon.now nexts.now u pairs.old }
     requires mask_of { MaskOf (graph_of lists.lexicon.now) u mask.now }
     ensures { PairsMarked (graph_of lists.entry.lexicon.now) u pairs.new }
 {
+    let sink = lists.sink();
     set_bit(pairs, u * ROW_BITS + u);
-    let mut next = nexts[u];
-    while let Some(node) = next {
-        let v = node as usize;
+    let mut v = nexts[u] as usize;
+    while v < sink {
         mark_pair(lists, u, v, mask, pairs);
-        next = nexts[v];
+        v = nexts[v] as usize;
     }
 }
 
 // Whether two successors of u have something in common; if not, the pairs with u are marked.
-fn add_row(lists: Lists, nexts: &[Option<u16>; 402], u: usize, pairs: &mut [u8]) -> bool
+fn add_row(lists: Lists, nexts: &[u16; 402], u: usize, pairs: &mut [u8]) -> bool
     requires { RowParts lists.lexicon.now nexts.now u pairs.old }
     ensures { RowDone (graph_of lists.entry.lexicon.now) u pairs.new result }
 {
@@ -125,19 +125,14 @@ fn add_row(lists: Lists, nexts: &[Option<u16>; 402], u: usize, pairs: &mut [u8])
 }
 
 // Puts node u at the beginning of its letter's chain, in which the nodes above it are.
-fn chain_node(
-    lists: Lists,
-    u: usize,
-    firsts: &mut [Option<u16>; 64],
-    nexts: &mut [Option<u16>; 402],
-)
+fn chain_node(lists: Lists, u: usize, firsts: &mut [u16; 64], nexts: &mut [u16; 402])
     requires { (u ≤ node_count lists.lexicon.now) × (node_letter lists.lexicon.now u < 64)
         × Chains (graph_of lists.lexicon.now) (suc u) firsts.old nexts.old }
     ensures { Chains (graph_of lists.entry.lexicon.now) u firsts.new nexts.new }
 {
     let letter = lists.lexicon[1 + u] as usize;
     nexts[u] = firsts[letter];
-    firsts[letter] = Some(u as u16);
+    firsts[letter] = u as u16;
 }
 
 // The pair of the sink with itself alone is marked. No row after the sink's is ever read, so only those up to it are
@@ -159,8 +154,8 @@ pub(crate) fn has_same_letters(lists: Lists, pairs: &mut [u8]) -> bool
 {
     let sink = lists.sink();
     begin_table(sink, pairs);
-    let mut firsts = [None; 64];
-    let mut nexts = [None; 402];
+    let mut firsts = [sink as u16; 64];
+    let mut nexts = [0; 402];
     for u in (1..sink).rev() {
         chain_node(lists, u, &mut firsts, &mut nexts);
         if add_row(lists, &nexts, u, pairs) {

@@ -27,7 +27,7 @@ loop-u-init c =
       positive = omega arith;
       rows =
           rows_start c.args.pairs.now (formed c.args.lists.located) (omega arith) s (c.begin_table.auto.pairs ∙ h.room) c.begin_table.ensures;
-      chains = chains-start (graph_of c.args.lists.lexicon.now) s refl;
+      chains = chains-start (graph_of c.args.lists.lexicon.now) s s refl;
     }
 
 -- what the rows tell is what is asked
