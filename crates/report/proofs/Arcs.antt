@@ -5,10 +5,12 @@ use Prim.Native.Nat.{ℕ, zero, suc, ◌+◌, ◌*◌, ◌/◌, ◌^◌, ◌≤�
 use mathlib.Core.Path.{◌≡◌, refl, ap, ◌∙◌}
 use mathlib.Core.List.{List, [], ◌∷◌, ◌++◌, flat_map, append-nil}
 use mathlib.Core.Option.{none, some}
-use native.Mathlib.Nat.{zero-add}
+use native.Mathlib.Nat.{zero-add, add_assoc}
 use native.Mathlib.Numerals.{add-one}
 use native.Mathlib.Omega.{arith}
-use lib.ListN.{length, get_or, length-take, length-drop}
+use lib.ListN.{length, get_or, drop, length-take, length-drop}
+use lib.Seq.{get_or-take, get_or-drop}
+use Rattle.std.specs.Simd.{first_chunks}
 use borrow.Author.Tests.{le-leb}
 use Rattle.endian.specs.Lists.{from}
 use Rattle.endian.specs.Bytes.{u16, u16s}
@@ -44,6 +46,20 @@ spaced-more b i =
     let e : 0 + 2 * i ≡ 2 * i = omega arith in
     rw (add-one i, numbers_more b 0 i, e)
     (flat_map_append (λ n. 32 ∷ decimal n) (u16s b 0 i) (n ∷ []) ∙ rw (append-nil (32 ∷ decimal n)))
+
+-- the number of a pair is the part's at twice its place
+pair_at : (i n : ℕ) (part : List ℕ) → i < n → u16 (get_or (first_chunks 2 n part) i []) 0 ≡ u16 part (2 * i)
+unfolding u16
+pair_at i zero part h = absurd (omega arith)
+pair_at zero (suc n) part h = rw (get_or-take 2 part 0 0 (omega arith), get_or-take 2 part 1 0 (omega arith)) refl
+pair_at (suc i) (suc n) part h =
+    let e : 2 * suc i ≡ 2 + 2 * i = omega arith in
+    rw (e, add_assoc 2 (2 * i) 1, ← get_or-drop 2 part (2 * i) 0, ← get_or-drop 2 part (2 * i + 1) 0)
+    (pair_at i n (drop 2 part) (omega arith))
+
+pub pair-number : (part : List ℕ) (i : ℕ) {pairs : List (List ℕ)} {n : ℕ} → pairs ≡ first_chunks 2 (length part / 2) part
+    → i < length part / 2 → n ≡ u16 (get_or pairs i []) 0 → n ≡ u16 part (2 * i)
+pair-number part i e h is = is ∙ rw e (pair_at i (length part / 2) part h)
 
 -- the first i numbers of a part are put
 pub record NumbersPut {N : ℕ} (part : List ℕ) (page₀ page : Page N) (i : ℕ) : Type 0 where

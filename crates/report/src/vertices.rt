@@ -9,7 +9,7 @@ ghost use Rattle.report.specs.Arcs.{spaced, letter_text, vertex_line, arcs_text}
 ghost use Rattle.report.specs.Text.{Written};
 
 use crate::Page;
-use endian::u16_at;
+use endian::{number_of, u16_at};
 use lexicon::{judge, successors};
 
 // Puts the numbers that a part of the image holds, each behind a space.
@@ -18,8 +18,9 @@ fn put_numbers(part: &[u8], page: &mut Page<60000>)
     ensures text { Written (spaced (u16s part.now 0 (length part.now / 2))) page.old page.new }
     ensures upper_bound { page.new.length ≤ page.old.length + 6 * length part.now }
 {
-    for i in 0..part.len() / 2 {
-        page.put_labelled(b" ", u16_at(part, 2 * i));
+    let (pairs, _) = part.as_chunks::<2>();
+    for &pair in pairs {
+        page.put_labelled(b" ", number_of(pair));
     }
 }
 
