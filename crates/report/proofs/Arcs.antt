@@ -57,8 +57,8 @@ pair_at (suc i) (suc n) part h =
     rw (e, add_assoc 2 (2 * i) 1, ← get_or-drop 2 part (2 * i) 0, ← get_or-drop 2 part (2 * i + 1) 0)
     (pair_at i n (drop 2 part) (omega arith))
 
-pub pair-number : (part : List ℕ) (i : ℕ) {pairs : List (List ℕ)} {n : ℕ} → pairs ≡ first_chunks 2 (length part / 2) part
-    → i < length part / 2 → n ≡ u16 (get_or pairs i []) 0 → n ≡ u16 part (2 * i)
+pub pair-number : (part : List ℕ) (i : ℕ) {pairs : List (List ℕ)} {n : ℕ}
+    → pairs ≡ first_chunks 2 (length part / 2) part → i < length part / 2 → n ≡ u16 (get_or pairs i []) 0 → n ≡ u16 part (2 * i)
 pair-number part i e h is = is ∙ rw e (pair_at i (length part / 2) part h)
 
 -- the first i numbers of a part are put

@@ -35,8 +35,8 @@ put-shows size {text} p = record {
 }
 
 -- what is written on a blank page
-pub written-shows : {size : ℕ} {text : List ℕ} {blank page : Page size} → blank.text ≡ blank_page size → blank.length ≡ 0
-    → Written text blank page
+pub written-shows : {size : ℕ} {text : List ℕ} {blank page : Page size} → blank.text ≡ blank_page size
+    → blank.length ≡ 0 → Written text blank page
     → Shows size text page.text page.length
 written-shows {size} e z p = put-shows size (rw (e, z) at p)
 

@@ -37,7 +37,8 @@ pub put_pair : (b d : List ℕ) {a : List ℕ} {at m e : ℕ} {o o₁ o₂ : Lis
 put_pair b d {a} h p q = rw (append_assoc a b d) (put-more h p q)
 
 -- a text and another behind a text, one after the other
-pub put_both : {a b d : List ℕ} {at m k e : ℕ} {o o₁ o₂ o₃ : List ℕ} → at ≤ length o → TextPut a at o o₁ m → TextPut b m o₁ o₂ k
+pub put_both : {a b d : List ℕ} {at m k e : ℕ} {o o₁ o₂ o₃ : List ℕ} → at ≤ length o → TextPut a at o o₁ m
+    → TextPut b m o₁ o₂ k
     → TextPut d k o₂ o₃ e
     → TextPut (a ++ (b ++ d)) at o o₃ e
 put_both {a} {b} {d} h p q r = rw (sym (append_assoc a b d)) (put-more h (put-more h p q) r)

@@ -46,7 +46,8 @@ fn put_hit(
     requires accepted_arguments { AcceptedArguments voice.now lexicon.now frames work.old }
     requires code_bound { hit.code < word_count (graph_of lexicon.now) }
     requires in_bounds { page.old.length + 68 ≤ 640 }
-    ensures { Written (hit_line voice.now (graph_of lexicon.now) frames (spec.hit hit.score hit.code)) page.old page.new }
+    ensures { Written
+        (hit_line voice.now (graph_of lexicon.now) frames (spec.hit hit.score hit.code)) page.old page.new }
 {
     let mut word = [0u8; 32];
     let Ok(size) = code_to_word(voice, lexicon, hit.code, work, &mut word) else {

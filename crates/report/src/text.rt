@@ -28,6 +28,7 @@ impl<const N: usize> Page<N> {
         ensures { Written text.now self.old self.new }
     {
         let end = self.length + text.len();
+        // of a slice a part can be lent, of an array of N bytes it cannot
         let page = &mut self.text[..];
         page[self.length..end].copy_from_slice(text);
         self.length = end;

@@ -1,5 +1,5 @@
--- `vertices::put_numbers` meets its contract: before each number those before it are put, of at most 11 bytes each. Assumes
--- nothing.
+-- `vertices::put_numbers` meets its contract: before each number those before it are put, of at most 11 bytes each.
+-- Assumes nothing.
 use Prim.Native.Nat.{◌/◌, ◌<◌}
 use native.Mathlib.Omega.{arith}
 use lib.ListN.{length}
