@@ -11,7 +11,7 @@ ghost use Rattle.registering.specs.Image.{Put, ArcsPut};
 use crate::walk::WORD_LINKS;
 use registering::Row;
 
-// Writes a number at an offset.
+// Writes a number at an offset. Sorting and lookup have the like: a shared function would be public, and test for room.
 pub(crate) fn put_number(out: &mut [u8], at: usize, n: u16)
     requires { at + 2 ≤ length out.old }
     ensures { Put (u16_bytes n) at out.old out.new (at + 2) }

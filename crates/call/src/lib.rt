@@ -56,7 +56,7 @@ pub enum Refusal {
 }
 
 impl Refusal {
-    // The number of the table.
+    // The number of the table. A method and no `From`: it is the number that documents name.
     pub fn number(self) -> u8
         ensures { result ≡ number self }
     {

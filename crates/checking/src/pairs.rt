@@ -106,6 +106,7 @@ fn mark_row(lists: Lists, nexts: &[u16; 402], u: usize, mask: &[u8; 51], pairs: 
     let sink = lists.sink();
     set_bit(pairs, u * ROW_BITS + u);
     let mut v = nexts[u] as usize;
+    // the chain says where it ends, so no range counts its nodes
     while v < sink {
         mark_pair(lists, u, v, mask, pairs);
         v = nexts[v] as usize;

@@ -37,8 +37,8 @@ impl Score {
         Score((i32::from(stored) + BIAS as i32) as u32)
     }
 
-    // The score as a hit has it. It is no `From`, since it holds a number within the limits. No word's score passes the limits; a number that does gives the limit that it passes,
-    // and so 0, which is no score's, the lowest.
+    // The score as a hit has it. It is no `From`, since it holds a number within the limits: no word's score passes
+    // them, a number that does gives the limit that it passes, and so 0, which is no score's, the lowest.
     pub fn value(self) -> i32
         ensures { result ≡ value_of self.0 }
     {

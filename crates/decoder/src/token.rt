@@ -20,7 +20,8 @@ impl Token {
     // bytes: a work space of zeros holds no token.
     pub const NONE: Token = Token(0);
 
-    // A candidate's: its score is possible.
+    // A candidate's: its score is possible. No `From`, since a token is made of two values, and none of the methods
+    // below, since each gives a part of it.
     pub fn of(score: Score, code: u32) -> Token
         ensures { result.0 ≡ score.0 * unit + (unit - 1 - code) }
     {

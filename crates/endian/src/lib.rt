@@ -4,6 +4,9 @@
 ghost use Rattle.std.specs.Prelude.{◌≡◌, [], ◌∷◌};
 ghost use Rattle.endian.specs.Bytes.{u16, u32, i16, i32, u32_bytes, i32_bytes};
 
+// The library's conversions, under contracts in the definitions' words. They stay six functions: a trait over the types
+// would have the same bodies.
+
 // The u16 that two bytes hold.
 pub fn u16_of(lo: u8, hi: u8) -> u16
     ensures { result ≡ u16 (lo ∷ hi ∷ []) 0 }

@@ -56,7 +56,7 @@ pub fn successors(lexicon: &[u8], vertex: usize) -> &[u8]
     &lexicon[start..end]
 }
 
-// The numbers of the list that stands at an offset, behind its count, two bytes each, for any bytes and any offset: none
+// The numbers of the list that stands at an offset behind its count, two bytes each, for any bytes and any offset: none
 // where the bytes end before the list does.
 pub fn list_at(lexicon: &[u8], at: usize) -> &[[u8; 2]]
     ensures { numbers_of result.now ≡ listed lexicon.now at }

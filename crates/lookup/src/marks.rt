@@ -15,7 +15,7 @@ pub(crate) const MARKS: usize = 26534;
 // No pair: it ends the chain. It is stored in the row as the pairs are, in two bytes, so it is a number and no Option.
 pub(crate) const NONE: usize = 13267;
 
-// Writes the number of a pair.
+// Writes the number of a pair. Sorting has the same for its rows: a shared function would be public, and test for room.
 fn put_number(marks: &mut [u8], pair: usize, n: usize)
     requires { (2 * pair + 2 ≤ length marks.old) × (n < 65536) }
     ensures { NumberPut marks.old pair n marks.new }

@@ -30,7 +30,7 @@ fn put_byte(out: &mut [u8], at: BitOffset, joined: u32) -> BitOffset
     out[byte] = ((joined >> bit) % 256) as u8;
     BitOffset {
         byte: byte + 1,
-        bit: bit,
+        bit,
     }
 }
 

@@ -3,7 +3,7 @@ use Rattle.std.proofs.Common.{ℕ, zero, suc, ◌+◌, ◌*◌, ◌≤◌, ◌<�
 use borrow.Author.Tests.{le-leb}
 use Rattle.endian.specs.Bytes.{u16, u16s}
 use Rattle.lexicon.specs.Lexicon.{listed, numbers_of}
-use Rattle.lexicon.proofs.Listed.{length-numbers, numbers-at, pair-number}
+use Rattle.lexicon.proofs.Listed.{length-numbers, numbers-at}
 use Rattle.checking.proofs.Arcs.{ListThere}
 
 u16s-length : (x : List ℕ) (at n : ℕ) → length (u16s x at n) ≡ n
@@ -26,9 +26,9 @@ module _ {x : List ℕ} {at : ℕ} (t : ListThere x at) (pairs : List (List ℕ)
   many = sym (length-numbers pairs) ∙ ap length numbers ∙ u16s-length x (at + 2) (u16 x at)
 
   pub number-here : (k : ℕ) → k < length pairs
-      → u16 (get_or (get_or pairs k []) 0 0 ∷ get_or (get_or pairs k []) 1 0 ∷ []) 0 ≡ u16 x (at + 2 + 2 * k)
+      → u16 (get_or pairs k []) 0 ≡ u16 x (at + 2 + 2 * k)
   number-here k h =
-      pair-number (get_or pairs k []) ∙ sym (numbers-at pairs k h) ∙ ap (λ (l : List ℕ). get_or l k 0) numbers
+      sym (numbers-at pairs k h) ∙ ap (λ (l : List ℕ). get_or l k 0) numbers
       ∙ u16s-at x (at + 2) (u16 x at) k (omega (arith, many))
 
   -- an arc is read where the list's bytes have not ended, and the next one after it

@@ -11,7 +11,7 @@ use crate::frames::all_frames;
 use crate::store::{copy_place, offer};
 use checking::Vertex;
 use decoder::token::LIFT;
-use endian::{u16_at, u16_of};
+use endian::{number_of, u16_at};
 use lexicon::list_at;
 
 // The increment of the arc to the sink, if there is one: the path counts of the successors stored before it.
@@ -21,8 +21,8 @@ fn last_increment(lexicon: &[u8], vertices: &[Vertex; 402], node: usize) -> Opti
 {
     let sink = u16_at(lexicon, 0) as usize + 1;
     let mut increment = 0;
-    for &[lo, hi] in list_at(lexicon, vertices[node].arcs_at as usize) {
-        let next = u16_of(lo, hi) as usize;
+    for &pair in list_at(lexicon, vertices[node].arcs_at as usize) {
+        let next = number_of(pair) as usize;
         if next == sink {
             return Some(increment);
         }

@@ -106,10 +106,10 @@ pub(crate) fn all_frames(
     let links = link_table(voice);
     let nodes = u16_at(lexicon, 0) as usize;
     let numbers = Numbers {
-        n: n,
-        nodes: nodes,
+        n,
+        nodes,
         symbols: symbols_at(voice),
-        used: used,
+        used,
     };
     let mut gains = [Moves::BLANK; 64];
     for t in 0..frames.len() {

@@ -18,7 +18,7 @@ use call::zero;
 use checking::Vertex;
 use decoder::score::{BIAS, Score};
 use decoder::token::{LIFT, Token, UNIT};
-use endian::u16_of;
+use endian::{number_of, u16_of};
 use lexicon::list_at;
 use storing::Moves;
 
@@ -117,8 +117,8 @@ pub(crate) fn enter_nodes(lexicon: &[u8], n: usize, vertices: &[Vertex; 402], st
         store.old) → PassedOn t store.new }
 {
     let mut increment = 0;
-    for &[lo, hi] in list_at(lexicon, vertices[0].arcs_at as usize) {
-        let t = u16_of(lo, hi) as usize;
+    for &pair in list_at(lexicon, vertices[0].arcs_at as usize) {
+        let t = number_of(pair) as usize;
         enter_node(n, vertices, t, increment, store);
         increment += vertices[t].paths;
     }

@@ -14,7 +14,7 @@ use Rattle.search.proofs.Closing.{count-entry, ahead-start, ahead-arc, ahead-her
 use Rattle.search.proofs.Closing.{ahead_next, ahead_done}
 use Rattle.search.proofs.Listed.{number-here, before-end, at-end, first-arc, next_arc}
 use Rattle.search.proofs.ends.last_increment.Goals as goal
-use Rattle.search.proofs.ends.last_increment.Goals.{After-u16_of-next}
+use Rattle.search.proofs.ends.last_increment.Goals.{After-number_of-next}
 
 low : {x : List ℕ} {node : ℕ} → WellFormed x → node ≤ node_count x → node < 402
 unfolding sink_of
@@ -31,57 +31,57 @@ unfolding sink_of node_count
 to-sink x e = rw e (omega arith)
 
 -- the arc whose turn it is
-module _ (c : After-u16_of-next) where
+module _ (c : After-number_of-next) where
   abbrev here : ℕ
-  here = arcs_in c.args.vertices.now c.args.node + 2 + 2 * c.loop-lo.lo-index
+  here = arcs_in c.args.vertices.now c.args.node + 2 + 2 * c.loop-pair.pair-index
 
   inside : here < arcs_in c.args.vertices.now c.args.node + 2
       + 2 * u16 c.args.lexicon.now (arcs_in c.args.vertices.now c.args.node)
-  inside = let p = c.list_at-lo-items in before-end (list c.requires) p.result.now p.ensures _ c.loop-lo-test.true
+  inside = let p = c.list_at-pair-items in before-end (list c.requires) p.result.now p.ensures _ c.loop-pair-test.true
 
-  number : c.u16_of-next.result ≡ u16 c.args.lexicon.now here
+  number : c.number_of-next.result ≡ u16 c.args.lexicon.now here
   number =
-      let p = c.list_at-lo-items in
-      c.u16_of-next.ensures ∙ number-here (list c.requires) p.result.now p.ensures _ c.loop-lo-test.true
+      let p = c.list_at-pair-items in
+      c.number_of-next.ensures ∙ number-here (list c.requires) p.result.now p.ensures _ c.loop-pair-test.true
 
-  leads : c.u16_of-next.result < 402
+  leads : c.number_of-next.result < 402
   leads =
-      rw number (has-entry c.requires.0.formed (ahead-arc c.requires.0 c.requires.1 c.loop-lo.invariant inside).bounded)
+      rw number (has-entry c.requires.0.formed (ahead-arc c.requires.0 c.requires.1 c.loop-pair.invariant inside).bounded)
 
-  count : paths_in c.args.vertices.now c.u16_of-next.result
+  count : paths_in c.args.vertices.now c.number_of-next.result
       ≡ path_count (graph_of c.args.lexicon.now) (u16 c.args.lexicon.now here)
   count =
       rw number (count-entry c.requires.0 c.requires.1
-      (ahead-arc c.requires.0 c.requires.1 c.loop-lo.invariant inside).bounded)
+      (ahead-arc c.requires.0 c.requires.1 c.loop-pair.invariant inside).bounded)
 
-pub loop-lo-init : goal.loop-lo-init
-loop-lo-init c = rw first-arc (ahead-start c.requires.0 c.requires.1)
+pub loop-pair-init : goal.loop-pair-init
+loop-pair-init c = rw first-arc (ahead-start c.requires.0 c.requires.1)
 
 pub returns-then-next-sink : goal.returns-then-next-sink
 returns-then-next-sink c =
-    let d = (goal.at.returns-then-next-sink c).After-u16_of-next in
-    ahead-here c.requires.0 c.requires.1 c.loop-lo.invariant (inside d)
+    let d = (goal.at.returns-then-next-sink c).After-number_of-next in
+    ahead-here c.requires.0 c.requires.1 c.loop-pair.invariant (inside d)
     (sym (number d) ∙ c.if-next-sink.true ∙ to-sink c.args.lexicon.now c.u16_at.ensures)
 
 -- what is added up stays within the paths from the node
 pub overflow_add-increment : goal.overflow_add-increment
 overflow_add-increment c =
-    let d = (goal.at.overflow_add-increment c).After-u16_of-next in
-    counts_fit _ (count d) (ahead_below c.requires.0 c.requires.1 c.loop-lo.invariant (inside d))
+    let d = (goal.at.overflow_add-increment c).After-number_of-next in
+    counts_fit _ (count d) (ahead_below c.requires.0 c.requires.1 c.loop-pair.invariant (inside d))
     (c.requires.0.few c.requires.1)
 
-pub loop-lo-preserved : goal.loop-lo-preserved
-loop-lo-preserved c =
-    let d = (goal.at.loop-lo-preserved c).After-u16_of-next in
+pub loop-pair-preserved : goal.loop-pair-preserved
+loop-pair-preserved c =
+    let d = (goal.at.loop-pair-preserved c).After-number_of-next in
     rw (next_arc, count d)
-    (ahead_next c.requires.0 c.requires.1 c.loop-lo.invariant (inside d)
+    (ahead_next c.requires.0 c.requires.1 c.loop-pair.invariant (inside d)
     (λ e. c.if-next-sink.false (number d ∙ e ∙ sym (to-sink c.args.lexicon.now c.u16_at.ensures))))
 
 pub returns : goal.returns
 returns c =
-    let p = c.list_at-lo-items in
-    ahead_done c.requires.0 c.requires.1 c.loop-lo.invariant
-    (at-end (list c.requires) p.result.now p.ensures _ c.loop-lo-test.false)
+    let p = c.list_at-pair-items in
+    ahead_done c.requires.0 c.requires.1 c.loop-pair.invariant
+    (at-end (list c.requires) p.result.now p.ensures _ c.loop-pair-test.false)
 
 pub u16_at-requires : goal.u16_at-requires
 u16_at-requires c = tt
@@ -93,10 +93,10 @@ pub bounds-vertices-node : goal.bounds-vertices-node
 bounds-vertices-node c = low c.requires.0.formed c.requires.1
 
 pub overflow_cast-next : goal.overflow_cast-next
-overflow_cast-next c = less_fits _ (leads (goal.at.overflow_cast-next c).After-u16_of-next) refl
+overflow_cast-next c = less_fits _ (leads (goal.at.overflow_cast-next c).After-number_of-next) refl
 
 pub offset_bounds-vertices-next : goal.offset_bounds-vertices-next
-offset_bounds-vertices-next c = bytes-before _ 16 (leads (goal.at.offset_bounds-vertices-next c).After-u16_of-next) refl
+offset_bounds-vertices-next c = bytes-before _ 16 (leads (goal.at.offset_bounds-vertices-next c).After-number_of-next) refl
 
 pub bounds-vertices-next : goal.bounds-vertices-next
-bounds-vertices-next c = leads (goal.at.bounds-vertices-next c).After-u16_of-next
+bounds-vertices-next c = leads (goal.at.bounds-vertices-next c).After-number_of-next

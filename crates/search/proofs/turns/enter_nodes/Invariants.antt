@@ -7,7 +7,7 @@ use Rattle.storing.specs.Stored.{PassingOn}
 use Rattle.storing.proofs.PassingOn.{PassingLeft}
 use Rattle.search.proofs.turns.enter_nodes.Given as goal
 
-abbrev pub invariant-loop-lo : goal.invariant-loop-lo
-invariant-loop-lo l = (t : PassingOn l.lexicon l.n l.vertices bias 0 true 0 l.initial.store)
-    → PassingLeft t (arcs_in l.vertices 0 + 2 + 2 * l.lo-index)
+abbrev pub invariant-loop-pair : goal.invariant-loop-pair
+invariant-loop-pair l = (t : PassingOn l.lexicon l.n l.vertices bias 0 true 0 l.initial.store)
+    → PassingLeft t (arcs_in l.vertices 0 + 2 + 2 * l.pair-index)
     (arcs_in l.vertices 0 + 2 + 2 * u16 l.lexicon (arcs_in l.vertices 0)) (lift + l.increment) l.store
