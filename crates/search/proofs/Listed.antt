@@ -1,5 +1,5 @@
 -- A vertex's list as pairs of bytes, one for each arc: how many there are, and where each stands. Assumes nothing.
-use Rattle.std.proofs.Common.{ℕ, zero, suc, ◌+◌, ◌*◌, ◌≤◌, ◌<◌, ◌≡◌, ◌∙◌, List, ◌∷◌, [], refl, sym, ap, length, get_or, arith}
+use Rattle.std.proofs.Common.{ℕ, zero, suc, ◌+◌, ◌*◌, ◌≤◌, ◌<◌, ◌≡◌, ◌∙◌, List, [], refl, sym, ap, length, get_or, arith}
 use borrow.Author.Tests.{le-leb}
 use Rattle.endian.specs.Bytes.{u16, u16s}
 use Rattle.lexicon.specs.Lexicon.{listed, numbers_of}
