@@ -11,7 +11,7 @@ ghost use Rattle.endian.specs.Bytes.{u16, u32, i16, i32, u32_bytes, i32_bytes};
 pub fn u16_of(lo: u8, hi: u8) -> u16
     ensures { result ≡ u16 (lo ∷ hi ∷ []) 0 }
 {
-    u16::from_le_bytes([lo, hi])
+    number_of([lo, hi])
 }
 
 // The number that a pair of bytes holds. A loop over the pairs of a list reads each in one step by it.
