@@ -48,24 +48,16 @@ put_first_line-requires c =
     (omega arith, (bits ∙ ap width (sym words), omega (arith, c.requires.in_bounds)))
 
 -- line 1
-pub put_lines-requires : goal.put_lines-requires
-put_lines-requires c =
+pub put_lines-requires-clause-k_in_bounds : goal.put_lines-requires-clause-k_in_bounds
+put_lines-requires-clause-k_in_bounds c =
     let a = c.args in
     let r = c.requires.accepted_arguments in
     let holds = c.requires.holds_hits in
     let checked = c.check.ensures.result_value in
     let words = counted a.voice.now a.lexicon.now a.work.now a.frames r checked c.in-Ok.is in
     let first = rw words at c.put_first_line.ensures in
-    let short = first_short a.voice.now a.lexicon.now r.images a.k holds.few in record {
-      accepted_arguments = record {
-        images = r.images;
-        some_frames = r.some_frames;
-        few_frames = r.few_frames;
-        space = omega (arith, r.space, c.check.auto.work);
-      };
-      holds_hits = holds;
-      k_in_bounds = omega (arith, first.ends, short, holds.few, c.requires.in_bounds);
-    }
+    let short = first_short a.voice.now a.lexicon.now r.images a.k holds.few in
+    omega (arith, first.ends, short, holds.few, c.requires.in_bounds)
 
 pub returns : goal.returns
 returns c =

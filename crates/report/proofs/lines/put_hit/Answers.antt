@@ -2,15 +2,13 @@
 -- its mean and the word. Assumes nothing.
 use mathlib.Core.Path.{◌≡◌, refl, sym, ap, ◌∙◌}
 use native.Mathlib.Omega.{arith}
-use lib.ListN.{length, length-take}
+use lib.ListN.{length}
 use mir.Syntax.{w32}
 use mir.Val.{SFits}
 use mir.Facts.{to_z-of_z}
 use Rattle.call.specs.Table.{value, answer_of}
 use Rattle.call.proofs.Table.{same-value}
-use Rattle.graph.proofs.Accepted.{accepted}
 use Rattle.ranking.specs.Mean.{mean}
-use Rattle.codes.proofs.Words.{word_short}
 use Rattle.report.proofs.Hits.{mean-again}
 use Rattle.report.proofs.Answers.{no-refusal, mean-answer, word-answer, word-is, part-there, line-is, put_same}
 use Rattle.report.proofs.lines.put_hit.Goals as goal
@@ -44,15 +42,6 @@ slice_bounds-put_hit_line-end c =
     let size = same-value (e ∙ word-answer r.accepted_arguments c.args.hit.code _ r.code_bound refl) in
     let word = word-is r.accepted_arguments c.args.hit.code _ r.code_bound refl e w.ensures.out_after in
     size ∙ sym (ap length word)
-
-pub put_hit_line-requires : goal.put_hit_line-requires
-put_hit_line-requires c =
-    let r = c.requires in
-    let w = c.code_to_word in
-    let e = sym (ap answer_of c.in-Ok.is) ∙ w.ensures.result_value in
-    let size = same-value (e ∙ word-answer r.accepted_arguments c.args.hit.code _ r.code_bound refl) in
-    let h = word_short (accepted r.accepted_arguments.images) r.code_bound in
-    omega (arith, r.in_bounds, size, length-take c.in-Ok.size w.new.out)
 
 pub returns : goal.returns
 returns c =

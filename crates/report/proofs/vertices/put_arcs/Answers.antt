@@ -8,12 +8,10 @@ use Rattle.report.proofs.Answers.{put_same}
 use Rattle.report.proofs.Arcs.{arcs-listed, arcs_refused}
 use Rattle.report.proofs.vertices.put_arcs.Goals as goal
 
-pub put_vertices-requires : goal.put_vertices-requires
+pub put_vertices-requires-clause-lexicon_value : goal.put_vertices-requires-clause-lexicon_value
 unfolding lexicon_refusal
-put_vertices-requires c = record {
-  lexicon_value = sym (lexicon_told well_formed 256 c.args.lexicon.now c.in-Ok.ensures);
-  nothing_yet = c.requires;
-}
+put_vertices-requires-clause-lexicon_value c =
+    sym (lexicon_told well_formed 256 c.args.lexicon.now c.in-Ok.ensures)
 
 pub returns-in-Ok : goal.returns-in-Ok
 returns-in-Ok c = put_same (arcs-listed _ (sym c.in-Ok.ensures)) c.put_vertices.ensures

@@ -10,12 +10,6 @@ use Rattle.report.proofs.vertices.put_numbers.Goals as goal
 pub loop-pair-init : goal.loop-pair-init
 loop-pair-init c = numbers-start
 
-pub put_labelled-requires : goal.put_labelled-requires
-put_labelled-requires c =
-    let p = c.loop-pair.invariant in
-    let pairs = c.as_chunks.ensures in
-    omega (arith, c.requires, c.loop-pair-test.true, p.few_bytes, pairs.front_len)
-
 pub loop-pair-preserved : goal.loop-pair-preserved
 loop-pair-preserved c =
     let pairs = c.as_chunks.ensures in
