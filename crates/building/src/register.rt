@@ -23,7 +23,7 @@ pub(crate) const NO_ROW: Row = Row {
 // The most nodes that are registered.
 const NODES: usize = 400;
 
-// What stands behind the first d letters of the word in slot i.
+// What stands behind the first d letters of the word in slot i. (A whole word is sorting's `word`, private there.)
 fn rest<'a>(words: &'a [u8], i: usize, d: usize) -> &'a [u8]
     requires { Slot words.now i × (d ≤ get_or words.now (33 * i) 0) }
     ensures { result.now ≡ drop d (word_at words.now i) }

@@ -72,8 +72,9 @@ fn arc(
     Ok(s)
 }
 
-// The list of a vertex, after lists that have `total` arcs. Answers its count. `seen` holds for each vertex one more than the last vertex whose
-// list named it, so that nothing is cleared between lists.
+// The list of a vertex, after lists that have `total` arcs. Answers its count. `seen` holds for each vertex one more
+// than the last vertex whose list named it, and 0 where none has (an Option would take twice the stack), so that nothing
+// is cleared between lists.
 fn list(
     lexicon: &[u8],
     start: usize,

@@ -85,7 +85,8 @@ fn judge_fields(lexicon: &[u8], letters: usize) -> Result<(), Fault>
     reserve(lexicon, end)
 }
 
-// Whether any bytes are a well-formed lexicon of words in so many letters; if not, 4 or 5.
+// Whether any bytes are a well-formed lexicon of words in so many letters; if not, 4 or 5. It is no function over the two
+// refusals with `voice::judge`, since each image has its own judge of fields.
 pub fn judge(lexicon: &[u8], letters: usize) -> Result<(), Refusal>
     ensures { refusal_of result ≡ lexicon_refused letters lexicon.now }
 {

@@ -183,7 +183,8 @@ fn judge_unpack(words: u32, n: u32, packed: &[u8], out: &[u8]) -> Result<u32, Re
     Ok(n)
 }
 
-// Puts a number as u32, little-endian.
+// Puts a number as u32, little-endian. Other crates do the like in a line: a shared function would be public, and test
+// for room.
 fn put_u32(out: &mut [u8], at: usize, v: u32)
     requires { at + 4 ≤ length out.old }
     ensures { out.new ≡ overlay at (u32_bytes v) out.old }
