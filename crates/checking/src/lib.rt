@@ -42,8 +42,8 @@ pub struct Vertex {
     pub arcs_at: u32,
     // its path count
     pub paths: u32,
-    // its first slot in the token store, which is the search's to fill; a lookup puts here what the vertex prints, since
-    // a field more would make an arc's read a cache line longer
+    // its first slot in the token store, which is the search's to fill; a lookup puts here what the vertex prints,
+    // since a field more would make an arc's read a cache line longer
     pub first_slot: u32,
     // the emission that enters it at a frame, which is the search's to fill
     pub emission: u32,

@@ -1,8 +1,8 @@
 // Refusal 10: two different full paths with the same letters. The paths part at some vertex, into two successors that
 // have something in common: ways to the sink with the same letters. Which vertices have something in common is kept in
-// a table of bits, filled from vertex N down. Two nodes can have something in common only if their letters are the same,
-// so the nodes of a letter are chained: `firsts` has each letter's first node, `nexts` the next after each node, and the
-// sink stands for none: Options would take twice the stack, of which a call has 16 KiB.
+// a table of bits, filled from vertex N down. Two nodes can have something in common only if their letters are the
+// same, so the nodes of a letter are chained: `firsts` has each letter's first node, `nexts` the next after each node,
+// and the sink stands for none: Options would take twice the stack, of which a call has 16 KiB.
 ghost use Rattle.std.specs.Prelude.{◌≡◌, suc, ◌+◌, ◌*◌, ◌≤◌, ◌<◌, length, true, MatchOption};
 ghost use Rattle.endian.specs.Lists.{any};
 ghost use Rattle.call.specs.Buffers.{zeroed};

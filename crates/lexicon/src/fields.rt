@@ -1,4 +1,5 @@
-// The fields of a lexicon image, section by section, in one pass over its bytes (rows 4 and 5 of document 01's refusal table).
+// The fields of a lexicon image, section by section, in one pass over its bytes (rows 4 and 5 of document 01's refusal
+// table).
 ghost use Rattle.std.specs.Prelude.{◌≡◌, ◌+◌, ◌≤◌, length};
 ghost use Rattle.voice.specs.Fields.{verdict, verdict_of};
 ghost use Rattle.lexicon.specs.Lexicon.{node_count};
@@ -73,8 +74,8 @@ fn arc(
 }
 
 // The list of a vertex, after lists that have `total` arcs. Answers its count. `seen` holds for each vertex one more
-// than the last vertex whose list named it, and 0 where none has (an Option would take twice the stack), so that nothing
-// is cleared between lists.
+// than the last vertex whose list named it, and 0 where none has (an Option would take twice the stack), so that
+// nothing is cleared between lists.
 fn list(
     lexicon: &[u8],
     start: usize,

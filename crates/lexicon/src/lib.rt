@@ -37,8 +37,9 @@ fn arcs_at(lexicon: &[u8], vertex: usize) -> usize
     at
 }
 
-// The part of the image that holds the successors of a vertex, for any bytes and any vertex: empty where the vertex is above the N read there or
-// the bytes end before its list does. Only its bytes are promised, not where in the image they lie.
+// The part of the image that holds the successors of a vertex, for any bytes and any vertex: empty where the vertex is
+// above the N read there or the bytes end before its list does. Only its bytes are promised, not where in the image
+// they lie.
 pub fn successors(lexicon: &[u8], vertex: usize) -> &[u8]
     ensures { result.now ≡ successor_part lexicon.now vertex }
 {
@@ -85,8 +86,8 @@ fn judge_fields(lexicon: &[u8], letters: usize) -> Result<(), Fault>
     reserve(lexicon, end)
 }
 
-// Whether any bytes are a well-formed lexicon of words in so many letters; if not, 4 or 5. It is no function over the two
-// refusals with `voice::judge`, since each image has its own judge of fields.
+// Whether any bytes are a well-formed lexicon of words in so many letters; if not, 4 or 5. It is no function over the
+// two refusals with `voice::judge`, since each image has its own judge of fields.
 pub fn judge(lexicon: &[u8], letters: usize) -> Result<(), Refusal>
     ensures { refusal_of result ≡ lexicon_refused letters lexicon.now }
 {

@@ -9,8 +9,8 @@ use endian::u16_at;
 // The pairs of a letter position, one for each vertex.
 pub(crate) const ROW: usize = 402;
 
-// The bytes of the row: a number for each vertex at 33 letter positions, and number 0, which is no pair's, so that a row
-// of zeros has no mark.
+// The bytes of the row: a number for each vertex at 33 letter positions, and number 0, which is no pair's, so that a
+// row of zeros has no mark.
 pub(crate) const MARKS: usize = 26534;
 
 // No pair: it ends the chain. It is stored in the row as the pairs are, in two bytes, so it is a number and no Option.

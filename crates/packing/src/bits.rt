@@ -1,5 +1,5 @@
-// Bits in bytes, the highest first: a code of b bits that begins anywhere in a byte. A code is put and read in chunks, each of which lies in
-// one byte, so that a step handles up to eight bits.
+// Bits in bytes, the highest first: a code of b bits that begins anywhere in a byte. A code is put and read in chunks,
+// each of which lies in one byte, so that a step handles up to eight bits.
 ghost use Rattle.std.specs.Prelude.{◌≡◌, ◌+◌, ◌-◌, ◌*◌, ◌^◌, ◌≤◌, ◌<◌, min, take, drop};
 ghost use Rattle.packing.specs.Packing.{bits, number_of, to_bits};
 ghost use Rattle.packing.specs.Offsets.{overlay, InBytes};
@@ -27,7 +27,8 @@ pub(crate) fn power(k: u32) -> u32
     1 << k
 }
 
-// The byte with the bits of a chunk in place of those after its first `used` bits; the others stay, since they may be another code's.
+// The byte with the bits of a chunk in place of those after its first `used` bits; the others stay, since they may be
+// another code's.
 fn with_chunk(byte: u8, used: u32, size: u32, chunk: u32) -> u8
     requires { (used + size ≤ 8) × (chunk < 2 ^ size) }
     ensures { bits 8 result ≡ overlay used (bits size chunk) (bits 8 byte) }

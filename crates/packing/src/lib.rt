@@ -1,4 +1,5 @@
-// Packed codes: their width, packing and unpacking (document 01, Lexicon; rows 9, 12 and 14 to 16 of its refusal table).
+// Packed codes: their width, packing and unpacking (document 01, Lexicon; rows 9, 12 and 14 to 16 of its refusal
+// table).
 #![tactic(auto)]
 
 ghost use Rattle.std.specs.Prelude.{◌≡◌, ◌+◌, ◌*◌, ◌≤◌, ◌<◌, length, take, drop};
@@ -27,7 +28,8 @@ const WORDS: usize = 1048576;
 // The most codes that are packed together (row 12).
 const CODES: usize = 8;
 
-// The bits of a code below a number of words: none where there is one word, else the length of the greatest code in binary.
+// The bits of a code below a number of words: none where there is one word, else the length of the greatest code in
+// binary.
 fn width_of(words: u32) -> u32
     requires { 1 ≤ words }
     ensures { result ≡ width words }

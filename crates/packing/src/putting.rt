@@ -6,8 +6,8 @@ ghost use Rattle.packing.specs.Walks.{Packable, BitsFit, BytePut, CodeFits, Code
 
 use crate::bits::BitOffset;
 
-// A place says here that so many bytes are put, and that so many bits behind them are in no byte yet: fewer than 8 where
-// a code begins.
+// A place says here that so many bytes are put, and that so many bits behind them are in no byte yet: fewer than 8
+// where a code begins.
 
 // The bits that are held, with the b bits of a code behind them.
 fn join(held: u32, b: u32, code: u32) -> u32

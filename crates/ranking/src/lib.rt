@@ -10,7 +10,8 @@ use call::Refusal;
 // The most frames that are decoded.
 pub const FRAMES: u32 = 1000;
 
-// A number with the sign of x, for which std has no method. The minus sign is put on in 64 bits, since 2^31 is no i32 and -2^31 is one.
+// A number with the sign of x, for which std has no method. The minus sign is put on in 64 bits, since 2^31 is no i32
+// and -2^31 is one.
 fn with_sign(x: i32, number: u32) -> i32
     requires { number ≤ nat_abs x }
     ensures { result ≡ with_sign x number }

@@ -16,8 +16,8 @@ use decoder::score::{STORED_IMPOSSIBLE, Score};
 use endian::{i16_of, u16_at};
 use storing::{Letter, Moves};
 
-// The score of a state's loop (0) or of the step out of it (1), from its letter's pairs: a place in a pair, as the pairs
-// are arrays, and no kind.
+// The score of a state's loop (0) or of the step out of it (1), from its letter's pairs: a place in a pair, as the
+// pairs are arrays, and no kind.
 fn move_score(pairs: [[i16; 2]; 4], state: usize, which: usize) -> Score
     requires state_bound { (state < 4) × (which < 2) }
     requires stored_pairs { StoredPairs pairs }

@@ -81,8 +81,8 @@ fn judge_letters(voice: &[u8]) -> Result<(), Fault>
     judge_field(voice.len(), at + 2, u16_at(voice, at) as usize == sum)
 }
 
-// The states of a letter are judged as one field: of their scores only the last, a step, has a range. Good letters have a state each, so that
-// there is a last one.
+// The states of a letter are judged as one field: of their scores only the last, a step, has a range. Good letters have
+// a state each, so that there is a last one.
 fn judge_states(voice: &[u8]) -> Result<(), Fault>
     requires { first_bad (length voice.now) (letters_part voice.now) ≡ well_formed }
     ensures { verdict_of result ≡ first_bad (length voice.now) (states_part voice.now) }

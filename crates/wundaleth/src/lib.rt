@@ -1,4 +1,5 @@
-// The C interface (include/wundaleth.h): a slice is a pointer and a length, and a call answers its value, or a refusal's number made negative.
+// The C interface (include/wundaleth.h): a slice is a pointer and a length, and a call answers its value, or a
+// refusal's number made negative.
 #![tactic(auto)]
 
 ghost use Rattle.std.specs.Prelude.{ℕ, ◌≡◌, pos};
