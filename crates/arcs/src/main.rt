@@ -8,16 +8,9 @@ use reading::read_full;
 use report::arcs_page;
 use std::io;
 
-// Room for an image.
-fn image_space() -> [u8; 65535] {
-    [0; 65535]
-}
-
 fn main(rt: HostRuntime) -> io::Result<()> {
-    let mut image = image_space();
+    let mut image = [0; 65535];
     let got = read_full(&mut rt.stdin(), &mut image)?;
     let page = arcs_page(&image[..got]);
-    let text = page.text;
-    let length = page.length;
-    rt.write_all(&text[..length])
+    rt.write_all(&page.text[..page.length])
 }

@@ -11,11 +11,11 @@ ghost use Rattle.registering.specs.Register.{Shared};
 ghost use Rattle.registering.specs.Building.{Given, Buildable, ImageAnswered};
 
 use crate::marking::mark_words;
-use crate::register::NODES;
+use crate::register::NO_ROW;
 use crate::sharing::share;
 use crate::walk::walk_all;
 use crate::writing::build_image;
-use call::{Answer, Refusal, zero};
+use call::{Refusal, zero};
 use sorting::word_table;
 
 mod lists;
@@ -34,18 +34,23 @@ const TABLE: usize = 132033;
 const SHARED: usize = 2000;
 
 // Writes the canonical image of the words in a table that is marked, or answers 18 or 16.
-fn build(voice: &[u8], words: &[u8], n: usize, shared: &[u8], out: &mut [u8]) -> Answer
+fn build(
+    voice: &[u8],
+    words: &[u8],
+    n: usize,
+    shared: &[u8],
+    out: &mut [u8],
+) -> Result<u32, Refusal>
     requires { Buildable voice.now words.now n × (1 ≤ n) × Shared words.now n shared.now }
     ensures { ImageAnswered voice.now (words_from words.now 0 n) (answer_of result)
         out.old out.new }
 {
-    let mut rows = [[0u16; 6]; 401];
+    let mut rows = [NO_ROW; 401];
     let mut chains = [0u16; 256];
     let mut links = [0u16; 2400];
-    let count = walk_all(words, n, shared, &mut rows, &mut chains, &mut links);
-    if NODES < count {
-        return Answer::Refused(Refusal::CanonicalImage);
-    }
+    let count = walk_all(words, n, shared, &mut rows, &mut chains, &mut links).ok_or(
+        Refusal::CanonicalImage,
+    )?;
     build_image(voice, words, n, shared, &mut rows, &links, count, out)
 }
 
@@ -56,7 +61,7 @@ fn build_and_zero(
     n: usize,
     shared: &mut [u8],
     out: &mut [u8],
-) -> Answer
+) -> Result<u32, Refusal>
     requires given { Given voice.now words.old n }
     requires in_bounds { (132033 ≤ length words.old) × (2000 ≤ length shared.old) }
     ensures image_answered { ImageAnswered voice.now (words_from words.old 0 n) (answer_of result)
@@ -82,7 +87,7 @@ fn build_in(
     work: &mut [u8],
     row: usize,
     out: &mut [u8],
-) -> Answer
+) -> Result<u32, Refusal>
     requires given { Given voice.now (take table further.old) n }
     requires le_table { (132033 ≤ table) × (table ≤ length further.old) × (2000 ≤ row) × (row ≤ length work.old) }
     ensures image_answered { ImageAnswered voice.now (words_from (take table further.old) 0 n) (answer_of result)
@@ -100,7 +105,7 @@ pub fn canonical(
     work: &mut [u8],
     further: &mut [u8],
     out: &mut [u8],
-) -> Answer
+) -> Result<u32, Refusal>
     ensures result_value { answer_of result ≡ canonical_answer voice.now lexicon.now work.old
         further.old out.old }
     ensures work_after { work.new ≡ canonical_work work.old further.old }
@@ -108,9 +113,6 @@ pub fn canonical(
     ensures out_after { out.new ≡ canonical_out voice.now lexicon.now work.old
         further.old out.old }
 {
-    let listed = word_table(voice, lexicon, work, further);
-    let Answer::Value(n) = listed else {
-        return listed;
-    };
+    let n = word_table(voice, lexicon, work, further)?;
     build_in(voice, further, TABLE, n as usize, work, SHARED, out)
 }

@@ -8,52 +8,48 @@ ghost use Rattle.registering.specs.Numbering.{numbers_in};
 ghost use Rattle.registering.specs.Arcs.{partings_of, link_number, list_of, list_length, Spanned, Readable};
 ghost use Rattle.registering.specs.Image.{Put, ArcsPut};
 
-use crate::numbering::NUMBER;
-use crate::register::{DEPTH, FIRST, MANY};
 use crate::walk::WORD_LINKS;
+use registering::Row;
 
-// Writes a number at an offset.
+// Writes a number at an offset. Sorting and lookup have the like: a shared function would be public, and test for room.
 pub(crate) fn put_number(out: &mut [u8], at: usize, n: u16)
     requires { at + 2 ≤ length out.old }
     ensures { Put (u16_bytes n) at out.old out.new (at + 2) }
 {
-    out[at] = (n % 256) as u8;
-    out[at + 1] = (n / 256 % 256) as u8;
+    out[at..at + 2].copy_from_slice(&n.to_le_bytes());
 }
 
 // How many arcs a vertex has.
-pub(crate) fn list_length(shared: &[u8], row: &[u16; 6]) -> usize
+pub(crate) fn list_length(shared: &[u8], row: &Row) -> usize
     requires { Spanned shared.now row.now }
     ensures { result ≡ list_length shared.now row.now }
 {
-    let first = row[FIRST] as usize;
-    let stop = first + row[MANY] as usize;
-    let depth = row[DEPTH];
+    let first = row.first as usize;
+    let stop = first + row.many as usize;
+    let depth = row.depth;
     let mut arcs = 1;
-    let mut i = first + 1;
-    while i < stop {
+    for i in first + 1..stop {
         if shared[i] as u16 == depth {
             arcs += 1;
         }
-        i += 1;
     }
     arcs
 }
 
 // The number of the node that a word leads to which parts from the word before it.
-fn link_number(links: &[u16; 2400], rows: &[[u16; 6]; 401], i: usize) -> u16
+fn link_number(links: &[u16; 2400], rows: &[Row; 401], i: usize) -> u16
     requires { (i < 2000) × (get_or links.now (400 + i) 0 < 400) }
     ensures { result ≡ link_number links.now (numbers_in rows.now) i }
 {
-    rows[links[WORD_LINKS + i] as usize][NUMBER]
+    rows[links[WORD_LINKS + i] as usize].chain_or_number
 }
 
 // Writes the numbers that the arcs of a vertex lead to behind the first, from an offset on, and answers how many.
 fn put_arcs(
     shared: &[u8],
     links: &[u16; 2400],
-    rows: &[[u16; 6]; 401],
-    row: &[u16; 6],
+    rows: &[Row; 401],
+    row: &Row,
     out: &mut [u8],
     at: usize,
 ) -> usize
@@ -62,17 +58,15 @@ fn put_arcs(
     ensures { ArcsPut shared.now links.now (numbers_in rows.now)
         row.now at out.old out.new result }
 {
-    let first = row[FIRST] as usize;
-    let stop = first + row[MANY] as usize;
-    let depth = row[DEPTH];
+    let first = row.first as usize;
+    let stop = first + row.many as usize;
+    let depth = row.depth;
     let mut arcs = 0;
-    let mut i = first + 1;
-    while i < stop {
+    for i in first + 1..stop {
         if shared[i] as u16 == depth {
             put_number(out, at + 2 * arcs, link_number(links, rows, i));
             arcs += 1;
         }
-        i += 1;
     }
     arcs
 }
@@ -81,8 +75,8 @@ fn put_arcs(
 pub(crate) fn put_list(
     shared: &[u8],
     links: &[u16; 2400],
-    rows: &[[u16; 6]; 401],
-    row: &[u16; 6],
+    rows: &[Row; 401],
+    row: &Row,
     first: u16,
     out: &mut [u8],
     at: usize,

@@ -11,12 +11,10 @@ fn mark_word(words: &mut [u8], i: usize)
 {
     let from = 33 * i;
     let to = 33 * (2001 + i);
-    let mut d = words[from] as usize;
     let mut mark = 1;
-    while 0 < d {
-        words[to + d] = mark as u8;
-        mark = (37 * mark + words[from + d] as u32) % 256;
-        d -= 1;
+    for d in (0..words[from] as usize).rev() {
+        words[to + 1 + d] = mark as u8;
+        mark = (37 * mark + words[from + 1 + d] as u32) % 256;
     }
     words[to] = mark as u8;
 }
@@ -26,9 +24,7 @@ pub(crate) fn mark_words(words: &mut [u8], n: usize)
     requires { Listed words.old n × (132033 ≤ length words.old) }
     ensures { WordsMarked words.old n words.new }
 {
-    let mut i = 0;
-    while i < n {
+    for i in 0..n {
         mark_word(words, i);
-        i += 1;
     }
 }

@@ -3,32 +3,22 @@
 ghost use Rattle.std.specs.Prelude.{◌≡◌, ◌≤◌, [], ◌++◌};
 ghost use Rattle.registering.specs.Numbering.{heights_in, places_of, places_below, Rows, Low, PlacedIn};
 
-use crate::register::LONGEST;
-
-// The columns that have, once the nodes are numbered, the number of the node at a place, and the places by number.
-pub(crate) const NUMBER: usize = 4;
-
-pub(crate) const ORDER: usize = 5;
+use registering::Row;
 
 // One more than the most letters of a continuation.
-fn top_of(rows: &[[u16; 6]; 401], count: usize) -> usize
+fn top_of(rows: &[Row; 401], count: usize) -> usize
     requires { Rows rows.now count }
     ensures { Low (heights_in rows.now) count result × (result ≤ 33) }
 {
     let mut top = 0;
-    let mut r = 0;
-    while r < count {
-        let longest = rows[r][LONGEST] as usize;
-        if top <= longest {
-            top = longest + 1;
-        }
-        r += 1;
+    for row in &rows[..count] {
+        top = top.max(row.longest as usize + 1);
     }
     top
 }
 
 // Numbers the nodes with a longest continuation of h letters from k on, and answers the number for the next.
-fn number_level(rows: &mut [[u16; 6]; 401], count: usize, h: usize, k: usize) -> usize
+fn number_level(rows: &mut [Row; 401], count: usize, h: usize, k: usize) -> usize
     requires rows { Rows rows.old count }
     requires placed_in { PlacedIn rows.old rows.old count
         (places_of (heights_in rows.old) h 0 count ++ places_below (heights_in rows.old) count h) k }
@@ -36,27 +26,23 @@ fn number_level(rows: &mut [[u16; 6]; 401], count: usize, h: usize, k: usize) ->
         (places_below (heights_in rows.old) count h) result }
 {
     let mut next = k;
-    let mut r = 0;
-    while r < count {
-        if rows[r][LONGEST] as usize == h {
-            rows[next][ORDER] = r as u16;
+    for r in 0..count {
+        if rows[r].longest as usize == h {
+            rows[next].mark_or_place = r as u16;
             next += 1;
-            rows[r][NUMBER] = next as u16;
+            rows[r].chain_or_number = next as u16;
         }
-        r += 1;
     }
     next
 }
 
 // Puts the places of all nodes in order, and gives each its number, from 1.
-pub(crate) fn number_all(rows: &mut [[u16; 6]; 401], count: usize)
+pub(crate) fn number_all(rows: &mut [Row; 401], count: usize)
     requires { Rows rows.old count }
     ensures { PlacedIn rows.old rows.new count [] count }
 {
-    let mut h = top_of(rows, count);
     let mut k = 0;
-    while 0 < h {
-        h -= 1;
+    for h in (0..top_of(rows, count)).rev() {
         k = number_level(rows, count, h, k);
     }
 }

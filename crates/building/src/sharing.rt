@@ -15,26 +15,6 @@ pub(crate) struct Group {
     pub mark: usize,
 }
 
-// The lesser of two numbers.
-fn lesser(a: u8, b: u8) -> u8
-    ensures { result ≡ min a b }
-{
-    if a <= b {
-        return a;
-    }
-    b
-}
-
-// The greater of two numbers.
-fn greater(a: u8, b: u8) -> u8
-    ensures { result ≡ max a b }
-{
-    if a <= b {
-        return b;
-    }
-    a
-}
-
 // How many letters the word in slot i and the one before it both begin with.
 fn common_letters(words: &[u8], i: usize) -> u8
     requires { Holds words.now (i + 1) }
@@ -45,16 +25,14 @@ fn common_letters(words: &[u8], i: usize) -> u8
     }
     let before = 33 * (i - 1);
     let here = 33 * i;
-    let most = lesser(words[before], words[here]);
-    let mut d = 0;
-    while d < most {
+    let most = words[before].min(words[here]);
+    for d in 0..most {
         let next = d as usize + 1;
         if words[before + next] != words[here + next] {
             return d;
         }
-        d += 1;
     }
-    d
+    most
 }
 
 // Fills the table of shared letters: of the first word 0.
@@ -62,10 +40,8 @@ pub(crate) fn share(words: &[u8], n: usize, shared: &mut [u8])
     requires { Words words.now n × (n ≤ length shared.old) }
     ensures { Shared words.now n shared.new }
 {
-    let mut i = 0;
-    while i < n {
+    for i in 0..n {
         shared[i] = common_letters(words, i);
-        i += 1;
     }
 }
 
@@ -78,18 +54,18 @@ pub(crate) fn group_of(words: &[u8], shared: &[u8], n: usize, i: usize, d: usize
 {
     let mut letters = words[33 * i];
     let mut mark = words[33 * (2001 + i) + d] as usize;
-    let mut k = i + 1;
-    while k < n {
+    let mut many = 1;
+    for k in i + 1..n {
         if (shared[k] as usize) < d {
             break;
         }
-        letters = greater(letters, words[33 * k]);
+        letters = letters.max(words[33 * k]);
         mark = (91 * mark + words[33 * (2001 + k) + d] as usize) % 65536;
-        k += 1;
+        many += 1;
     }
     Group {
         first: i,
-        many: k - i,
+        many,
         depth: d,
         longest: letters as usize - d,
         mark,

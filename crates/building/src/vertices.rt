@@ -4,8 +4,7 @@ ghost use Rattle.registering.specs.Numbering.{numbers_in};
 ghost use Rattle.registering.specs.Arcs.{place_in, vertex_in, first_arc, NodeRow};
 ghost use Rattle.registering.specs.Image.{letter_in, LetterRow};
 
-use crate::numbering::{NUMBER, ORDER};
-use crate::register::{DEPTH, FIRST};
+use registering::Row;
 
 // The bytes of a word's slot: its length, and 32 letters.
 const SLOT: usize = 33;
@@ -14,42 +13,36 @@ const SLOT: usize = 33;
 pub(crate) const ROOT: usize = 400;
 
 // The place of a vertex in the register.
-pub(crate) fn place_of(rows: &[[u16; 6]; 401], vertex: usize) -> usize
+pub(crate) fn place_of(rows: &[Row; 401], vertex: usize) -> usize
     requires { (vertex ≤ 400) × (place_in rows.now vertex ≤ 400) }
     ensures { result ≡ place_in rows.now vertex }
 {
     if vertex == 0 {
         return ROOT;
     }
-    rows[vertex - 1][ORDER] as usize
+    rows[vertex - 1].mark_or_place as usize
 }
 
 // Where the first arc of a vertex leads: to the sink where its first word ends, else along that word to the node at a
 // place.
-pub(crate) fn first_arc(
-    words: &[u8],
-    rows: &[[u16; 6]; 401],
-    count: usize,
-    row: &[u16; 6],
-    place: u16,
-) -> u16
+pub(crate) fn first_arc(words: &[u8], rows: &[Row; 401], count: usize, row: &Row, place: u16) -> u16
     requires { (count ≤ 400) × NodeRow words.now row.now place }
     ensures { result ≡ first_arc words.now (numbers_in rows.now) count row.now
         place }
 {
-    if words[SLOT * (row[FIRST] as usize)] as u16 == row[DEPTH] {
+    if words[SLOT * (row.first as usize)] as u16 == row.depth {
         return count as u16 + 1;
     }
-    rows[place as usize][NUMBER]
+    rows[place as usize].chain_or_number
 }
 
 // The letter of a node, by its vertex: the last of those before it in its first word.
-pub(crate) fn letter_of(words: &[u8], rows: &[[u16; 6]; 401], vertex: usize) -> u8
+pub(crate) fn letter_of(words: &[u8], rows: &[Row; 401], vertex: usize) -> u8
     requires vertex_bound { (vertex ≤ 400) × (place_in rows.now vertex ≤ 400) }
     requires letter_row { LetterRow words.now (vertex_in rows.now vertex) }
     ensures { result ≡ letter_in words.now (vertex_in rows.now vertex) }
 {
     let place = place_of(rows, vertex);
     let row = &rows[place];
-    words[SLOT * (row[FIRST] as usize) + row[DEPTH] as usize]
+    words[SLOT * (row.first as usize) + row.depth as usize]
 }

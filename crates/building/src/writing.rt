@@ -10,54 +10,50 @@ ghost use Rattle.registering.specs.Image.{Lettered, Measured, Listed, Voiced, Dr
 
 use crate::lists::{list_length, put_list, put_number};
 use crate::numbering::number_all;
+use crate::register::NO_ROW;
 use crate::vertices::{ROOT, first_arc, letter_of, place_of};
-use call::{Answer, Refusal};
+use call::Refusal;
+use registering::Row;
 
 // The most places of a lexicon.
 const PLACES: usize = 1000;
 
 // The bytes of the image: the number of nodes, their letters, the lists of the vertices, and the reserve.
-fn image_size(shared: &[u8], rows: &[[u16; 6]; 401], count: usize) -> usize
+fn image_size(shared: &[u8], rows: &[Row; 401], count: usize) -> usize
     requires { Measured shared.now rows.now count }
     ensures { result ≡ 4 + count + lists_length shared.now rows.now 0 (suc count) }
 {
     let mut size = 4 + count;
-    let mut vertex = 0;
-    while vertex <= count {
+    for vertex in 0..count + 1 {
         let place = place_of(rows, vertex);
         size += 2 + 2 * list_length(shared, &rows[place]);
-        vertex += 1;
     }
     size
 }
 
 // The places of the nodes, one for each state of each.
-fn place_total(voice: &[u8], words: &[u8], rows: &[[u16; 6]; 401], count: usize) -> usize
+fn place_total(voice: &[u8], words: &[u8], rows: &[Row; 401], count: usize) -> usize
     requires lettered { Lettered words.now rows.now count }
     requires voiced { Voiced voice.now words.now rows.now count }
     ensures { result ≡ sum (map (states voice.now)
         (letters_from words.now rows.now 1 count)) }
 {
     let mut places: usize = 0;
-    let mut node = 0;
-    while node < count {
+    for node in 0..count {
         let letter = letter_of(words, rows, node + 1) as usize;
         places += voice[2 + 2 * letter] as usize;
-        node += 1;
     }
     places
 }
 
 // Writes the letters of the nodes, behind their number.
-fn put_letters(words: &[u8], rows: &[[u16; 6]; 401], count: usize, out: &mut [u8])
+fn put_letters(words: &[u8], rows: &[Row; 401], count: usize, out: &mut [u8])
     requires { Lettered words.now rows.now count × (2 + count ≤ length out.old) }
     ensures { Put (letters_from words.now rows.now 1 count) 2
         out.old out.new (2 + count) }
 {
-    let mut node = 0;
-    while node < count {
+    for node in 0..count {
         out[2 + node] = letter_of(words, rows, node + 1);
-        node += 1;
     }
 }
 
@@ -66,7 +62,7 @@ fn put_lists(
     words: &[u8],
     shared: &[u8],
     links: &[u16; 2400],
-    rows: &[[u16; 6]; 401],
+    rows: &[Row; 401],
     count: usize,
     out: &mut [u8],
 ) -> usize
@@ -78,13 +74,11 @@ fn put_lists(
         rows.now count 0 (suc count)) (2 + count) out.old out.new result }
 {
     let mut at = 2 + count;
-    let mut vertex = 0;
-    while vertex <= count {
+    for vertex in 0..count + 1 {
         let place = place_of(rows, vertex);
         let row = &rows[place];
         let first = first_arc(words, rows, count, row, links[place]);
         at = put_list(shared, links, rows, row, first, out, at);
-        vertex += 1;
     }
     at
 }
@@ -94,7 +88,7 @@ fn put_image(
     words: &[u8],
     shared: &[u8],
     links: &[u16; 2400],
-    rows: &[[u16; 6]; 401],
+    rows: &[Row; 401],
     count: usize,
     out: &mut [u8],
 )
@@ -118,25 +112,28 @@ pub(crate) fn build_image(
     words: &[u8],
     n: usize,
     shared: &[u8],
-    rows: &mut [[u16; 6]; 401],
+    rows: &mut [Row; 401],
     links: &[u16; 2400],
     count: usize,
     out: &mut [u8],
-) -> Answer
+) -> Result<u32, Refusal>
     requires { Drawn voice.now words.now n shared.now rows.old links.now count }
     ensures { ImageAnswered voice.now (words_from words.now 0 n) (answer_of result)
         out.old out.new }
 {
     // the root has all words behind it, and none of their letters before it
-    rows[ROOT] = [0, n as u16, 0, 0, 0, 0];
+    rows[ROOT] = Row {
+        many: n as u16,
+        ..NO_ROW
+    };
     number_all(rows, count);
     if PLACES < place_total(voice, words, rows, count) {
-        return Answer::Refused(Refusal::CanonicalImage);
+        return Err(Refusal::CanonicalImage);
     }
     let size = image_size(shared, rows, count);
     if out.len() < size {
-        return Answer::Refused(Refusal::Output);
+        return Err(Refusal::Output);
     }
     put_image(words, shared, links, rows, count, out);
-    Answer::Value(size as u32)
+    Ok(size as u32)
 }

@@ -1,6 +1,6 @@
 -- The refusal tables of documents 01 and 02: each refusal's number, and how a call goes through its rows. Assumes
 -- nothing.
-use Rattle.std.specs.Prelude.{ℕ, ◌≡◌, Bool, true, false, cond, not, List, [], ◌∷◌, ◌++◌, map, ℤ, pos, neg_ℤ, eqb}
+use Rattle.std.specs.Prelude.{ℕ, ◌≡◌, Result, Ok, Err, Bool, true, false, cond, not, List, [], ◌∷◌, ◌++◌, map, ℤ, pos, neg_ℤ, eqb}
 use Rattle.std.proofs.Math.Option.{Option, none, some}
 use Rattle.endian.specs.Lists.{all}
 use Rattle.call.specs.declared.Refusal.{Refusal}
@@ -10,8 +10,6 @@ use Rattle.call.specs.declared.Refusal.TheVariants.{Orphan, Places, LongWord, Wo
 use Rattle.call.specs.declared.Refusal.TheVariants.{Frames, Count}
 use Rattle.call.specs.declared.Refusal.TheVariants.{NoWord, Packed, Code, Output, WordList, CanonicalImage}
 use Rattle.call.specs.declared.Refusal.TheVariants.{Items}
-use Rattle.call.specs.declared.Answer as declared
-use Rattle.call.specs.declared.Answer.TheVariants.{Value, Refused}
 
 -- the number of the tables of documents 01 and 02
 abbrev pub number : Refusal → ℕ
@@ -40,10 +38,15 @@ pub data Answer (A : Type 0) : Type 0 where
   value : A → Answer A
   refused : Refusal → Answer A
 
--- the answer that each case of the code's enum is
-abbrev pub answer_of : declared.Answer → Answer ℕ
-answer_of (Value n) = value n
-answer_of (Refused r) = refused r
+-- the answer that a call's result is
+abbrev pub answer_of : {A : Type 0} → Result A Refusal → Answer A
+answer_of (Ok a) = value a
+answer_of (Err r) = refused r
+
+-- the refusal of a result, where it has one
+abbrev pub refusal_of : {A : Type 0} → Result A Refusal → Option Refusal
+refusal_of (Ok a) = none
+refusal_of (Err r) = some r
 
 -- what C gets: a refusal is its number made negative
 abbrev pub signed_answer : Answer ℕ → ℤ

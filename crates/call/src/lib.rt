@@ -16,78 +16,51 @@ pub const FURTHER_SPACE: usize = 262144;
 #[derive(Clone, Copy)]
 pub enum Refusal {
     // 1: work space under 64,000 bytes, or a further one under 262,144
-    WorkSpace,
+    WorkSpace = 1,
     // 2: voice model ends inside a field, or has bytes after its last
-    VoiceLength,
+    VoiceLength = 2,
     // 3: voice model field out of its range
-    VoiceRange,
+    VoiceRange = 3,
     // 4: lexicon ends inside a field, or has bytes after its last
-    LexiconLength,
+    LexiconLength = 4,
     // 5: lexicon field out of its range
-    LexiconRange,
+    LexiconRange = 5,
     // 6: a node that is nobody's successor
-    Orphan,
+    Orphan = 6,
     // 7: more than 1,000 places
-    Places,
+    Places = 7,
     // 8: a word of more than 32 letters
-    LongWord,
+    LongWord = 8,
     // 9: W above 1,048,576; where W is given, also 0
-    WordCount,
+    WordCount = 9,
     // 10: two different full paths with the same letters
-    SameLetters,
+    SameLetters = 10,
     // 11: T 0 or above 1,000, or a symbol not below K
-    Frames,
+    Frames = 11,
     // 12: n, or the number of codes, not 1 to 8
-    Count,
+    Count = 12,
     // 13: the bytes given spell no word
-    NoWord,
+    NoWord = 13,
     // 14: packed bytes of the wrong length, or a padding bit set
-    Packed,
+    Packed = 14,
     // 15: a code not below W
-    Code,
+    Code = 15,
     // 16: output too short
-    Output,
+    Output = 16,
     // 17: over 2,000 words or 16,000 letters in all
-    WordList,
+    WordList = 17,
     // 18: a canonical image outside the limits on nodes, arcs or places
-    CanonicalImage,
+    CanonicalImage = 18,
     // 19: an item that runs past the end, or over 1,000 items
-    Items,
-}
-
-// What a call answers: a number, or the first refusal that applies.
-#[derive(Clone, Copy)]
-pub enum Answer {
-    Value(u32),
-    Refused(Refusal),
+    Items = 19,
 }
 
 impl Refusal {
-    // The number of the table.
+    // The number of the table. A method and no `From`: it is the number that documents name.
     pub fn number(self) -> u8
         ensures { result ≡ number self }
     {
-        match self {
-            Refusal::WorkSpace => 1,
-            Refusal::VoiceLength => 2,
-            Refusal::VoiceRange => 3,
-            Refusal::LexiconLength => 4,
-            Refusal::LexiconRange => 5,
-            Refusal::Orphan => 6,
-            Refusal::Places => 7,
-            Refusal::LongWord => 8,
-            Refusal::WordCount => 9,
-            Refusal::SameLetters => 10,
-            Refusal::Frames => 11,
-            Refusal::Count => 12,
-            Refusal::NoWord => 13,
-            Refusal::Packed => 14,
-            Refusal::Code => 15,
-            Refusal::Output => 16,
-            Refusal::WordList => 17,
-            Refusal::CanonicalImage => 18,
-            Refusal::Items => 19,
-        }
+        self as u8
     }
 }
 
@@ -105,11 +78,7 @@ pub fn inside(x: usize, low: usize, high: usize) -> bool
 pub fn zero(part: &mut [u8])
     ensures { part.new ≡ replicate (length part.old) 0 }
 {
-    let mut i = 0;
-    while i < part.len() {
-        part[i] = 0;
-        i += 1;
-    }
+    part.fill(0);
 }
 
 // The work space as every call leaves it that refusal 1 does not end; a shorter one stays as it is.

@@ -9,7 +9,7 @@ use native.Mathlib.Omega.{arith}
 use lib.Arith.{digits_mod}
 use lib.Bits.{bit_or, or_step, or_shr, shifted_even}
 use lib.Pow.{pow_pos, pow-lt, pow-add, shl-shr}
-use lib.ListN.{length, get_or, set, drop, replicate, length-set, length-replicate, get_or-append}
+use lib.ListN.{length, get_or, set, drop, replicate, length-replicate, get_or-append}
 use lib.Seq.{get_or-set_same, get_or-set_other}
 use lib.Dec.{eqb, ltb}
 use borrow.Author.Tests.{eq-eqb, ne_eqb, lt-ltb, le-ltb}
@@ -93,23 +93,6 @@ pub record JoinedBelow (mask b : List ℕ) (at i : ℕ) (after : List ℕ) : Typ
   pub bytes : (j : ℕ) → get_or after j 0 ≡ cond (ltb j i) (bit_or (get_or mask j 0) (get_or b (at + j) 0)) (get_or mask j 0)
 
 module _ (mask b : List ℕ) (at : ℕ) where
-  pub join_none : length mask ≡ 51 → JoinedBelow mask b at 0 mask
-  join_none e = record { long = e; bytes = λ j. rw (le-ltb j 0 (omega arith)) }
-
-  pub join_next : {i : ℕ} {after : List ℕ} → JoinedBelow mask b at i after → i < 51
-      → JoinedBelow mask b at (i + 1) (set after i (bit_or (get_or after i 0) (get_or b (at + i) 0)))
-  join_next {i} {after} d h = record {
-    long = length-set after i _ ∙ d.long;
-    bytes = λ j. elim (ℕ_discrete j i) [
-      | yes e ↦
-          let old : get_or after i 0 ≡ get_or mask i 0 = d.bytes i ∙ rw (le-ltb i i (omega arith)) in
-          rw (e, get_or-set_same after i (bit_or (get_or after i 0) (get_or b (at + i) 0)) 0 (omega (arith, d.long)), lt-ltb i (i + 1) (omega arith), old)
-      | no n ↦
-          get_or-set_other after i j (bit_or (get_or after i 0) (get_or b (at + i) 0)) 0 n ∙ d.bytes j
-          ∙ ap (λ (t : Bool). cond t (bit_or (get_or mask j 0) (get_or b (at + j) 0)) (get_or mask j 0)) (below_next j i n)
-    ];
-  }
-
   pub join_all : {i : ℕ} {after : List ℕ} → JoinedBelow mask b at i after → 51 ≤ i → Joined mask b at after
   unfolding bit
   join_all {i} {after} d h = record {

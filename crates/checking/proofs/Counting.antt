@@ -1,11 +1,12 @@
 -- Counting the places, node by node: those of the nodes from one on are left. Assumes nothing.
-use mathlib.Core.Path.{◌≡◌, ◌∙◌}
+use mathlib.Core.Path.{◌≡◌, ap, ◌∙◌}
 use mathlib.Core.List.{List, map}
 use Prim.Native.Nat.{ℕ, zero, suc, ◌+◌, ◌*◌, ◌≤◌, ◌<◌}
 use native.Mathlib.Nat.{zero-add, add-zero, add_assoc}
 use native.Mathlib.Omega.{arith}
 use native.Mathlib.Numerals.{add-one}
-use lib.ListN.{length, get_or}
+use lib.ListN.{length, get_or, take, drop}
+use Rattle.std.proofs.lemmas.List.{get_or-take, get_or-drop}
 use Rattle.endian.specs.Lists.{from, sum}
 use Rattle.voice.specs.Fields.{well_formed}
 use Rattle.voice.specs.Voice.{letter_count, states, voice_verdict}
@@ -32,6 +33,10 @@ pub record PlacesLeft (v x : List ℕ) (count node : ℕ) : Type 0 where
   pub first : 1 ≤ node
   pub few : count ≤ 4 * node
   pub total : count + sum (map (λ n. states v (node_letter x n)) (from node left)) ≡ place_count v (graph_of x)
+
+-- the letters of the nodes stand together, those of the first k here
+pub letter_at : (x : List ℕ) (i k : ℕ) → i < k → get_or (take k (drop 2 x)) i 0 ≡ get_or x (1 + (i + 1)) 0
+letter_at x i k h = get_or-take k (drop 2 x) i 0 h ∙ get_or-drop 2 x i 0 ∙ ap (λ (j : ℕ). get_or x j 0) (omega arith)
 
 pub places-start : (v x : List ℕ) → PlacesLeft v x 0 1
 unfolding place_count

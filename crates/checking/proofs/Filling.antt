@@ -10,13 +10,13 @@ use lib.ListN.{length, get_or, set, replicate, length-set}
 use lib.Seq.{get_or-set_same, get_or-set_other}
 use lib.Dec.{ltb}
 use borrow.Author.Tests.{ltb-true, ltb-false}
-use Rattle.endian.specs.Bytes.{u16}
 use Rattle.endian.proofs.Lists.{get_d_copies}
-use Rattle.lexicon.specs.Lexicon.{node_count, sink_of, arcs_at}
+use Rattle.lexicon.specs.Lexicon.{sink_of}
 use Rattle.lexicon.proofs.Shape.{arcs-next}
-use Rattle.checking.specs.Tables.{TableOf, WellFormed, WithOffsets}
+use Rattle.checking.specs.Tables.{TableOf, WellFormed}
 use Rattle.checking.specs.Filling.{FilledFrom, AtVertex}
-use Rattle.checking.proofs.Arcs.{shape_of, ArcNext, ListThere, has-entry, list-entry, list_at}
+use Rattle.checking.proofs.Arcs.{shape_of}
+use Rattle.checking.proofs.Successors.{SuccessorAt}
 
 -- the blank table is filled from n on and below n
 pub filled_none : (n : ℕ) (f : ℕ → ℕ) → FilledFrom n n f (replicate 402 0)
@@ -61,24 +61,10 @@ filled-whole {n} {f} {table} t = record { long = t.long; holds = λ u. at u (ltb
     at u true q = t.filled u (omega arith) (ltb-true u n q)
     at u false q = t.beyond u (ltb-false u n q)
 
--- what is read at a vertex
-module _ {f : ℕ → ℕ} {x offsets table : List ℕ} {u : ℕ} (v : AtVertex f x offsets table u) where
-  pub vertex-small : u ≤ 400
-  vertex-small = omega (arith, v.vertex, (shape_of v.located.formed).few)
-
-  -- where its list begins
-  pub list-begins : get_or offsets u 0 ≡ arcs_at x u
-  list-begins = list-entry v.located v.vertex
-
-  pub list-ends : ListThere x (get_or offsets u 0)
-  list-ends = list_at v.located v.vertex
-
-  -- the entry of a successor
-  pub entry-above : {at stop s : ℕ} {left : List ℕ} → ArcNext x u at stop left → s ≡ u16 x at → get_or table s 0 ≡ f (u16 x at)
-  entry-above n e = rw e (v.above.filled _ (omega (arith, n.rises)) (omega (arith, n.bounded)))
-
-  pub successor_small : {at stop s : ℕ} {left : List ℕ} → ArcNext x u at stop left → s ≡ u16 x at → s < 402
-  successor_small n e = rw e (has-entry v.located.formed n.bounded)
+-- at a vertex the entry of a successor is there
+pub entry-above : {f : ℕ → ℕ} {x table : List ℕ} {u i s : ℕ} → AtVertex f x table u
+    → SuccessorAt x u i s → get_or table s 0 ≡ f s
+entry-above {s = s} v n = v.above.filled s n.rises (omega (arith, n.bounded))
 
 -- ---- vertex by vertex
 
@@ -86,10 +72,6 @@ module _ {f : ℕ → ℕ} {x offsets table : List ℕ} {u : ℕ} (v : AtVertex 
 pub count-there : {x : List ℕ} → WellFormed x → 2 ≤ length x
 unfolding sink_of
 count-there {x} w = omega (arith, arcs-next x 0, (shape_of w).there {u = 0} (omega arith))
-
-pub sink-is : (x : List ℕ) {n : ℕ} → n ≡ u16 x 0 → suc n ≡ sink_of x
-unfolding sink_of node_count
-sink-is x e = ap suc e
 
 pub sink-small : {x : List ℕ} → WellFormed x → sink_of x ≤ 401
 unfolding sink_of
@@ -111,16 +93,15 @@ filling_sink {f} {x} {table} {k} {v} w blank e h = record {
 pub filling_blank : {f : ℕ → ℕ} {x : List ℕ} → f (sink_of x) ≡ 0 → FilledDownTo f x (replicate 402 0) (sink_of x)
 filling_blank {f} {x} h = record { low = omega arith; entries = filled_zero (filled_none (suc (sink_of x)) f) refl h }
 
-pub filling_next : {f : ℕ → ℕ} {x offsets table : List ℕ} {u v : ℕ} → AtVertex f x offsets table u → v ≡ f u
+pub filling_next : {f : ℕ → ℕ} {x table : List ℕ} {u v : ℕ} → WellFormed x → AtVertex f x table u → v ≡ f u
     → FilledDownTo f x (set table u v) u
 unfolding sink_of
-filling_next a h = record {
+filling_next w a h = record {
   low = omega (arith, a.vertex);
   entries =
-      filled_next a.above refl h (omega (arith, a.vertex)) (omega (arith, sink-small a.located.formed));
+      filled_next a.above refl h (omega (arith, a.vertex)) (omega (arith, sink-small w));
 }
 
-pub vertex-next : {f : ℕ → ℕ} {x offsets table : List ℕ} {k u : ℕ} → WithOffsets x offsets → FilledDownTo f x table k
-    → suc u ≡ k → AtVertex f x offsets table u
+pub vertex-next : {f : ℕ → ℕ} {x table : List ℕ} {k u : ℕ} → FilledDownTo f x table k → suc u ≡ k → AtVertex f x table u
 unfolding sink_of
-vertex-next l t e = record { located = l; vertex = omega (arith, t.low); above = rw e t.entries }
+vertex-next t e = record { vertex = omega (arith, t.low); above = rw e t.entries }

@@ -2,7 +2,7 @@
 -- Assumes nothing.
 use mathlib.Core.Path.{◌≡◌}
 use mathlib.Core.List.{List}
-use Prim.Native.Nat.{ℕ, suc, ◌+◌, ◌*◌, ◌≤◌, ◌<◌}
+use Prim.Native.Nat.{ℕ, ◌+◌, ◌*◌, ◌≤◌}
 use native.Mathlib.Omega.{arith}
 use native.Mathlib.Numerals.{add-one}
 use lib.ListN.{set, replicate}
@@ -31,8 +31,3 @@ offset-next {x} {u} {at} w f h = rw add-one (record {
   place = let e = f.place in rw e (omega arith);
   vertex = omega arith;
 })
-
-pub offsets_done : {x : List ℕ} {u at : ℕ} {offsets : List ℕ} → OffsetsFound x u at offsets → node_count x < u
-    → TableOf (sink_of x) (arcs_at x) offsets
-unfolding sink_of
-offsets_done {x} {u} {offsets} f h = let e : u ≡ suc (node_count x) = omega (arith, f.vertex) in rw e at f.table

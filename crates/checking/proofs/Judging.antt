@@ -15,9 +15,12 @@ use Rattle.call.specs.Table.{Answer, refused, Row, is_refusal, unless}
 use Rattle.call.specs.Limits.{most_words, work_space}
 use Rattle.call.specs.Buffers.{space_rows}
 use Rattle.call.proofs.Table.{refused-no-value}
-use Rattle.voice.specs.Fields.{well_formed, wrong_length, out_of_range}
+use Rattle.voice.specs.Fields.{Verdict, well_formed, wrong_length, out_of_range}
 use Rattle.voice.specs.Voice.{letter_count, voice_fields, voice_verdict, voice_refusal, voice_refused, voice_rows}
 use Rattle.voice.proofs.Fields.{well_formed-says}
+use Rattle.voice.proofs.Refusals.{voice_told}
+use Rattle.lexicon.proofs.Refusals.{lexicon_told}
+use mathlib.Core.Option.{none, some}
 use Rattle.lexicon.specs.Lexicon.{sink_of, arcs_at, lexicon_verdict, lexicon_refusal, lexicon_refused}
 use Rattle.graph.specs.Graph.{graph_of, sink, path_count, word_count}
 use Rattle.graph.specs.Conditions.{orphan, many_words}
@@ -45,13 +48,23 @@ passed e j = record { answered = j.answered ∙ sym e; opened = j.opened }
 module _ (v : List ℕ) {x offsets counts : List ℕ} where
   -- ---- 2 and 3
 
-  pub voice-length : voice_verdict v ≡ wrong_length → ImagesJudged (image_rows v x) (refused VoiceLength) x offsets counts
+  voice-length : voice_verdict v ≡ wrong_length → ImagesJudged (image_rows v x) (refused VoiceLength) x offsets counts
   unfolding image_rows voice_rows voice_refused voice_refusal is_refusal unless
   voice-length e = refusal (rw e)
 
-  pub voice-range : voice_verdict v ≡ out_of_range → ImagesJudged (image_rows v x) (refused VoiceRange) x offsets counts
+  voice-range : voice_verdict v ≡ out_of_range → ImagesJudged (image_rows v x) (refused VoiceRange) x offsets counts
   unfolding image_rows voice_rows voice_refused voice_refusal is_refusal unless
   voice-range e = refusal (rw e)
+
+  pub voice-judged : {r : Refusal} → some r ≡ voice_refused v → ImagesJudged (image_rows v x) (refused r) x offsets counts
+  unfolding voice_refused voice_refusal
+  voice-judged {r} e = go (voice_verdict v) refl e
+    where
+      go : (w : Verdict) → voice_verdict v ≡ w → some r ≡ voice_refusal w
+          → ImagesJudged (image_rows v x) (refused r) x offsets counts
+      go well_formed q e = absurd (cc)
+      go wrong_length q e = let k : r ≡ VoiceLength = cc in rw k (voice-length q)
+      go out_of_range q e = let k : r ≡ VoiceRange = cc in rw k (voice-range q)
 
   pub voice-passed : {answer : Answer ℕ} → voice_verdict v ≡ well_formed
       → ImagesJudged (lexicon_rows v x) answer x offsets counts
@@ -61,21 +74,41 @@ module _ (v : List ℕ) {x offsets counts : List ℕ} where
 
   -- ---- 4 and 5
 
-  pub lexicon-length : lexicon_verdict (letter_count v) x ≡ wrong_length
+  lexicon-length : lexicon_verdict (letter_count v) x ≡ wrong_length
       → ImagesJudged (lexicon_rows v x) (refused LexiconLength) x offsets counts
   unfolding lexicon_rows lexicon_refused lexicon_refusal is_refusal unless
   lexicon-length e = refusal (rw e)
 
-  pub lexicon-range : lexicon_verdict (letter_count v) x ≡ out_of_range
+  lexicon-range : lexicon_verdict (letter_count v) x ≡ out_of_range
       → ImagesJudged (lexicon_rows v x) (refused LexiconRange) x offsets counts
   unfolding lexicon_rows lexicon_refused lexicon_refusal is_refusal unless
   lexicon-range e = refusal (rw e)
+
+  pub lexicon-judged : {r : Refusal} → some r ≡ lexicon_refused (letter_count v) x
+      → ImagesJudged (lexicon_rows v x) (refused r) x offsets counts
+  unfolding lexicon_refused lexicon_refusal
+  lexicon-judged {r} e = go (lexicon_verdict (letter_count v) x) refl e
+    where
+      go : (w : Verdict) → lexicon_verdict (letter_count v) x ≡ w → some r ≡ lexicon_refusal w
+          → ImagesJudged (lexicon_rows v x) (refused r) x offsets counts
+      go well_formed q e = absurd (cc)
+      go wrong_length q e = let k : r ≡ LexiconLength = cc in rw k (lexicon-length q)
+      go out_of_range q e = let k : r ≡ LexiconRange = cc in rw k (lexicon-range q)
 
   pub lexicon-passed : {answer : Answer ℕ} → lexicon_verdict (letter_count v) x ≡ well_formed
       → ImagesJudged (graph_rows v x) answer x offsets counts
       → ImagesJudged (lexicon_rows v x) answer x offsets counts
   unfolding lexicon_rows lexicon_refused lexicon_refusal graph_rows is_refusal unless
   lexicon-passed e j = passed (rw e) j
+
+-- with no refusal an image is well formed
+pub voice-formed : (v : List ℕ) → none ≡ voice_refused v → voice_verdict v ≡ well_formed
+unfolding voice_refusal
+voice-formed v e = sym (voice_told well_formed v e)
+
+pub lexicon-formed : (L : ℕ) (x : List ℕ) → none ≡ lexicon_refused L x → lexicon_verdict L x ≡ well_formed
+unfolding lexicon_refusal
+lexicon-formed L x e = sym (lexicon_told well_formed L x e)
 
 -- a voice model has a first byte, L
 pub voice-begins : (v : List ℕ) → voice_verdict v ≡ well_formed → 0 < length v

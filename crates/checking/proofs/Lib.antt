@@ -2,6 +2,8 @@ pub mod Tables
 pub mod Chains
 pub mod Columns
 pub mod Arcs
+pub mod Located
+pub mod Successors
 pub mod Increments
 pub mod Members
 pub mod Reached

@@ -3,22 +3,22 @@
 use mathlib.Core.Path.{◌≡◌, refl, sym, ap, ◌∙◌}
 use mathlib.Core.Bool.{Bool, true, false, cond, ◌||◌}
 use mathlib.Core.List.{List, [], ◌∷◌, ◌++◌, map, flat_map, map-map, map-append, Memᴰ}
-use Prim.Native.Nat.{ℕ, zero, suc, ◌+◌, ◌*◌, max, ◌≤◌, ◌<◌}
+use Prim.Native.Nat.{ℕ, zero, suc, ◌+◌, max, ◌≤◌, ◌<◌}
 use native.Mathlib.Omega.{arith}
-use lib.ListN.{length, length-map}
+use lib.ListN.{length, drop, length-map}
 use lib.Dec.{eqb, ltb}
 use borrow.Author.Tests.{eqb-true, ltb-true, ltb-false, lt-ltb, le-ltb}
-use Rattle.endian.specs.Bytes.{u16}
 use Rattle.endian.specs.Lists.{any, select}
 use Rattle.endian.proofs.Lists.{map_cong, index_of}
-use Rattle.lexicon.specs.Lexicon.{node_count, sink_of, arcs_at}
+use Rattle.lexicon.specs.Lexicon.{node_count, sink_of, successors}
 use Rattle.graph.specs.Graph.{Graph, graph_of, sink, ways, full_paths, is_node, path_letters}
 use Rattle.graph.specs.Conditions.{long_word, has_long_word}
 use Rattle.graph.proofs.Sound.{Sound, below-sink, is-node, sink-no-node}
 use Rattle.graph.proofs.Ways.{ways-sink, ways-below, some-way}
 use Rattle.checking.specs.Tables.{WellFormed}
 use Rattle.checking.specs.Longest.{greatest, height, height_above}
-use Rattle.checking.proofs.Arcs.{shape_of, sound_of, ArcsToRead, arcs-start, ArcNext, arcs-done}
+use Rattle.checking.proofs.Arcs.{shape_of, sound_of}
+use Rattle.checking.proofs.Successors.{SuccessorAt}
 
 -- ---- the greatest of a list
 
@@ -148,28 +148,23 @@ module _ {g : Graph} (ok : Sound g) where
 
 -- ---- arc by arc
 
--- some successors are left, and the greatest of their heights and of those so far is the greatest of all
-pub record HeightLeft (x : List ℕ) (u at stop most : ℕ) : Type 0 where
-  pub left : List ℕ
-  pub arcs : ArcsToRead x u at stop left
-  pub rest : max most (greatest (map (height (graph_of x)) left)) ≡ height_above (graph_of x) u
+-- the first i successors are passed, and the greatest of the others' heights and of those so far is the greatest of all
+pub record HeightLeft (x : List ℕ) (u i most : ℕ) : Type 0 where
+  pub rest : max most (greatest (map (height (graph_of x)) (drop i (successors x u)))) ≡ height_above (graph_of x) u
 
-pub height-start : {x : List ℕ} → WellFormed x → {u at : ℕ} → u ≤ node_count x → at ≡ arcs_at x u → HeightLeft x u (at + 2) (at + 2 + 2 * u16 x at) 0
+pub height-start : (x : List ℕ) (u : ℕ) → HeightLeft x u 0 0
 unfolding height_above
-height-start {x} w {u} h e = record { left = (graph_of x).successors u; arcs = arcs-start w h e; rest = omega arith }
+height-start x u = record { rest = omega arith }
 
-pub height-next : {x : List ℕ} {u at stop most new : ℕ} (c : HeightLeft x u at stop most) → ArcNext x u at stop c.left
-    → new ≡ max most (height (graph_of x) (u16 x at)) → HeightLeft x u (at + 2) stop new
-unfolding greatest
-height-next c n e = record {
-  left = n.others;
-  arcs = n.after;
-  rest = let r = rw n.split at c.rest in omega arith;
-}
+module _ {x : List ℕ} {u i most : ℕ} (c : HeightLeft x u i most) where
+  pub height-next : {s new : ℕ} → SuccessorAt x u i s → new ≡ max most (height (graph_of x) s)
+      → HeightLeft x u (i + 1) new
+  unfolding greatest
+  height-next n e = record { rest = let r = rw n.split at c.rest in omega arith }
 
-pub height-done : {x : List ℕ} {u at stop most : ℕ} → HeightLeft x u at stop most → stop ≤ at → most ≡ height_above (graph_of x) u
-unfolding greatest
-height-done c h = let r = rw (arcs-done c.arcs h) at c.rest in omega arith
+  pub height-done : drop i (successors x u) ≡ [] → most ≡ height_above (graph_of x) u
+  unfolding greatest
+  height-done e = let r = rw e at c.rest in omega arith
 
 -- ---- of a lexicon
 

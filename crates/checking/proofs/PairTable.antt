@@ -1,7 +1,8 @@
 -- The table of pairs, filled from the last vertex down: how the row of a vertex is marked by its mask. Assumes nothing.
 use Prim.Native.Nat.{ℕ, suc, ◌+◌, ◌-◌, ◌*◌, ◌≤◌, ◌<◌, min, max}
 use mathlib.Core.Path.{◌≡◌, refl, sym, ap, ◌∙◌}
-use mathlib.Core.Bool.{Bool, true, false, ◌&&◌, ◌||◌, and-false, or-false}
+use mathlib.Core.Bool.{Bool, true, false, not, ◌&&◌, ◌||◌, and-false, or-false, true≢false}
+use Rattle.std.specs.Prelude.{Option, None, Some, MatchOption, is_some}
 use mathlib.Core.List.{List}
 use native.Mathlib.Decide.{ℕ_discrete}
 use native.Mathlib.Omega.{arith}
@@ -15,7 +16,7 @@ use Rattle.endian.proofs.Search.{any_same, any_last}
 use Rattle.lexicon.specs.Lexicon.{node_count}
 use Rattle.graph.specs.Graph.{Graph, graph_of, sink}
 use Rattle.graph.proofs.Sound.{Sound}
-use Rattle.checking.specs.Tables.{WithOffsets}
+use Rattle.checking.specs.Tables.{WellFormed}
 use Rattle.checking.specs.Bits.{bit, BitSet}
 use Rattle.checking.specs.Pairs.{common, meets, clash_at, clash}
 use Rattle.checking.specs.PairTable.{pair_bit, PairsMarked, MaskOf, Gathered, PairSet, RowDone, FirstAlike}
@@ -239,13 +240,13 @@ pub record Rows (x : List ℕ) (u : ℕ) (b : List ℕ) : Type 0 where
   pub clashes : clash (graph_of x) ≡ any (clash_at (graph_of x)) (from 0 (suc u))
 
 module _ {x : List ℕ} where
-  pub rows_start : {offsets after : List ℕ} {u k : ℕ} (b : List ℕ) → WithOffsets x offsets → u ≡ node_count x
+  pub rows_start : {after : List ℕ} {u k : ℕ} (b : List ℕ) → WellFormed x → u ≡ node_count x
       → k ≡ sink (graph_of x) → length after ≡ 20502
       → BitSet (k * 408 + k) (zeroed (51 * (k + 1)) b) after → Rows x u after
   unfolding clash sink
-  rows_start {after = after} {u} b l e f h d =
+  rows_start {after = after} {u} b w e f h d =
       let m : PairsMarked (graph_of x) (sink (graph_of x)) after =
-      table-start (graph_of x) (few-vertices l) b h (rw f at d) in
+      table-start (graph_of x) (few-vertices w) b h (rw f at d) in
       record { below = omega arith; marked = rw e m; clashes = rw e }
 
   pub rows_found : {u : ℕ} {b after : List ℕ} {answer : Bool} → Rows x u b → RowDone (graph_of x) u after answer → answer ≡ true
@@ -270,10 +271,15 @@ module _ {x : List ℕ} where
             ∙ rw (z, ← d.tells, e) (or-false (any p (from 0 (suc w))));
       }
 
-  pub rows_all : {u : ℕ} {b : List ℕ} → Rows x u b → u ≤ 0 → PairsMarked (graph_of x) 1 b
-  rows_all {u} r h = let e : u ≡ 0 = omega arith in rw e at r.marked
-
-  pub rows_done : {u : ℕ} {b mask : List ℕ} {answer : Bool} → Rows x u b → u ≤ 0 → Gathered (graph_of x) 0 mask answer
-      → clash (graph_of x) ≡ answer
+  -- with the root's successors, all are tested
+  pub rows_done : {u : ℕ} {b : List ℕ} → Rows x u b → u ≤ 0 → clash (graph_of x) ≡ clash_at (graph_of x) 0
   unfolding any from
-  rows_done {u} r h d = let e : u ≡ 0 = omega arith in r.clashes ∙ rw e (or-false (clash_at (graph_of x) 0)) ∙ sym d.tells
+  rows_done {u} r h = let e : u ≡ 0 = omega arith in r.clashes ∙ rw e (or-false (clash_at (graph_of x) 0))
+
+-- where a mask is gathered, no two successors have something in common, and otherwise two have
+pub clash-told : (g : Graph) (u : ℕ) (gathered : Option (List ℕ)) (answer : Bool)
+    → MatchOption gathered (clash_at g u ≡ true) (Gathered g u) → is_some gathered ≡ not answer → clash_at g u ≡ answer
+clash-told g u None true m e = m
+clash-told g u None false m e = absurd (true≢false (sym e))
+clash-told g u (Some mask) true m e = absurd (true≢false e)
+clash-told g u (Some mask) false m e = m.none_clash

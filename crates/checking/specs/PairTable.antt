@@ -5,7 +5,7 @@ use Rattle.std.specs.Prelude.{ℕ, suc, ◌+◌, ◌*◌, ◌≤◌, ◌<◌, mi
 use Rattle.lexicon.specs.Lexicon.{node_count}
 use Rattle.graph.specs.Graph.{Graph, graph_of, sink}
 use Rattle.graph.specs.Conditions.{orphan}
-use Rattle.checking.specs.Tables.{FewLetters, WithOffsets}
+use Rattle.checking.specs.Tables.{FewLetters}
 use Rattle.checking.specs.Bits.{bit}
 use Rattle.checking.specs.Pairs.{common, meets, clash_at}
 
@@ -22,10 +22,10 @@ pub record PairsMarked (g : Graph) (k : ℕ) (b : List ℕ) : Type 0 where
 pub record MaskOf (g : Graph) (u : ℕ) (mask : List ℕ) : Type 0 where
   pub bits : (y : ℕ) → u < y → y ≤ sink g → bit mask y ≡ meets g (g.successors u) y
 
--- the answer tells whether two successors of u have something in common; if none have, the mask is made
-pub record Gathered (g : Graph) (u : ℕ) (mask : List ℕ) (answer : Bool) : Type 0 where
-  pub tells : answer ≡ clash_at g u
-  pub made : answer ≡ false → MaskOf g u mask
+-- no two successors of u have something in common, and the mask is made
+pub record Gathered (g : Graph) (u : ℕ) (mask : List ℕ) : Type 0 where
+  pub none_clash : clash_at g u ≡ false
+  pub made : MaskOf g u mask
 
 -- the pair of u and v, both ways, was marked if the test says so
 pub record PairSet (u v : ℕ) (test : Bool) (b after : List ℕ) : Type 0 where
@@ -58,17 +58,15 @@ pub record Chains (g : Graph) (k : ℕ) (firsts nexts : List ℕ) : Type 0 where
 
 -- ---- what calls ask
 
--- what the row of node u is made from: the lists, the rows above it, and the chains with u in them
-pub record RowParts (x offsets nexts : List ℕ) (u : ℕ) (b : List ℕ) : Type 0 where
-  pub located : WithOffsets x offsets
+-- what the row of node u is made from, beside the lists: the rows above it, and the chains with u in them
+pub record RowParts (x nexts : List ℕ) (u : ℕ) (b : List ℕ) : Type 0 where
   pub node : 1 ≤ u
   pub inside : u ≤ node_count x
   pub above : PairsMarked (graph_of x) (suc u) b
   pub chained : Chained (graph_of x) u nexts
 
 -- what is known where number 10 is looked for
-pub record PairsAsked (x offsets b : List ℕ) : Type 0 where
-  pub located : WithOffsets x offsets
+pub record PairsAsked (x b : List ℕ) : Type 0 where
   pub reached : orphan (graph_of x) ≡ false
   pub letters : FewLetters x
   pub room : length b ≡ 20502

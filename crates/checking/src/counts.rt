@@ -3,47 +3,42 @@ ghost use Rattle.std.specs.Prelude.{◌≡◌, suc, ◌+◌, min, ◌≤◌, rep
 ghost use Rattle.call.specs.Limits.{most_words};
 ghost use Rattle.lexicon.specs.Lexicon.{sink_of};
 ghost use Rattle.graph.specs.Graph.{graph_of};
-ghost use Rattle.checking.specs.Tables.{TableOf, WithOffsets, capped_count};
+ghost use Rattle.checking.specs.Tables.{TableOf, capped_count};
 ghost use Rattle.checking.specs.Filling.{AtVertex};
 
-use crate::offsets::number_at;
+use crate::offsets::Lists;
+use endian::number_of;
 
 // One more than the most words of a lexicon: a count stops here, so that nothing wraps.
 const CAP: u32 = 1048577;
 
 fn capped_sum(a: u32, b: u32) -> u32
-    requires { a ≤ suc most_words }
     ensures { result ≡ min (a + b) (suc most_words) }
 {
-    if CAP - a < b { CAP } else { a + b }
+    a.saturating_add(b).min(CAP)
 }
 
 // The path count of a vertex: the sum over its successors.
-fn path_count(lexicon: &[u8], offsets: &[u16; 402], counts: &[u32; 402], vertex: usize) -> u32
-    requires { AtVertex (capped_count (graph_of lexicon.now)) lexicon.now offsets.now counts.now vertex }
-    ensures { result ≡ capped_count (graph_of lexicon.now) vertex }
+fn path_count(lists: Lists, counts: &[u32; 402], vertex: usize) -> u32
+    requires { AtVertex (capped_count (graph_of lists.lexicon.now)) lists.lexicon.now counts.now vertex }
+    ensures { result ≡ capped_count (graph_of lists.entry.lexicon.now) vertex }
 {
-    let start = offsets[vertex] as usize;
-    let stop = start + 2 + 2 * number_at(lexicon, start);
-    let mut at = start + 2;
     let mut sum = 0;
-    while at < stop {
-        let s = number_at(lexicon, at);
-        sum = capped_sum(sum, counts[s]);
-        at += 2;
+    for &pair in lists.successors(vertex) {
+        sum = capped_sum(sum, counts[number_of(pair) as usize]);
     }
     sum
 }
 
 // From the sink down, since arcs lead to greater vertices.
-pub(crate) fn count_paths(lexicon: &[u8], offsets: &[u16; 402], counts: &mut [u32; 402])
-    requires { WithOffsets lexicon.now offsets.now × (counts.old ≡ replicate 402 0) }
-    ensures { TableOf (suc (sink_of lexicon.now)) (capped_count (graph_of lexicon.now)) counts.new }
+pub(crate) fn count_paths(lists: Lists, counts: &mut [u32; 402])
+    requires { counts.old ≡ replicate 402 0 }
+    ensures { TableOf (suc (sink_of lists.entry.lexicon.now)) (capped_count (graph_of lists.entry.lexicon.now))
+        counts.new }
 {
-    let mut vertex = number_at(lexicon, 0) + 1;
-    counts[vertex] = 1;
-    while vertex > 0 {
-        vertex -= 1;
-        counts[vertex] = path_count(lexicon, offsets, counts, vertex);
+    let sink = lists.sink();
+    counts[sink] = 1;
+    for vertex in (0..sink).rev() {
+        counts[vertex] = path_count(lists, counts, vertex);
     }
 }

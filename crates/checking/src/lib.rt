@@ -13,13 +13,12 @@ ghost use Rattle.checking.specs.Judging.{Blank, graph_rows, ImagesJudged};
 
 use crate::counts::count_paths;
 use crate::heights::longest_word;
-use crate::offsets::find_offsets;
+use crate::offsets::{Lists, find_offsets};
 use crate::orphans::has_orphan;
 use crate::pairs::{PAIR_BYTES, has_same_letters};
 use crate::places::place_count;
-use crate::vertices::put_rows;
-use call::{Answer, Refusal, WORK_SPACE, clear};
-use voice::Verdict;
+use crate::vertices::put_vertices;
+use call::{Refusal, WORK_SPACE, clear};
 
 mod counts;
 mod heights;
@@ -36,16 +35,29 @@ pub const LETTERS: u16 = 32;
 
 const WORDS: u32 = 1048576;
 
-// The columns of a vertex's row: the offset of its successors' count, which their list follows; its path count; and its
-// first slot in the token store and the emission that enters it at a frame, which are the search's to fill. A lookup
-// puts what the vertex prints in the place of the slot.
-pub const ARCS_AT: usize = 0;
+// What the calls after checking are handed of a vertex.
+#[derive(Clone, Copy)]
+pub struct Vertex {
+    // the offset of its successors' count, which their list follows
+    pub arcs_at: u32,
+    // its path count
+    pub paths: u32,
+    // its first slot in the token store, which is the search's to fill; a lookup puts here what the vertex prints,
+    // since a field more would make an arc's read a cache line longer
+    pub first_slot: u32,
+    // the emission that enters it at a frame, which is the search's to fill
+    pub emission: u32,
+}
 
-pub const PATHS: usize = 1;
-
-pub const FIRST_SLOT: usize = 2;
-
-pub const EMISSION: usize = 3;
+impl Vertex {
+    // A vertex of which nothing is known.
+    pub const BLANK: Vertex = Vertex {
+        arcs_at: 0,
+        paths: 0,
+        first_slot: 0,
+        emission: 0,
+    };
+}
 
 // Rows 6 to 10, or W. A count of paths stops above the limit, so that W is exact wherever row 9 does not apply.
 fn judge_graph(
@@ -54,7 +66,7 @@ fn judge_graph(
     pairs: &mut [u8],
     offsets: &mut [u16; 402],
     counts: &mut [u32; 402],
-) -> Answer
+) -> Result<u32, Refusal>
     requires voice_value { voice_verdict voice.now ≡ well_formed }
     requires lexicon_value { lexicon_verdict (letter_count voice.now) lexicon.now ≡ well_formed }
     requires blank { Blank pairs.old offsets.old counts.old }
@@ -62,24 +74,25 @@ fn judge_graph(
         lexicon.now offsets.new counts.new }
 {
     find_offsets(lexicon, offsets);
-    if has_orphan(lexicon, offsets) {
-        return Answer::Refused(Refusal::Orphan);
+    let lists = Lists { lexicon, offsets };
+    if has_orphan(lists) {
+        return Err(Refusal::Orphan);
     }
     if PLACES < place_count(voice, lexicon) {
-        return Answer::Refused(Refusal::Places);
+        return Err(Refusal::Places);
     }
-    if LETTERS < longest_word(lexicon, offsets) {
-        return Answer::Refused(Refusal::LongWord);
+    if LETTERS < longest_word(lists) {
+        return Err(Refusal::LongWord);
     }
-    count_paths(lexicon, offsets, counts);
+    count_paths(lists, counts);
     let words = counts[0];
     if WORDS < words {
-        return Answer::Refused(Refusal::WordCount);
+        return Err(Refusal::WordCount);
     }
-    if has_same_letters(lexicon, offsets, pairs) {
-        return Answer::Refused(Refusal::SameLetters);
+    if has_same_letters(lists, pairs) {
+        return Err(Refusal::SameLetters);
     }
-    Answer::Value(words)
+    Ok(words)
 }
 
 // Rows 4 to 10, or W: the lexicon is judged with the L of a well-formed voice model.
@@ -89,17 +102,14 @@ fn judge_lexicon(
     pairs: &mut [u8],
     offsets: &mut [u16; 402],
     counts: &mut [u32; 402],
-) -> Answer
+) -> Result<u32, Refusal>
     requires voice_value { voice_verdict voice.now ≡ well_formed }
     requires blank { Blank pairs.old offsets.old counts.old }
     ensures { ImagesJudged (lexicon_rows voice.now lexicon.now) (answer_of result)
         lexicon.now offsets.new counts.new }
 {
-    match lexicon::judge(lexicon, voice[0] as usize) {
-        Verdict::WrongLength => Answer::Refused(Refusal::LexiconLength),
-        Verdict::OutOfRange => Answer::Refused(Refusal::LexiconRange),
-        Verdict::WellFormed => judge_graph(voice, lexicon, pairs, offsets, counts),
-    }
+    lexicon::judge(lexicon, voice[0] as usize)?;
+    judge_graph(voice, lexicon, pairs, offsets, counts)
 }
 
 // Rows 2 to 10, or W.
@@ -109,28 +119,30 @@ fn judge_images(
     pairs: &mut [u8],
     offsets: &mut [u16; 402],
     counts: &mut [u32; 402],
-) -> Answer
+) -> Result<u32, Refusal>
     requires { Blank pairs.old offsets.old counts.old }
     ensures { ImagesJudged (image_rows voice.now lexicon.now) (answer_of result)
         lexicon.now offsets.new counts.new }
 {
-    match voice::judge(voice) {
-        Verdict::WrongLength => Answer::Refused(Refusal::VoiceLength),
-        Verdict::OutOfRange => Answer::Refused(Refusal::VoiceRange),
-        Verdict::WellFormed => judge_lexicon(voice, lexicon, pairs, offsets, counts),
-    }
+    voice::judge(voice)?;
+    judge_lexicon(voice, lexicon, pairs, offsets, counts)
 }
 
 // Checks both images, answers W, and leaves the row of each vertex for the work that follows. A refusal leaves the
 // table as it was.
-pub fn open(voice: &[u8], lexicon: &[u8], work: &mut [u8], vertices: &mut [[u32; 4]; 402]) -> Answer
+pub fn open(
+    voice: &[u8],
+    lexicon: &[u8],
+    work: &mut [u8],
+    vertices: &mut [Vertex; 402],
+) -> Result<u32, Refusal>
     ensures result_value { answer_of result ≡ check_answer voice.now lexicon.now work.old }
     ensures work_after { work.new ≡ check_work voice.now lexicon.now work.old }
     ensures vertices_after { vertices.new
         ≡ opened_vertices (answer_of result) lexicon.now vertices.old }
 {
     if work.len() < WORK_SPACE {
-        return Answer::Refused(Refusal::WorkSpace);
+        return Err(Refusal::WorkSpace);
     }
     let mut offsets = [0u16; 402];
     let mut counts = [0u32; 402];
@@ -142,20 +154,16 @@ pub fn open(voice: &[u8], lexicon: &[u8], work: &mut [u8], vertices: &mut [[u32;
         &mut counts,
     );
     clear(work);
-    match answer {
-        Answer::Value(_) => {
-            put_rows(lexicon, &offsets, &counts, vertices);
-            answer
-        }
-        Answer::Refused(_) => answer,
-    }
+    let words = answer?;
+    put_vertices(&offsets, &counts, vertices);
+    Ok(words)
 }
 
 // Checks both images and answers W.
-pub fn check(voice: &[u8], lexicon: &[u8], work: &mut [u8]) -> Answer
+pub fn check(voice: &[u8], lexicon: &[u8], work: &mut [u8]) -> Result<u32, Refusal>
     ensures result_value { answer_of result ≡ check_answer voice.now lexicon.now work.old }
     ensures work_after { work.new ≡ check_work voice.now lexicon.now work.old }
 {
-    let mut vertices = [[0u32; 4]; 402];
+    let mut vertices = [Vertex::BLANK; 402];
     open(voice, lexicon, work, &mut vertices)
 }

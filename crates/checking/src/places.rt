@@ -6,19 +6,16 @@ ghost use Rattle.lexicon.specs.Lexicon.{lexicon_verdict};
 ghost use Rattle.graph.specs.Graph.{graph_of};
 ghost use Rattle.graph.specs.Conditions.{place_count};
 
-use crate::offsets::number_at;
+use crate::offsets::sink_of;
 
 pub(crate) fn place_count(voice: &[u8], lexicon: &[u8]) -> usize
-    requires { (voice_verdict voice.now ≡ well_formed) × (lexicon_verdict (letter_count voice.now) lexicon.now ≡ well_formed) }
+    requires { (voice_verdict voice.now ≡ well_formed)
+        × (lexicon_verdict (letter_count voice.now) lexicon.now ≡ well_formed) }
     ensures { result ≡ place_count voice.now (graph_of lexicon.now) }
 {
-    let nodes = number_at(lexicon, 0);
     let mut count: usize = 0;
-    let mut node = 1;
-    while node <= nodes {
-        let letter = lexicon[1 + node] as usize;
-        count += voice[2 + 2 * letter] as usize;
-        node += 1;
+    for &letter in &lexicon[2..1 + sink_of(lexicon)] {
+        count += voice[2 + 2 * letter as usize] as usize;
     }
     count
 }

@@ -1,37 +1,18 @@
-// The table of vertices that the calls after checking are handed: a row for each vertex.
-ghost use Rattle.std.specs.Prelude.{◌≡◌, [], ◌∷◌};
-ghost use Rattle.checking.specs.Tables.{vertices_of, Tables, WellFormed};
+// The table of vertices that the calls after checking are handed.
+ghost use Rattle.std.specs.Prelude.{◌≡◌, ℕ, List};
+ghost use Rattle.checking.specs.Tables.{vertices_of, Tables};
 
-use crate::offsets::number_at;
-use crate::{ARCS_AT, EMISSION, FIRST_SLOT, PATHS};
+use crate::Vertex;
 
-// The row of a vertex, without slot and emission.
-fn row_of(offset: u16, paths: u32) -> [u32; 4]
-    ensures { result ≡ offset ∷ paths ∷ 0 ∷ 0 ∷ [] }
+// Puts what is known of each vertex, from the tables of a lexicon. They are 0 after the sink, and so is the rest.
+pub(crate) fn put_vertices(offsets: &[u16; 402], counts: &[u32; 402], vertices: &mut [Vertex; 402])
+    ensures { (x : List ℕ) → Tables x offsets.now counts.now → vertices.new ≡ vertices_of x }
 {
-    let mut row = [0; 4];
-    row[ARCS_AT] = offset as u32;
-    row[PATHS] = paths;
-    row[FIRST_SLOT] = 0;
-    row[EMISSION] = 0;
-    row
-}
-
-// Puts the rows from the root's to the sink's, and makes those after it zero.
-pub(crate) fn put_rows(
-    lexicon: &[u8],
-    offsets: &[u16; 402],
-    counts: &[u32; 402],
-    vertices: &mut [[u32; 4]; 402],
-)
-    requires { WellFormed lexicon.now × Tables lexicon.now offsets.now counts.now }
-    ensures { vertices.new ≡ vertices_of lexicon.now }
-{
-    let sink = number_at(lexicon, 0) + 1;
-    *vertices = [[0; 4]; 402];
-    let mut vertex = 0;
-    while vertex <= sink {
-        vertices[vertex] = row_of(offsets[vertex], counts[vertex]);
-        vertex += 1;
+    for (u, vertex) in vertices.iter_mut().enumerate() {
+        *vertex = Vertex {
+            arcs_at: offsets[u] as u32,
+            paths: counts[u],
+            ..Vertex::BLANK
+        };
     }
 }

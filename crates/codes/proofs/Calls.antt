@@ -20,6 +20,7 @@ use Rattle.graph.specs.Graph.{graph_of, word_count}
 use Rattle.graph.specs.Words.{spelled, word_of_code}
 use Rattle.graph.specs.Checking.{first_rows, check_answer}
 use Rattle.graph.proofs.Accepted.{accepted, sound-images, Passed, passed}
+use Rattle.checking.specs.declared.Vertex.{Vertex}
 use Rattle.checking.specs.Tables.{opened_vertices}
 use Rattle.checking.proofs.VertexRows.{opened-vertices}
 use Rattle.codes.specs.Lookup.{code_to_word_rows, code_to_word_answer, code_to_word_out, listing, list_rows, list_answer}
@@ -52,7 +53,7 @@ module _ (word out : List ℕ) {n : ℕ} (h : length word ≡ n) where
 
 -- ---- after checking
 
-pub opened-images : (v x work : List ℕ) (before : List (List ℕ)) {after : List (List ℕ)} {answer : Answer ℕ} {W : ℕ}
+pub opened-images : (v x work : List ℕ) (before : List Vertex) {after : List Vertex} {answer : Answer ℕ} {W : ℕ}
     → Passed v x work W
     → answer ≡ value W → after ≡ opened_vertices answer x before → OpenedImages v x after
 opened-images v x work before p e h =
@@ -63,7 +64,7 @@ opened-images v x work before p e h =
       tabled = record { located = record { formed = w; table = t.located }; counted = t.counted };
     }
 
-module _ {v x : List ℕ} {vertices : List (List ℕ)} (opened : OpenedImages v x vertices) where
+module _ {v x : List ℕ} {vertices : List Vertex} (opened : OpenedImages v x vertices) where
   pub spellable : Spellable x vertices
   spellable = record { tabled = opened.tabled; short = (accepted opened.accepted).short_words }
 

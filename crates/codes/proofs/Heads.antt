@@ -1,75 +1,70 @@
--- The row of a vertex, and its list in the image: its count, and each of its arcs by number. Assumes nothing.
+-- The row of a vertex, and its list in the image: the numbers that are read there are its successors. Assumes nothing.
+use Prim.Native.Nat.{ℕ, ◌+◌, ◌≤◌, ◌<◌}
 use mathlib.Core.Path.{◌≡◌, refl, sym, ap, ◌∙◌}
-use mathlib.Core.List.Memᴰ
 use mathlib.Core.List.{List, [], ◌∷◌, Memᴰ}
-use Prim.Native.Nat.{ℕ, zero, suc, ◌+◌, ◌*◌, ◌≤◌, ◌<◌}
-use native.Mathlib.Nat.{add-zero}
+use mathlib.Core.List.Memᴰ
 use native.Mathlib.Numerals.{add-one}
 use native.Mathlib.Omega.{arith}
 use lib.ListN.{length, get_or, drop}
-use lib.Seq.{drop-cons, drop-length}
-use Rattle.endian.specs.Bytes.{u16, u16s}
+use lib.Seq.{drop-cons}
+use Rattle.endian.specs.Bytes.{u16}
 use Rattle.endian.proofs.Lists.{mem_get_d}
-use Rattle.lexicon.specs.Lexicon.{node_count, sink_of, arcs_at, arc_count, successors}
-use Rattle.lexicon.proofs.Shape.{arcs-next}
-use Rattle.lexicon.proofs.Readers.{length-successors}
+use Rattle.lexicon.specs.Lexicon.{node_count, sink_of, successors, listed, numbers_of}
+use Rattle.lexicon.proofs.Listed.{listed-successors, length-numbers, numbers-at}
 use Rattle.graph.specs.Graph.{graph_of, path_count, sink}
-use Rattle.checking.specs.Tables.{WellFormed}
-use Rattle.checking.proofs.Arcs.{shape_of, sound_of, ListThere}
-use Rattle.checking.proofs.VertexRows.{row-entry, arcs-entry, arcs-there}
+use Rattle.checking.specs.declared.Vertex.{Vertex}
+use Rattle.checking.specs.Tables.{no_vertex, paths_field}
+use Rattle.checking.proofs.Arcs.{shape_of, sound_of, has-entry}
+use Rattle.checking.proofs.VertexRows.{row-entry, arcs-entry}
 use Rattle.codes.specs.Steps.{Tabled}
 
--- the list of u begins at an offset
-pub record Head (x : List ℕ) (u at : ℕ) : Type 0 where
-  pub there : at + 2 + 2 * arc_count x u ≤ length x
-  pub small : at ≤ 9204
-  pub few : arc_count x u ≤ 4601
-  pub count : u16 x at ≡ arc_count x u
-  pub number : {i : ℕ} → i < arc_count x u → get_or (successors x u) i 0 ≡ u16 x (at + 2 + 2 * i)
-  -- the arcs from number i on, of which the first is there to read
-  pub next : {i : ℕ} → i < arc_count x u → drop i (successors x u) ≡ u16 x (at + 2 + 2 * i) ∷ drop (i + 1) (successors x u)
-  pub arc : {i : ℕ} → i < arc_count x u → Memᴰ (u16 x (at + 2 + 2 * i)) (successors x u)
-  pub rises : {i : ℕ} → i < arc_count x u → (u < u16 x (at + 2 + 2 * i)) × (u16 x (at + 2 + 2 * i) ≤ sink_of x)
+-- arc i of u leads to s
+pub record ArcHere (x : List ℕ) (u i s : ℕ) : Type 0 where
+  pub inside : i < length (successors x u)
+  pub rises : u < s
+  pub bounded : s ≤ sink_of x
+  pub low : s < 402
+  pub member : Memᴰ s (successors x u)
+  pub entry : get_or (successors x u) i 0 ≡ s
+  -- it is the first of the arcs from number i on
+  pub first : drop i (successors x u) ≡ s ∷ drop (i + 1) (successors x u)
 
-get_d_u16s : (b : List ℕ) (at n i : ℕ) → i < n → get_or (u16s b at n) i 0 ≡ u16 b (at + 2 * i)
-unfolding u16s
-get_d_u16s b at zero i h = absurd (omega arith)
-get_d_u16s b at (suc n) zero h = rw add-zero
-get_d_u16s b at (suc n) (suc i) h = let e : at + 2 + 2 * i ≡ at + 2 * suc i = omega arith in get_d_u16s b (at + 2) n i (omega arith) ∙ ap (u16 b) e
+module _ {x : List ℕ} {vertices : List Vertex} (t : Tabled x vertices) {u : ℕ} where
+  pub paths_of : u ≤ sink_of x → (get_or vertices u no_vertex).paths ≡ path_count (graph_of x) u
+  paths_of h = row-entry paths_field refl vertices t.counted (omega arith)
 
-module _ {x : List ℕ} {vertices : List (List ℕ)} (t : Tabled x vertices) {u : ℕ} where
-  pub arcs-of : u ≤ node_count x → get_or (get_or vertices u []) 0 0 ≡ arcs_at x u
-  arcs-of h = arcs-entry vertices t.located h
+  module _ (h : u ≤ node_count x) where
+    pub vertex_low : u < 402
+    unfolding sink_of
+    vertex_low = has-entry t.located.formed (omega arith)
 
-  pub list-of : u ≤ node_count x → ListThere x (get_or (get_or vertices u []) 0 0)
-  list-of h = arcs-there vertices t.located h
+    list_of : listed x (get_or vertices u no_vertex).arcs_at ≡ successors x u
+    unfolding sink_of
+    list_of =
+        ap (listed x) (arcs-entry vertices t.located h)
+        ∙ listed-successors x u (omega (arith, (shape_of t.located.formed).there {u = u} (omega arith)))
 
-  pub paths_of : u ≤ sink_of x → get_or (get_or vertices u []) 1 0 ≡ path_count (graph_of x) u
-  paths_of h = row-entry 1 vertices t.counted (omega arith)
+    -- these pairs of bytes are read as the list
+    module _ (pairs : List (List ℕ)) (e : numbers_of pairs ≡ listed x (get_or vertices u no_vertex).arcs_at) where
+      pub list_long : length pairs ≡ length (successors x u)
+      list_long = sym (length-numbers pairs) ∙ ap length (e ∙ list_of)
 
-pub head_at : {x : List ℕ} {vertices : List (List ℕ)} → Tabled x vertices → {u : ℕ} → u ≤ node_count x
-    → Head x u (get_or (get_or vertices u []) 0 0)
-unfolding sink_of sink arc_count successors
-head_at {x} {vertices} t {u} h = rw (arcs-of t h) (record {
-  there = omega (arith, arcs-next x u, (shape_of formed).there {u = u} (omega arith));
-  small = (shape_of formed).small {u = u} (omega arith);
-  few = omega (arith, arcs-next x u, (shape_of formed).small {u = suc u} (omega arith));
-  count = refl;
-  number = λ {i} k. number k;
-  next = λ {i} k. drop-cons (successors x u) i 0 (rw (length-successors x u) k) ∙ rw (number k, add-one i);
-  arc = λ {i} k. mem k;
-  rises = λ {i} k. (sound_of formed).rises (omega arith) (mem k);
-})
-  where
-    formed : WellFormed x
-    formed = t.located.formed
-
-    number : {i : ℕ} → i < arc_count x u → get_or (successors x u) i 0 ≡ u16 x (arcs_at x u + 2 + 2 * i)
-    number {i} k = get_d_u16s x (arcs_at x u + 2) (arc_count x u) i k
-
-    mem : {i : ℕ} → i < arc_count x u → Memᴰ (u16 x (arcs_at x u + 2 + 2 * i)) (successors x u)
-    mem {i} k = Memᴰ.cast (sym (number k)) (mem_get_d (successors x u) i 0 (rw (length-successors x u) k))
-
--- after the last arc none is left
-pub none_left : (x : List ℕ) (u i : ℕ) → i ≡ arc_count x u → drop i (successors x u) ≡ []
-none_left x u i e = rw (e, ← length-successors x u) (drop-length (successors x u))
+      pub arc_here : {i s : ℕ} → i < length pairs
+          → s ≡ u16 (get_or pairs i []) 0 → ArcHere x u i s
+      unfolding sink_of sink
+      arc_here {i} {s} k q =
+          let l = list_long in
+          let is : get_or (successors x u) i 0 ≡ s =
+          ap (λ (l : List ℕ). get_or l i 0) (sym (e ∙ list_of)) ∙ numbers-at pairs i k
+          ∙ sym q in
+          let m : Memᴰ s (successors x u) = Memᴰ.cast (sym is) (mem_get_d (successors x u) i 0 (omega arith)) in
+          let r = (sound_of t.located.formed).rises (omega arith) m in
+          record {
+            inside = omega arith;
+            rises = r.0;
+            bounded = r.1;
+            low = has-entry t.located.formed r.1;
+            member = m;
+            entry = is;
+            first = drop-cons (successors x u) i 0 (omega arith) ∙ rw (is, add-one i);
+          }

@@ -7,7 +7,6 @@ pub mod Calls
 pub mod Lines
 pub mod Sizes
 pub mod Heads
-pub mod Falls
 pub mod Passing
 pub mod Totals
 pub mod Whole

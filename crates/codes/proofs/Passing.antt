@@ -1,51 +1,53 @@
--- What the vertex step and the arc step hand to each other: a vertex goes through its arcs, each of which adds its lines; an arc enters the vertex
--- that it leads to: a node, which goes through its arcs with its letter added to the word, or the sink, which has its line. Assumes nothing.
-use mathlib.Core.Path.{◌≡◌, refl, sym, ap, ◌∙◌}
+-- What `vertex_step` and `arc_step` hand to each other: a vertex goes through its arcs, each of which adds its lines; the
+-- vertex that an arc leads to is entered: a node, which goes through its arcs with its letter added to the word, or the
+-- sink, which has its line. Assumes nothing.
+use mathlib.Core.Path.{◌≡◌, refl, ap, ◌∙◌}
 use mathlib.Core.List.{List, [], ◌∷◌, ◌++◌}
-use Prim.Native.Nat.{ℕ, ◌+◌, ◌*◌, ◌≤◌, ◌<◌}
+use Prim.Native.Nat.{ℕ, ◌+◌, ◌≤◌, ◌<◌}
 use native.Mathlib.Omega.{arith}
-use lib.ListN.{length, get_or, take, set, length-append}
+use lib.ListN.{length, take, set, length-append}
 use lib.Seq.{take_all}
-use Rattle.endian.specs.Bytes.{u16}
 use Rattle.voice.specs.Voice.{print_byte}
-use Rattle.lexicon.specs.Lexicon.{node_count, sink_of, node_letter, arc_count, successors}
-use Rattle.lexicon.proofs.Readers.{length-successors}
+use Rattle.lexicon.specs.Lexicon.{node_count, sink_of, node_letter, successors}
 use Rattle.graph.specs.Graph.{graph_of, sink}
 use Rattle.graph.proofs.Sound.{Sound}
 use Rattle.graph.proofs.Accepted.{accepted, sound-images}
 use Rattle.graph.proofs.Ways.{some-way}
-use Rattle.checking.proofs.Arcs.{shape_of}
-use Rattle.codes.specs.Steps.{OpenedImages, Readable}
-use Rattle.codes.specs.Lines.{lines_from, lines_over, Fits, WalksFrom, RoomForLines, Wrote}
+use Rattle.checking.specs.declared.Vertex.{Vertex}
+use Rattle.codes.specs.Steps.{Readable}
+use Rattle.codes.specs.Lines.{lines_from, lines_over, WalksFrom, Enters, RoomForLines, Wrote}
 use Rattle.codes.proofs.Words.{readable}
 use Rattle.codes.proofs.Lines.{over_none, over-more, over-part, lines-sink, lines-node, fits-letter, fits_next, wrote_none, wrote_both, one-letter}
-use Rattle.codes.proofs.Heads.{Head, head_at}
+use Rattle.codes.proofs.Heads.{ArcHere}
 
 -- ---- the vertex step
 
 -- the lines over the first arcs of u are written, and the output has its length
 pub record Walked (v x : List ℕ) (u depth at : ℕ) (word₀ out₀ word out : List ℕ) (end arc : ℕ) : Type 0 where
-  pub inside : arc ≤ arc_count x u
   pub size : length out ≡ length out₀
   pub wrote : Wrote (lines_over v (graph_of x) (take arc (successors x u)) (take depth word₀)) depth at word₀ word out₀ out end
 
 module _ {v x : List ℕ} {u depth at : ℕ} {word₀ out₀ : List ℕ} where
   pub walk-starts : Walked v x u depth at word₀ out₀ word₀ out₀ at 0
-  walk-starts = record { inside = omega arith; size = refl; wrote = wrote_none (over_none v (graph_of x) (take depth word₀)) }
+  walk-starts = record { size = refl; wrote = wrote_none (over_none v (graph_of x) (take depth word₀)) }
 
   module _ {word out : List ℕ} {end arc : ℕ} (w : Walked v x u depth at word₀ out₀ word out end arc) where
-    pub walk_ends : arc_count x u ≤ arc → Wrote (lines_over v (graph_of x) (successors x u) (take depth word₀)) depth at word₀ word out₀ out end
+    pub walk_ends : length (successors x u) ≤ arc → Wrote (lines_over v (graph_of x) (successors x u) (take depth word₀)) depth at word₀ word out₀ out end
     walk_ends h =
-        let all : take arc (successors x u) ≡ successors x u = take_all arc (successors x u) (rw (length-successors x u) h) in rw all at w.wrote
+        let all : take arc (successors x u) ≡ successors x u = take_all arc (successors x u) h in rw all at w.wrote
 
-    module _ (h : arc < arc_count x u) where
+    -- the next arc leads to s
+    module _ {s : ℕ} (a : ArcHere x u arc s) where
       one_more : lines_over v (graph_of x) (take (arc + 1) (successors x u)) (take depth word₀)
-          ≡ lines_over v (graph_of x) (take arc (successors x u)) (take depth word₀) ++ lines_from v (graph_of x) (get_or (successors x u) arc 0) (take depth word)
-      one_more = rw w.wrote.kept (over-more v (graph_of x) (take depth word₀) (successors x u) arc (rw (length-successors x u) h))
+          ≡ lines_over v (graph_of x) (take arc (successors x u)) (take depth word₀)
+          ++ lines_from v (graph_of x) s (take depth word)
+      one_more =
+          rw (w.wrote.kept, ← a.entry)
+          (over-more v (graph_of x) (take depth word₀) (successors x u) arc a.inside)
 
       -- room for the lines by way of the next arc
       pub walk-room : RoomForLines (lines_over v (graph_of x) (successors x u) (take depth word₀)) word₀ out₀ at
-          → RoomForLines (lines_from v (graph_of x) (get_or (successors x u) arc 0) (take depth word)) word out end
+          → RoomForLines (lines_from v (graph_of x) s (take depth word)) word out end
       walk-room r = record {
         long = w.wrote.long ∙ r.long;
         enough = omega (
@@ -55,49 +57,30 @@ module _ {v x : List ℕ} {u depth at : ℕ} {word₀ out₀ : List ℕ} where
           w.wrote.ends,
           ap length one_more,
           length-append (lines_over v (graph_of x) (take arc (successors x u)) (take depth word₀))
-              (lines_from v (graph_of x) (get_or (successors x u) arc 0) (take depth word)),
+              (lines_from v (graph_of x) s (take depth word)),
           over-part v (graph_of x) (take depth word₀) (successors x u) (arc + 1),
         );
       }
 
       pub walk-on : {word' out' : List ℕ} {end' : ℕ} → length out' ≡ length out
-          → Wrote (lines_from v (graph_of x) (get_or (successors x u) arc 0) (take depth word)) depth end word word' out out' end'
+          → Wrote (lines_from v (graph_of x) s (take depth word)) depth end word word' out out' end'
           → Walked v x u depth at word₀ out₀ word' out' end' (arc + 1)
-      walk-on e n = record { inside = omega arith; size = e ∙ w.size; wrote = wrote_both one_more w.wrote n }
+      walk-on e n = record { size = e ∙ w.size; wrote = wrote_both one_more w.wrote n }
 
 -- ---- the arcs of a vertex
 
--- the walk enters u, a node or the sink
-pub record Enters (v x : List ℕ) (vertices : List (List ℕ)) (u depth : ℕ) : Type 0 where
-  pub opened : OpenedImages v x vertices
-  pub above : 0 < u
-  pub bounded : u ≤ sink_of x
-  pub fits : Fits v (graph_of x) depth u
-
-module _ {v x : List ℕ} {vertices : List (List ℕ)} {u depth : ℕ} (p : WalksFrom v x vertices u depth) where
-  -- its list in the image
-  pub head_of : Head x u (get_or (get_or vertices u []) 0 0)
-  head_of = head_at p.opened.tabled p.below
-
-  pub vertex_few : u ≤ 400
-  vertex_few = omega (arith, p.below, (shape_of p.opened.tabled.located.formed).few)
-
-  -- arc i is read as s
-  module _ {i s : ℕ} (h : i < arc_count x u) (e : s ≡ u16 x (get_or (get_or vertices u []) 0 0 + 2 + 2 * i)) where
-    pub leads-to : get_or (successors x u) i 0 ≡ s
-    leads-to = head_of.number h ∙ sym e
-
-    pub enters : Enters v x vertices s depth
-    enters = rw e (record {
-      opened = p.opened;
-      above = omega (arith, head_of.rises h);
-      bounded = (head_of.rises h).1;
-      fits = p.fits (head_of.arc h);
-    })
+module _ {v x : List ℕ} {vertices : List Vertex} {u depth : ℕ} (p : WalksFrom v x vertices u depth) where
+  pub enters : {i s : ℕ} → ArcHere x u i s → Enters v x vertices s depth
+  enters a = record {
+    opened = p.opened;
+    above = omega (arith, a.rises);
+    bounded = a.bounded;
+    fits = p.fits a.member;
+  }
 
 -- ---- the vertex that an arc leads to
 
-module _ {v x : List ℕ} {vertices : List (List ℕ)} {u depth : ℕ} (e : Enters v x vertices u depth) where
+module _ {v x : List ℕ} {vertices : List Vertex} {u depth : ℕ} (e : Enters v x vertices u depth) where
   ok : Sound (graph_of x)
   ok = sound-images (accepted e.opened.accepted)
 

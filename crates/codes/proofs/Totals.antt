@@ -1,28 +1,28 @@
 -- Adding up the arcs on all ways from a vertex, successor by successor, from the numbers of the vertices above it. Assumes nothing.
 use mathlib.Core.Path.{◌≡◌, sym, ◌∙◌}
-use mathlib.Core.List.{List, [], map}
-use Prim.Native.Nat.{ℕ, suc, ◌+◌, ◌*◌, ◌^◌, ◌≤◌, ◌<◌}
+use mathlib.Core.List.{List, map}
+use Prim.Native.Nat.{ℕ, suc, ◌+◌, ◌^◌, ◌≤◌, ◌<◌}
 use native.Mathlib.Omega.{arith}
 use native.Mathlib.Decide.{ℕ_discrete}
-use lib.ListN.{length, get_or, drop, set}
+use lib.ListN.{length, get_or, drop, set, drop_of_length-le}
 use lib.Seq.{get_or-set_same, get_or-set_other}
 use Rattle.endian.specs.Lists.{sum}
-use Rattle.endian.specs.Bytes.{u16}
-use Rattle.lexicon.specs.Lexicon.{node_count, sink_of, arc_count, successors}
+use Rattle.lexicon.specs.Lexicon.{node_count, sink_of, successors}
 use Rattle.graph.specs.Graph.{graph_of, sink}
 use Rattle.graph.proofs.Sound.{Sound}
+use Rattle.checking.specs.declared.Vertex.{Vertex}
+use Rattle.checking.specs.Tables.{no_vertex}
 use Rattle.checking.proofs.Arcs.{shape_of, sound_of}
 use Rattle.checking.proofs.Filling.{count-there}
 use Rattle.codes.specs.Lines.{arcs_on_ways, Countable, CountedFrom}
 use Rattle.codes.proofs.Sizes.{arcs-sink, arcs-below, arcs-most}
-use Rattle.codes.proofs.Heads.{Head, paths_of, head_at, none_left}
+use Rattle.codes.proofs.Heads.{ArcHere, paths_of}
 
--- what is added up, and what the successors from number i on have
+-- what is added up, with what the successors from number i on have, is what u has
 pub record Added (x : List ℕ) (u i total : ℕ) : Type 0 where
-  pub inside : i ≤ arc_count x u
   pub whole : total + sum (map (arcs_on_ways (graph_of x)) (drop i (successors x u))) ≡ arcs_on_ways (graph_of x) u
 
-module _ {x : List ℕ} {vertices : List (List ℕ)} (c : Countable x vertices) where
+module _ {x : List ℕ} {vertices : List Vertex} (c : Countable x vertices) where
   ok : Sound (graph_of x)
   ok = sound_of c.tabled.located.formed
 
@@ -35,40 +35,28 @@ module _ {x : List ℕ} {vertices : List (List ℕ)} (c : Countable x vertices) 
   total-fits {u} h = omega (arith, arcs-most ok (omega (arith, nodes.1)) u, c.few h)
 
   module _ {u : ℕ} (h : u ≤ node_count x) where
-    pub head : Head x u (get_or (get_or vertices u []) 0 0)
-    head = head_at c.tabled h
-
-    pub added_none : Added x u 0 (get_or (get_or vertices u []) 1 0)
+    pub added_none : Added x u 0 (get_or vertices u no_vertex).paths
     unfolding sink_of sink
-    added_none = record {
-      inside = omega arith;
-      whole = rw (paths_of c.tabled {u = u} (omega arith)) (sym (arcs-below ok (omega arith)));
-    }
+    added_none = record { whole = rw (paths_of c.tabled {u = u} (omega arith)) (sym (arcs-below ok (omega arith))) }
 
-    module _ {totals : List ℕ} (t : CountedFrom x totals (suc u)) where
-      pub added_next : {i total s : ℕ} → i < arc_count x u → s ≡ u16 x (get_or (get_or vertices u []) 0 0 + 2 + 2 * i)
-          → Added x u i total
-          → Added x u (i + 1) (total + get_or totals s 0)
-      unfolding sum
-      added_next {i} {total} {s} k e a =
-          let r = head.rises k in
-          let w : total + sum (map (arcs_on_ways (graph_of x)) (drop i (successors x u))) ≡ arcs_on_ways (graph_of x) u = a.whole in
-          record {
-            inside = omega arith;
-            whole = rw (e, t.holds r.0 r.1) (omega (arith, rw (head.next k) at w));
-          }
+    pub added_next : {totals : List ℕ} → CountedFrom x totals (suc u) → {i total s : ℕ} → ArcHere x u i s
+        → Added x u i total → Added x u (i + 1) (total + get_or totals s 0)
+    unfolding sum
+    added_next t {i} {total} {s} r a =
+        record { whole = rw (t.holds r.rises r.bounded) (let w = rw r.first at a.whole in omega (arith, w)) }
 
     pub added_most : {i total : ℕ} → Added x u i total → total < 2 ^ 32
     unfolding sink_of
     added_most a = omega (arith, a.whole, total-fits {u = u} (omega arith))
 
-    pub added_all : {i total : ℕ} → arc_count x u ≤ i → Added x u i total → total ≡ arcs_on_ways (graph_of x) u
+    pub added_all : {i total : ℕ} → length (successors x u) ≤ i → Added x u i total
+        → total ≡ arcs_on_ways (graph_of x) u
     unfolding sum
-    added_all {i} k a = let w = a.whole in omega (arith, rw (none_left x u i (omega (arith, a.inside))) at w)
+    added_all {i} k a = let w = rw (drop_of_length-le (successors x u) {i = i} k) at a.whole in omega (arith, w)
 
 -- ---- the table, from the sink down
 
-module _ {x : List ℕ} {vertices : List (List ℕ)} (c : Countable x vertices) where
+module _ {x : List ℕ} {vertices : List Vertex} (c : Countable x vertices) where
   pub counted_none : {totals : List ℕ} → get_or totals (sink_of x) 0 ≡ 0 → CountedFrom x totals (sink_of x)
   unfolding sink_of sink
   counted_none e = record { holds = λ {s} h k. let q : s ≡ sink_of x = omega arith in rw q (e ∙ sym (arcs-sink (ok c))) }

@@ -5,22 +5,24 @@ use mathlib.Core.Path.{◌≡◌, refl, sym, ap, ◌∙◌}
 use mathlib.Core.Bool.{Bool, true, false}
 use mathlib.Core.List.Memᴰ
 use mathlib.Core.List.{List, [], ◌∷◌, ◌++◌, map, map-append, append-nil}
+use native.Mathlib.Decide.{dec_lt}
 use native.Mathlib.Omega.{arith}
 use native.Mathlib.Numerals.{add-one}
-use lib.ListN.{length, take, drop, set, length-set, length-append}
+use lib.ListN.{length, take, drop, set, length-set, length-append, drop_of_length-le}
 use lib.Seq.{append_snoc, take-suc-set, length-take-le, drop-set-lt, drop-drop}
 use lib.Dec.{ltb, eqb}
 use borrow.Author.Tests.{ltb-true, ltb-false, eqb-true}
 use Rattle.endian.specs.Lists.{sum}
-use Rattle.endian.specs.Bytes.{u16}
 use Rattle.endian.proofs.Lists.{sum-append}
-use Rattle.lexicon.specs.Lexicon.{node_count, sink_of, node_letter, arcs_at, successors}
+use Rattle.lexicon.specs.Lexicon.{node_count, sink_of, node_letter, successors}
 use Rattle.graph.specs.Graph.{Graph, graph_of, sink, ArcPath, arrived, along, from_root, path_count, word_count, code_from}
 use Rattle.graph.specs.Graph.{path_code, path_letters}
 use Rattle.graph.proofs.Sound.{Sound, below-sink}
 use Rattle.graph.proofs.Codes.{path_count-sink, path_count-below, increment-at}
 use Rattle.graph.proofs.Paths.{full-paths, at_code}
-use Rattle.checking.proofs.Arcs.{ArcsToRead, ArcNext, arcs-start, arc-next, sound_of}
+use Rattle.checking.specs.declared.Vertex.{Vertex}
+use Rattle.checking.proofs.Arcs.{sound_of}
+use Rattle.codes.proofs.Heads.{ArcHere}
 use Rattle.codes.specs.Steps.{Tabled, Stepped, letters_of_code, Spellable, Spelled}
 use Rattle.codes.proofs.Words.{letters-node, letters-root, letters-beyond, letters-none, letters-at, code-short}
 
@@ -105,53 +107,39 @@ module _ {g : Graph} (ok : Sound g) where
 
 -- ---- the arcs of one vertex, in the image
 
--- the offset stands before the successors that are still to come
-pub record ArcsToPass (x : List ℕ) (u code at left : ℕ) : Type 0 where
-  pub later : List ℕ
-  pub stop : ℕ
-  pub arcs : ArcsToRead x u at stop later
-  pub passed : CodePassed (graph_of x) u code left later
+module _ {x : List ℕ} {vertices : List Vertex} (t : Tabled x vertices) {u : ℕ} (h : u ≤ node_count x) where
+  ok-image : Sound (graph_of x)
+  ok-image = sound_of t.located.formed
 
-inside : (x : List ℕ) {u : ℕ} → u ≤ node_count x → u < sink (graph_of x)
-unfolding sink
-inside x h = omega arith
+  below-end : u < sink (graph_of x)
+  unfolding sink
+  below-end = omega arith
 
-module _ {x : List ℕ} {vertices : List (List ℕ)} (t : Tabled x vertices) {u code : ℕ} (h : u ≤ node_count x) where
-  pub pass_start : {at : ℕ} → at ≡ arcs_at x u → code < path_count (graph_of x) u → ArcsToPass x u code (at + 2) code
-  pass_start e k = record {
-    later = successors x u;
-    stop = _;
-    arcs = arcs-start t.located.formed h e;
-    passed = passed_none (sound_of t.located.formed) (inside x h) k;
-  }
+  pub step-rises : {code s left : ℕ} → Stepped (graph_of x) u code s left → u < s
+  step-rises s = (ok-image.rises below-end s.arc).0
 
-  pub step-rises : {s left : ℕ} → Stepped (graph_of x) u code s left → u < s
-  step-rises s = ((sound_of t.located.formed).rises (inside x h) s.arc).0
+  pub pass_start : {code : ℕ} → code < path_count (graph_of x) u → CodePassed (graph_of x) u code code (successors x u)
+  pass_start k = passed_none ok-image below-end k
 
-  module _ {at left : ℕ} (p : ArcsToPass x u code at left) where
-    -- some arc is to come, since some of the code is left for it
-    pub pass_arc : ArcNext x u at p.stop p.later
-    unfolding sum
-    pass_arc = arc-next p.arcs (go p.later p.arcs p.passed.below)
-      where
-        go : (later : List ℕ) → ArcsToRead x u at p.stop later → left < sum (map (path_count (graph_of x)) later)
-            → at < p.stop
-        go [] a k = absurd (omega arith)
-        go (s ∷ later) a k = omega (arith, a.size)
+  module _ {code i s left : ℕ} (a : ArcHere x u i s) (p : CodePassed (graph_of x) u code left (drop i (successors x u))) where
+    pub pass_here : left < path_count (graph_of x) s → Stepped (graph_of x) u code s left
+    pass_here k = passed_here ok-image below-end (rw a.first at p) k
 
-    split : CodePassed (graph_of x) u code left (u16 x at ∷ pass_arc.others)
-    split = rw (← pass_arc.split) p.passed
+    pub pass_on : path_count (graph_of x) s ≤ left
+        → CodePassed (graph_of x) u code (left - path_count (graph_of x) s) (drop (i + 1) (successors x u))
+    pass_on k = passed_on_lem ok-image below-end (rw a.first at p) k
 
-    pub pass_here : left < path_count (graph_of x) (u16 x at) → Stepped (graph_of x) u code (u16 x at) left
-    pass_here k = passed_here (sound_of t.located.formed) (inside x h) split k
-
-    pub pass_on : path_count (graph_of x) (u16 x at) ≤ left → ArcsToPass x u code (at + 2) (left - path_count (graph_of x) (u16 x at))
-    pass_on k = record {
-      later = pass_arc.others;
-      stop = p.stop;
-      arcs = pass_arc.after;
-      passed = passed_on_lem (sound_of t.located.formed) (inside x h) split k;
-    }
+-- some arc is to come, since some of the code is left for it
+pub pass_more : (x : List ℕ) (u i : ℕ) {code left : ℕ} → CodePassed (graph_of x) u code left (drop i (successors x u))
+    → i < length (successors x u)
+unfolding sum
+pass_more x u i {code} {left} p = elim (dec_lt i (length (successors x u))) [
+  | yes h ↦ h
+  | no n ↦ absurd (none (drop_of_length-le (successors x u) {i = i} (omega arith)) p.below)
+]
+  where
+    none : {l : List ℕ} → l ≡ [] → left < sum (map (path_count (graph_of x)) l) → ⊥
+    none e k = let z = rw e at k in omega arith
 
 -- ---- the letters on the way
 
@@ -167,7 +155,7 @@ pub record LettersLeft (x : List ℕ) (code : ℕ) (before letters : List ℕ) (
       → letters_of_code (graph_of x) code ≡ take n letters ++ path_letters (graph_of x) (u ∷ q)
   pub rest : drop n letters ≡ drop n before
 
-module _ {x : List ℕ} {vertices : List (List ℕ)} (spell : Spellable x vertices)
+module _ {x : List ℕ} {vertices : List Vertex} (spell : Spellable x vertices)
     {code : ℕ} (k : code < word_count (graph_of x)) where
   ok : Sound (graph_of x)
   ok = sound_of spell.tabled.located.formed

@@ -17,6 +17,7 @@ use Rattle.graph.specs.Conditions.{many_words}
 use Rattle.graph.proofs.Sound.{Sound}
 use Rattle.graph.proofs.Accepted.{AcceptedImages, accepted, sound-images}
 use Rattle.graph.proofs.Ways.{way_on}
+use Rattle.checking.specs.declared.Vertex.{Vertex}
 use Rattle.checking.proofs.Reached.{count_within_words}
 use Rattle.codes.specs.Lookup.{listing}
 use Rattle.codes.specs.Steps.{OpenedImages}
@@ -25,7 +26,7 @@ use Rattle.codes.proofs.Words.{path_short, word-root}
 use Rattle.codes.proofs.Lines.{lines-root, listing-lines}
 use Rattle.codes.proofs.Sizes.{listing-size}
 
-module _ {v x : List ℕ} {vertices : List (List ℕ)} (r : OpenedImages v x vertices) where
+module _ {v x : List ℕ} {vertices : List Vertex} (r : OpenedImages v x vertices) where
   images : AcceptedImages v x
   images = accepted r.accepted
 

@@ -1,6 +1,6 @@
 -- The vocabulary of the contracts of listing's private functions: the lines that a walk writes from a vertex on, and
 -- how many bytes they are. `Countable` is what a lookup asks too. No public contract cites it. Assumes nothing.
-use Rattle.std.specs.Prelude.{ℕ, ◌+◌, ◌≤◌, ◌≡◌, length, take, drop, get_or, ltb}
+use Rattle.std.specs.Prelude.{ℕ, ◌+◌, ◌≤◌, ◌<◌, ◌≡◌, length, take, drop, get_or, ltb}
 use mathlib.Core.List.{List, [], ◌∷◌, ◌++◌, map, flat_map, Memᴰ}
 use Rattle.endian.specs.Lists.{sum}
 use Rattle.call.specs.declared.Refusal.TheVariants.{Output}
@@ -10,6 +10,7 @@ use Rattle.call.specs.Buffers.{written}
 use Rattle.lexicon.specs.Lexicon.{node_count, sink_of, successors}
 use Rattle.graph.specs.Graph.{Graph, graph_of, sink, ways, path_count}
 use Rattle.graph.specs.Words.{word_of_path}
+use Rattle.checking.specs.declared.Vertex.{Vertex}
 use Rattle.codes.specs.Steps.{Tabled, OpenedImages}
 
 -- ---- the lines
@@ -29,10 +30,17 @@ Fits v g depth u = (p : List ℕ) → Memᴰ p (ways g (sink g) u) → depth + l
 -- ---- the walk
 
 -- the walk goes through the arcs of u, the root or a node
-pub record WalksFrom (v x : List ℕ) (vertices : List (List ℕ)) (u depth : ℕ) : Type 0 where
+pub record WalksFrom (v x : List ℕ) (vertices : List Vertex) (u depth : ℕ) : Type 0 where
   pub opened : OpenedImages v x vertices
   pub below : u ≤ node_count x
   pub fits : {s : ℕ} → Memᴰ s (successors x u) → Fits v (graph_of x) depth s
+
+-- the walk enters u, a node or the sink
+pub record Enters (v x : List ℕ) (vertices : List Vertex) (u depth : ℕ) : Type 0 where
+  pub opened : OpenedImages v x vertices
+  pub above : 0 < u
+  pub bounded : u ≤ sink_of x
+  pub fits : Fits v (graph_of x) depth u
 
 -- the word has its 32 bytes, and the output has room for the lines from an offset on
 pub record RoomForLines (lines word out : List ℕ) (at : ℕ) : Type 0 where
@@ -55,7 +63,7 @@ unfoldable pub arcs_on_ways : Graph → ℕ → ℕ
 arcs_on_ways g u = sum (map length (ways g (sink g) u))
 
 -- the table of a lexicon that has no more words than any may have
-pub record Countable (x : List ℕ) (vertices : List (List ℕ)) : Type 0 where
+pub record Countable (x : List ℕ) (vertices : List Vertex) : Type 0 where
   pub tabled : Tabled x vertices
   pub few : {u : ℕ} → u ≤ sink_of x → path_count (graph_of x) u ≤ most_words
 

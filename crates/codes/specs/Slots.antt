@@ -5,11 +5,12 @@ use Rattle.call.specs.Table.{Answer, Row, on, unless}
 use Rattle.call.specs.Buffers.{written}
 use Rattle.graph.specs.Graph.{Graph, graph_of, word_count}
 use Rattle.graph.specs.Words.{letter_words}
+use Rattle.checking.specs.declared.Vertex.{Vertex}
 use Rattle.codes.specs.Steps.{Spellable}
 use Rattle.codes.specs.Gathering.{slot_bytes}
 
 -- what slots are written from: the table of a lexicon, and W
-pub record Gatherable (x : List ℕ) (vertices : List (List ℕ)) (words : ℕ) : Type 0 where
+pub record Gatherable (x : List ℕ) (vertices : List Vertex) (words : ℕ) : Type 0 where
   pub spell : Spellable x vertices
   pub count : words ≡ word_count (graph_of x)
 

@@ -9,15 +9,16 @@ use Rattle.graph.specs.Graph.{Graph, graph_of, path_count, increment}
 use Rattle.graph.specs.Words.{letter_words}
 use Rattle.graph.specs.Conditions.{has_long_word}
 use Rattle.graph.specs.Checking.{Accepted}
+use Rattle.checking.specs.declared.Vertex.{Vertex}
 use Rattle.checking.specs.Tables.{arcs_column, paths_column, TableOf, WithOffsets}
 
 -- a well-formed lexicon with the table of its vertices
-pub record Tabled (x : List ℕ) (vertices : List (List ℕ)) : Type 0 where
+pub record Tabled (x : List ℕ) (vertices : List Vertex) : Type 0 where
   pub located : WithOffsets x (arcs_column vertices)
   pub counted : TableOf (suc (sink_of x)) (path_count (graph_of x)) (paths_column vertices)
 
 -- what a call works with that no row of 1 to 10 ends: accepted images, and the table of vertices
-pub record OpenedImages (v x : List ℕ) (vertices : List (List ℕ)) : Type 0 where
+pub record OpenedImages (v x : List ℕ) (vertices : List Vertex) : Type 0 where
   pub accepted : Accepted v x
   pub tabled : Tabled x vertices
 
@@ -37,7 +38,7 @@ unfoldable pub letters_of_code : Graph → ℕ → List ℕ
 letters_of_code g code = get_or (letter_words g) code []
 
 -- the table of a lexicon with no word too long for 32 bytes
-pub record Spellable (x : List ℕ) (vertices : List (List ℕ)) : Type 0 where
+pub record Spellable (x : List ℕ) (vertices : List Vertex) : Type 0 where
   pub tabled : Tabled x vertices
   pub short : has_long_word (graph_of x) ≡ false
 

@@ -7,9 +7,10 @@ ghost use Rattle.graph.specs.Graph.{graph_of, path_count, word_count};
 ghost use Rattle.graph.specs.Words.{spelled};
 ghost use Rattle.codes.specs.Steps.{Tabled, Stepped, letters_of_code, Spellable, Spelled, Printable, room_answer};
 
-use crate::image::number_at;
-use call::{Answer, Refusal};
-use checking::{ARCS_AT, PATHS};
+use call::Refusal;
+use checking::Vertex;
+use endian::{number_of, u16_at};
+use lexicon::list_at;
 
 // The vertex that an arc leads to, and what is left of a code behind the arc.
 #[derive(Drop)]
@@ -20,16 +21,15 @@ struct Step {
 
 // The arc along which the code leads, and what of the code is left behind it: the path counts of the successors before
 // it are taken off.
-fn descend(lexicon: &[u8], vertices: &[[u32; 4]; 402], vertex: usize, code: u32) -> Step
+fn descend(lexicon: &[u8], vertices: &[Vertex; 402], vertex: usize, code: u32) -> Step
     requires tabled { Tabled lexicon.now vertices.now }
     requires vertex_bound { (vertex ≤ node_count lexicon.now) × (code < path_count (graph_of lexicon.now) vertex) }
     ensures { Stepped (graph_of lexicon.now) vertex code result.vertex result.code }
 {
-    let mut at = vertices[vertex][ARCS_AT] as usize + 2;
     let mut left = code;
-    loop {
-        let next = number_at(lexicon, at);
-        let count = vertices[next][PATHS];
+    for &pair in list_at(lexicon, vertices[vertex].arcs_at as usize) {
+        let next = number_of(pair) as usize;
+        let count = vertices[next].paths;
         if left < count {
             return Step {
                 vertex: next,
@@ -37,14 +37,15 @@ fn descend(lexicon: &[u8], vertices: &[[u32; 4]; 402], vertex: usize, code: u32)
             };
         }
         left -= count;
-        at += 2;
     }
+    // the code is below the path counts of all of them together
+    unreachable!()
 }
 
 // Writes the letters of the word of a code below W, as indexes, and answers their number.
 pub(crate) fn spell(
     lexicon: &[u8],
-    vertices: &[[u32; 4]; 402],
+    vertices: &[Vertex; 402],
     code: u32,
     letters: &mut [u8; 32],
 ) -> usize
@@ -53,23 +54,25 @@ pub(crate) fn spell(
     ensures { Spelled (letters_of_code (graph_of lexicon.now) code) letters.old
         letters.new result }
 {
-    let sink = number_at(lexicon, 0) + 1;
-    let first = descend(lexicon, vertices, 0, code);
-    let mut vertex = first.vertex;
-    let mut left = first.code;
+    let sink = u16_at(lexicon, 0) as usize + 1;
+    let mut step = descend(lexicon, vertices, 0, code);
     let mut length = 0;
-    while vertex < sink {
-        letters[length] = lexicon[1 + vertex];
+    // the walk ends at the sink, after as many letters as the word has: a `for` would have to count to a limit
+    while step.vertex < sink {
+        letters[length] = lexicon[1 + step.vertex];
         length += 1;
-        let next = descend(lexicon, vertices, vertex, left);
-        vertex = next.vertex;
-        left = next.code;
+        step = descend(lexicon, vertices, step.vertex, step.code);
     }
     length
 }
 
 // Writes the first n letters at the output's start, as print bytes, or answers 16 where they have no room.
-pub(crate) fn put_word(voice: &[u8], out: &mut [u8], letters: &[u8; 32], n: usize) -> Answer
+pub(crate) fn put_word(
+    voice: &[u8],
+    out: &mut [u8],
+    letters: &[u8; 32],
+    n: usize,
+) -> Result<u32, Refusal>
     requires { (n ≤ 32) × (length letters.now ≡ 32) × Printable voice.now (take n letters.now) }
     ensures result_value { answer_of result ≡ room_answer (spelled voice.now (take n letters.now))
         out.old }
@@ -77,12 +80,10 @@ pub(crate) fn put_word(voice: &[u8], out: &mut [u8], letters: &[u8; 32], n: usiz
         (spelled voice.now (take n letters.now)) out.old }
 {
     if out.len() < n {
-        return Answer::Refused(Refusal::Output);
+        return Err(Refusal::Output);
     }
-    let mut i = 0;
-    while i < n {
+    for i in 0..n {
         out[i] = voice[1 + 2 * letters[i] as usize];
-        i += 1;
     }
-    Answer::Value(n as u32)
+    Ok(n as u32)
 }

@@ -7,7 +7,8 @@ ghost use Rattle.codes.specs.Gathering.{slot_of};
 ghost use Rattle.codes.specs.Slots.{Gatherable, SlotsAnswered};
 
 use crate::descent::spell;
-use call::{Answer, Refusal};
+use call::Refusal;
+use checking::Vertex;
 
 // The bytes of a slot: the length of a word, and room for its letters.
 const SLOT: usize = 33;
@@ -16,7 +17,7 @@ const SLOT: usize = 33;
 const WORDS: u32 = 2000;
 
 // Writes the slot of a code below W from an offset on, whole, since the output may hold anything.
-fn put_slot(lexicon: &[u8], vertices: &[[u32; 4]; 402], code: u32, out: &mut [u8], at: usize)
+fn put_slot(lexicon: &[u8], vertices: &[Vertex; 402], code: u32, out: &mut [u8], at: usize)
     requires spellable { Spellable lexicon.now vertices.now }
     requires code_bound { (code < word_count (graph_of lexicon.now)) × (at + 33 ≤ length out.old) }
     ensures { out.new ≡ take at out.old
@@ -25,34 +26,28 @@ fn put_slot(lexicon: &[u8], vertices: &[[u32; 4]; 402], code: u32, out: &mut [u8
     let mut letters = [0u8; 32];
     let n = spell(lexicon, vertices, code, &mut letters);
     out[at] = n as u8;
-    let mut i = 0;
-    while i < 32 {
-        out[at + 1 + i] = letters[i];
-        i += 1;
-    }
+    out[at + 1..at + SLOT].copy_from_slice(&letters);
 }
 
 // Rows 17 and 16, and then a slot for each code.
 pub(crate) fn put_slots(
     lexicon: &[u8],
-    vertices: &[[u32; 4]; 402],
+    vertices: &[Vertex; 402],
     words: u32,
     out: &mut [u8],
-) -> Answer
+) -> Result<u32, Refusal>
     requires { Gatherable lexicon.now vertices.now words }
     ensures { SlotsAnswered (graph_of lexicon.now) (answer_of result) out.old
         out.new }
 {
     if WORDS < words {
-        return Answer::Refused(Refusal::WordList);
+        return Err(Refusal::WordList);
     }
     if out.len() < SLOT * words as usize {
-        return Answer::Refused(Refusal::Output);
+        return Err(Refusal::Output);
     }
-    let mut code = 0;
-    while code < words {
+    for code in 0..words {
         put_slot(lexicon, vertices, code, out, SLOT * code as usize);
-        code += 1;
     }
-    Answer::Value(words)
+    Ok(words)
 }

@@ -10,8 +10,8 @@ ghost use Rattle.codes.specs.Gathering.{gather_answer, gather_work, gather_out};
 use crate::descent::{put_word, spell};
 use crate::gathering::put_slots;
 use crate::listing::put_listing;
-use call::{Answer, Refusal};
-use checking::open;
+use call::Refusal;
+use checking::{Vertex, open};
 
 mod descent;
 mod gathering;
@@ -25,7 +25,7 @@ pub fn code_to_word(
     code: u32,
     work: &mut [u8],
     out: &mut [u8],
-) -> Answer
+) -> Result<u32, Refusal>
     ensures result_value { answer_of result ≡ code_to_word_answer voice.now lexicon.now code work.old
         out.old }
     ensures work_after { work.new ≡ code_to_word_work voice.now lexicon.now code
@@ -33,13 +33,10 @@ pub fn code_to_word(
     ensures out_after { out.new ≡ code_to_word_out voice.now lexicon.now code
         work.old out.old }
 {
-    let mut vertices = [[0u32; 4]; 402];
-    let opened = open(voice, lexicon, work, &mut vertices);
-    let Answer::Value(words) = opened else {
-        return opened;
-    };
+    let mut vertices = [Vertex::BLANK; 402];
+    let words = open(voice, lexicon, work, &mut vertices)?;
     if words <= code {
-        return Answer::Refused(Refusal::Code);
+        return Err(Refusal::Code);
     }
     let mut letters = [0u8; 32];
     let n = spell(lexicon, &vertices, code, &mut letters);
@@ -47,33 +44,27 @@ pub fn code_to_word(
 }
 
 // Writes the words in code order, each followed by byte 10, and answers the bytes written.
-pub fn list(voice: &[u8], lexicon: &[u8], work: &mut [u8], out: &mut [u8]) -> Answer
+pub fn list(voice: &[u8], lexicon: &[u8], work: &mut [u8], out: &mut [u8]) -> Result<u32, Refusal>
     ensures result_value { answer_of result ≡ list_answer voice.now lexicon.now work.old
         out.old }
     ensures work_after { work.new ≡ list_work voice.now lexicon.now work.old }
     ensures out_after { out.new ≡ list_out voice.now lexicon.now work.old
         out.old }
 {
-    let mut vertices = [[0u32; 4]; 402];
-    let answer = open(voice, lexicon, work, &mut vertices);
-    match answer {
-        Answer::Value(_) => put_listing(voice, lexicon, &vertices, out),
-        Answer::Refused(_) => answer,
-    }
+    let mut vertices = [Vertex::BLANK; 402];
+    open(voice, lexicon, work, &mut vertices)?;
+    put_listing(voice, lexicon, &vertices, out)
 }
 
 // Writes the words in code order as letter indexes, each in a slot of 33 bytes, and answers their number.
-pub fn gather(voice: &[u8], lexicon: &[u8], work: &mut [u8], out: &mut [u8]) -> Answer
+pub fn gather(voice: &[u8], lexicon: &[u8], work: &mut [u8], out: &mut [u8]) -> Result<u32, Refusal>
     ensures result_value { answer_of result ≡ gather_answer voice.now lexicon.now work.old
         out.old }
     ensures work_after { work.new ≡ gather_work work.old }
     ensures out_after { out.new ≡ gather_out voice.now lexicon.now work.old
         out.old }
 {
-    let mut vertices = [[0u32; 4]; 402];
-    let answer = open(voice, lexicon, work, &mut vertices);
-    match answer {
-        Answer::Value(words) => put_slots(lexicon, &vertices, words, out),
-        Answer::Refused(_) => answer,
-    }
+    let mut vertices = [Vertex::BLANK; 402];
+    let words = open(voice, lexicon, work, &mut vertices)?;
+    put_slots(lexicon, &vertices, words, out)
 }

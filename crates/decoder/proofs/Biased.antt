@@ -1,31 +1,23 @@
 -- A number and the score that it stands for; and which stored scores are possible. Assumes nothing.
-use Prim.Native.Nat.{ℕ, suc, ◌+◌, ◌-◌, ◌^◌, ◌≤◌, ◌<◌}
+use Prim.Native.Nat.{ℕ, suc, ◌+◌, ◌-◌, ◌^◌, ◌≤◌, ◌<◌, max, min}
 use mathlib.Core.Path.{◌≡◌, refl, sym, ap, ◌∙◌}
 use mathlib.Core.Bool.{Bool, true, false}
 use mathlib.Core.Option.{none, some}
+use native.Mathlib.Decide.{dec_lt}
 use native.Mathlib.Omega.{arith}
 use borrow.Author.Tests.{lt-ltb, le-ltb, ltb-true, ltb-false, lt-leb}
 use lib.Dec.{ltb}
-use lib.IntN.{ℤ, pos, negsuc, sub_ℕ, nat_abs, ◌-ℤ◌}
+use lib.IntN.{ℤ, pos, negsuc, sub_ℕ, nat_abs, ◌+ℤ◌, ◌-ℤ◌}
 use lib.Signed.{mag}
 use mir.Syntax.{w16, w32}
 use mir.Val.{SFits, of_z, to_z}
-use mir.Facts.{to_z-of_z}
+use mir.Facts.{to_z-of_z, sfits_widen}
 use Rattle.endian.proofs.Signed.{to_z_low}
 use Rattle.endian.proofs.Integers.{up, down}
 use Rattle.voice.specs.Voice.{impossible}
 use Rattle.endian.specs.Integers.{eq_z}
 use Rattle.decoder.specs.StatePaths.{score_limit}
-use Rattle.decoder.specs.Score.{bias, raised, number_of, value_of, possible}
-
--- a difference raised
-pub raised-sub : (k n m : ℕ) → m ≤ n + k → raised k (sub_ℕ n m) ≡ n + k - m
-unfolding raised
-raised-sub k n m h = go (ltb n m) refl
-  where
-    go : (b : Bool) → ltb n m ≡ b → raised k (sub_ℕ n m) ≡ n + k - m
-    go true p = let l = ltb-true n m p in rw (lt-ltb n m l) (omega arith)
-    go false p = let l = ltb-false n m p in rw (le-ltb n m l) (omega arith)
+use Rattle.decoder.specs.Score.{bias, raised, value_of, possible}
 
 -- by the two parts of the score
 pub raised_is : (k : ℕ) (z : ℤ) → nat_abs z ≤ k → raised k z + down z ≡ k + up z
@@ -33,9 +25,26 @@ unfolding raised up down
 raised_is k (pos n) h = omega arith
 raised_is k (negsuc n) h = omega arith
 
--- a score to which 2^15 were added, with the rest of the bias
-pub biased_is : (b : ℕ) (z : ℤ) → sub_ℕ b 32768 ≡ z → bias - 32768 + b ≡ raised bias z
-biased_is b z e = let r = raised-sub bias b 32768 (omega arith) in omega (arith, rw e at r)
+sum-is : (z : ℤ) → mag z < 32768 → z +ℤ pos bias ≡ pos (raised bias z)
+unfolding raised
+sum-is (pos n) h = ap pos (omega arith)
+sum-is (negsuc n) h = rw (le-ltb bias (suc n) (omega arith))
+
+raised-below : (z : ℤ) → mag z < 32768 → raised bias z < 2 ^ 31
+unfolding raised
+raised-below (pos n) h = omega arith
+raised-below (negsuc n) h = omega arith
+
+-- a stored score with the bias, as the code puts it on
+module _ (z : ℤ) (f : SFits w16 z) where
+  with-bias : to_z w32 (of_z w32 z) +ℤ pos bias ≡ pos (raised bias z)
+  with-bias = rw (to_z-of_z {w = w32} (sfits_widen {w = w16} tt f)) (sum-is z f.sfits)
+
+  pub with-bias-fits : SFits w32 (to_z w32 (of_z w32 z) +ℤ pos bias)
+  with-bias-fits = rw with-bias (record { sfits = raised-below z f.sfits })
+
+  pub with-bias-is : to_z w32 (of_z w32 (to_z w32 (of_z w32 z) +ℤ pos bias)) ≡ pos (raised bias z)
+  with-bias-is = to_z-of_z with-bias-fits ∙ with-bias
 
 -- ---- a number without the bias, as the code takes it off
 
@@ -66,6 +75,16 @@ value-below n h = rw (lt-ltb n (bias - score_limit) h)
 pub value-above : (n : ℕ) → bias + score_limit < n → value_of n ≡ sub_ℕ (bias + score_limit) bias
 unfolding value_of score_limit
 value-above n h = rw (le-ltb n (bias - score_limit) (omega arith), lt-ltb (bias + score_limit) n h)
+
+-- a number that is held within the limits
+pub value-clamped : (n m : ℕ) → m ≡ max (bias - score_limit) (min n (bias + score_limit)) → value_of n ≡ sub_ℕ m bias
+unfolding score_limit
+value-clamped n m e = go (dec_lt n (bias - score_limit)) (dec_lt (bias + score_limit) n)
+  where
+    go : Dec (n < bias - score_limit) → Dec (bias + score_limit < n) → value_of n ≡ sub_ℕ m bias
+    go (yes l) h = let is : m ≡ bias - score_limit = omega arith in rw is (value-below n l)
+    go (no l) (yes h) = let is : m ≡ bias + score_limit = omega arith in rw is (value-above n h)
+    go (no l) (no h) = let is : m ≡ n = omega arith in rw is (value-within n (omega arith) (omega arith))
 
 -- a score within the limits is the value of its number
 pub value-back : (z : ℤ) → nat_abs z ≤ score_limit → value_of (raised bias z) ≡ z

@@ -1,8 +1,7 @@
 // The score of a token. It is held as a number without a sign: the score plus the bias, and 0 for 'no token', so that a
 // work space of zeros holds no token at all.
-ghost use Rattle.std.specs.Prelude.{◌≡◌, ◌<◌, eqb};
+ghost use Rattle.std.specs.Prelude.{◌≡◌, eqb};
 ghost use Rattle.std.proofs.Math.Option.{none};
-ghost use Rattle.std.proofs.Math.IntN.{sub_ℕ};
 ghost use Rattle.decoder.specs.Score.{possible, number_of, value_of};
 
 // What is added to a score so that it has no sign.
@@ -11,7 +10,7 @@ pub const BIAS: u32 = 134217728;
 // The score of the voice model that means impossible.
 pub const STORED_IMPOSSIBLE: i16 = -32768;
 
-#[derive(Clone, Copy)]
+#[derive(Clone, Copy, PartialEq, Eq, PartialOrd, Ord)]
 pub struct Score(pub u32);
 
 impl Score {
@@ -25,42 +24,25 @@ impl Score {
     pub fn is_impossible(self) -> bool
         ensures { result ≡ eqb self.0 (number_of none) }
     {
-        let none = Score::IMPOSSIBLE;
-        self.0 == none.0
+        self == Score::IMPOSSIBLE
     }
 
-    // A score of the voice model; -32,768 means impossible.
+    // A score of the voice model; -32,768 means impossible. It is no `From`, which would hide that one i16 is no score.
     pub fn from_stored(stored: i16) -> Score
         ensures { result.0 ≡ number_of (possible stored) }
     {
         if stored == STORED_IMPOSSIBLE {
             return Score::IMPOSSIBLE;
         }
-        Score(BIAS - 32768 + raised(stored))
+        Score((i32::from(stored) + BIAS as i32) as u32)
     }
 
-    // The score as a hit has it. No word's score passes the limits; a number that does gives the limit that it passes,
-    // and so 0, which is no score's, the lowest.
+    // The score as a hit has it. It is no `From`, since it holds a number within the limits: no word's score passes
+    // them, a number that does gives the limit that it passes, and so 0, which is no score's, the lowest.
     pub fn value(self) -> i32
         ensures { result ≡ value_of self.0 }
     {
-        let lowest = Score::LOWEST;
-        let highest = Score::HIGHEST;
-        if self.0 < lowest.0 {
-            return lowest.0 as i32 - BIAS as i32;
-        }
-        if highest.0 < self.0 {
-            return highest.0 as i32 - BIAS as i32;
-        }
-        self.0 as i32 - BIAS as i32
+        let number = self.0.clamp(Score::LOWEST.0, Score::HIGHEST.0);
+        number as i32 - BIAS as i32
     }
-}
-
-// A score of the voice model plus 2^15.
-fn raised(stored: i16) -> u32
-    ensures result_value { sub_ℕ result 32768 ≡ stored }
-    ensures upper_bound { result < 65536 }
-{
-    let wide = stored as i32;
-    (wide + 32768) as u32
 }

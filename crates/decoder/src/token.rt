@@ -4,7 +4,6 @@ ghost use Rattle.std.specs.Prelude.{◌≡◌, ◌+◌, ◌-◌, ◌*◌, ◌/�
 ghost use Rattle.decoder.specs.Token.{unit, code_part, same_code, token_bytes};
 
 use crate::score::Score;
-use endian::u32_bytes;
 
 // One point of score in a token.
 pub const UNIT: u64 = 4294967296;
@@ -13,14 +12,16 @@ pub const UNIT: u64 = 4294967296;
 // off again; a move that adds it and takes it off scores 0.
 pub const LIFT: u64 = 576460752303423488;
 
-#[derive(Clone, Copy)]
+#[derive(Clone, Copy, PartialEq, Eq, PartialOrd, Ord)]
 pub struct Token(pub u64);
 
 impl Token {
-    // No token: `Score::IMPOSSIBLE`, with nothing below it.
+    // No token: `Score::IMPOSSIBLE`, with nothing below it. It is a number and no `Option`, which would take twice the
+    // bytes: a work space of zeros holds no token.
     pub const NONE: Token = Token(0);
 
-    // A candidate's: its score is possible.
+    // A candidate's: its score is possible. No `From`, since a token is made of two values, and none of the methods
+    // below, since each gives a part of it.
     pub fn of(score: Score, code: u32) -> Token
         ensures { result.0 ≡ score.0 * unit + (unit - 1 - code) }
     {
@@ -30,8 +31,7 @@ impl Token {
     pub fn is_none(self) -> bool
         ensures { result ≡ eqb self.0 0 }
     {
-        let none = Token::NONE;
-        self.0 == none.0
+        self == Token::NONE
     }
 
     pub fn score(self) -> Score
@@ -49,7 +49,7 @@ impl Token {
     pub fn outranks(self, other: Token) -> bool
         ensures { result ≡ ltb other.0 self.0 }
     {
-        other.0 < self.0
+        other < self
     }
 
     // The low half tells the code.
@@ -63,10 +63,6 @@ impl Token {
     pub fn bytes(self) -> [u8; 8]
         ensures { result ≡ token_bytes self.0 }
     {
-        let low = u32_bytes((self.0 % UNIT) as u32);
-        let high = u32_bytes((self.0 / UNIT) as u32);
-        [
-            low[0], low[1], low[2], low[3], high[0], high[1], high[2], high[3],
-        ]
+        self.0.to_le_bytes()
     }
 }

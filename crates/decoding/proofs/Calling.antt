@@ -27,7 +27,7 @@ module _ (v x frames work out : List ℕ) (n : ℕ) where
   pub decode_refused : {r : Refusal} → search_answer v x frames n work out ≡ refused r → decode_answer v x frames n
       work out ≡ refused r
   unfolding search_answer decode_answer
-  decode_refused e = refused_with {A = ℕ} (decode_rows v x frames n work out) 0 _ e
+  decode_refused e = refused_with {A = Unit {0}} (decode_rows v x frames n work out) tt _ e
 
   pub out-refused : {r : Refusal} → decode_answer v x frames n work out ≡ refused r → decode_out v x frames n work out
       ≡ out
@@ -40,11 +40,11 @@ module _ (v x frames work out : List ℕ) (n : ℕ) where
   unfolding hits
   few_hits = omega (arith, length-take n (row v (graph_of x) frames))
 
-  module _ {k : ℕ} (e : search_answer v x frames n work out ≡ value k) where
+  module _ {k : Unit {0}} (e : search_answer v x frames n work out ≡ value k) where
     pub call-answer : decode_answer v x frames n work out ≡ value (length (hits v (graph_of x) frames n))
     unfolding search_answer decode_answer
     call-answer = unless-value (decode_rows v x frames n work out) _
-        (value-passed {A = ℕ} (decode_rows v x frames n work out) 0 k e).0
+        (value-passed {A = Unit {0}} (decode_rows v x frames n work out) tt k e).0
 
     pub call-out : hit_bytes (hits v (graph_of x) frames n) ++ drop
         (length (hit_bytes (hits v (graph_of x) frames n))) out ≡ decode_out v x frames n work out

@@ -8,16 +8,6 @@ ghost use Rattle.decoding.specs.Listing.{hit_of, hits_of, Listable};
 use decoder::token::Token;
 use endian::{i32_bytes, u32_bytes};
 
-fn put_bytes(out: &mut [u8], at: usize, bytes: [u8; 4])
-    requires { (at + 4 ≤ length out.old) × (length bytes ≡ 4) }
-    ensures { out.new ≡ sets out.old at bytes }
-{
-    out[at] = bytes[0];
-    out[at + 1] = bytes[1];
-    out[at + 2] = bytes[2];
-    out[at + 3] = bytes[3];
-}
-
 // A hit is written in 8 bytes: i32 score, u32 code.
 fn put_hit(out: &mut [u8], at: usize, token: Token)
     requires { at + 8 ≤ length out.old }
@@ -25,8 +15,8 @@ fn put_hit(out: &mut [u8], at: usize, token: Token)
         ≡ sets out.old at (i32_bytes (hit_of token.0).score ++ u32_bytes (hit_of token.0).code) }
 {
     let score = token.score();
-    put_bytes(out, at, i32_bytes(score.value()));
-    put_bytes(out, at + 4, u32_bytes(token.code()));
+    out[at..at + 4].copy_from_slice(&i32_bytes(score.value()));
+    out[at + 4..at + 8].copy_from_slice(&u32_bytes(token.code()));
 }
 
 // Writes the hits of a list of tokens, up to no token, and answers how many; the bytes after them keep their values.
@@ -36,14 +26,12 @@ pub(crate) fn put_hits(tokens: &[u64; 8], out: &mut [u8]) -> u32
         out.old }
     ensures value { result ≡ length (hits_of tokens.now) }
 {
-    let mut i = 0;
-    while i < 8 {
+    for i in 0..8 {
         let token = Token(tokens[i]);
         if token.is_none() {
             return i as u32;
         }
         put_hit(out, 8 * i, token);
-        i += 1;
     }
     8
 }

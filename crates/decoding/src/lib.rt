@@ -7,7 +7,7 @@ ghost use Rattle.decoder.specs.Decoding.{decode_answer, decode_out, decode_work}
 ghost use Rattle.decoder.specs.Demand.{MeetsDemand3};
 
 use crate::hits::put_hits;
-use call::Answer;
+use call::Refusal;
 use search::search;
 
 mod hits;
@@ -20,17 +20,14 @@ pub fn decode(
     n: u32,
     work: &mut [u8],
     out: &mut [u8],
-) -> Answer
+) -> Result<u32, Refusal>
     ensures result_value { answer_of result ≡ decode_answer voice.now lexicon.now frames.now n work.old out.old }
     ensures work_after { work.new ≡ decode_work voice.now lexicon.now frames.now n work.old }
     ensures out_after { out.new ≡ decode_out voice.now lexicon.now frames.now n work.old out.old }
     ensures meets_demand3 { MeetsDemand3 voice.now lexicon.now frames.now n (answer_of result) out.new }
 {
     let mut tokens = [0; 8];
-    let answer = search(voice, lexicon, frames, n, work, &out[..], &mut tokens);
-    let Answer::Value(_) = answer else {
-        return answer;
-    };
+    search(voice, lexicon, frames, n, work, &out[..], &mut tokens)?;
     let listed = put_hits(&tokens, out);
-    Answer::Value(listed)
+    Ok(listed)
 }

@@ -10,3 +10,4 @@ pub mod Differences
 pub mod Integers
 pub mod Bytes
 pub mod Stores
+pub mod Library

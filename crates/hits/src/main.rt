@@ -10,16 +10,9 @@ use reading::read_full;
 use report::report;
 use std::io;
 
-// Room for all input that matters.
-fn input_space() -> [u8; 132076] {
-    [0; 132076]
-}
-
 fn main(rt: HostRuntime) -> io::Result<()> {
-    let mut input = input_space();
+    let mut input = [0; 132076];
     let got = read_full(&mut rt.stdin(), &mut input)?;
     let page = report(&input[..got]);
-    let text = page.text;
-    let length = page.length;
-    rt.write_all(&text[..length])
+    rt.write_all(&page.text[..page.length])
 }

@@ -6,3 +6,4 @@ pub mod Tiling
 pub mod Sections
 pub mod Shape
 pub mod Refusals
+pub mod Listed

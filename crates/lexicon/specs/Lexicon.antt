@@ -40,6 +40,15 @@ unfoldable pub successor_part : List ℕ → ℕ → List ℕ
 successor_part x u =
     cond (leb u (node_count x) && leb (arcs_at x (suc u)) (length x)) (take (2 * arc_count x u) (drop (arcs_at x u + 2) x)) []
 
+-- The numbers of the list that stands at an offset behind its count, for any bytes and any offset: none where the bytes
+-- end before it does
+unfoldable pub listed : List ℕ → ℕ → List ℕ
+listed x at = cond (leb (at + 2 + 2 * u16 x at) (length x)) (u16s x (at + 2) (u16 x at)) []
+
+-- the numbers that stand in two bytes each
+unfoldable pub numbers_of : List (List ℕ) → List ℕ
+numbers_of pairs = map (λ pair. u16 pair 0) pairs
+
 -- where the section Reserve begins
 unfoldable pub reserve_at : List ℕ → ℕ
 reserve_at x = arcs_at x (sink_of x)

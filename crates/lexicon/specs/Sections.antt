@@ -1,20 +1,22 @@
 -- The vocabulary of the contracts of the private functions that judge a lexicon image, section by section: what a function finds of some
 -- fields, and what that says of the verdict, whatever fields come later. No public contract cites it. Assumes nothing.
-use Rattle.std.specs.Prelude.{ℕ, suc, ◌+◌, ◌≤◌, ◌≡◌, cond, ◌&&◌, List, [], ◌∷◌, ◌++◌, length, get_or, eqb, leb}
+use Rattle.std.specs.Prelude.{ℕ, suc, ◌+◌, ◌≤◌, ◌≡◌, Result, Ok, Err, cond, ◌&&◌, List, [], ◌∷◌, ◌++◌, length, get_or, eqb, leb}
 use Rattle.endian.specs.Lists.{within}
 use Rattle.endian.specs.Bytes.{u16}
-use Rattle.voice.specs.declared.Verdict as declared
-use Rattle.voice.specs.declared.Verdict.TheVariants.{WrongLength, OutOfRange}
-use Rattle.voice.specs.Fields.{Field, field, verdict, verdict_of}
-use Rattle.lexicon.specs.declared.fields.Found.{Found}
-use Rattle.lexicon.specs.declared.fields.Found.TheVariants.{Good, Bad}
+use Rattle.voice.specs.declared.Fault.{Fault}
+use Rattle.voice.specs.declared.Fault.TheVariants.{WrongLength, OutOfRange}
+use Rattle.voice.specs.Fields.{Field, field, verdict, fault_verdict}
 use Rattle.lexicon.specs.Lexicon.{node_count, sink_of, arcs_at, arc_count, successors, node_fields, successor_fields, arc_fields, reserve_at}
+
+-- what is found of some fields: all are good, and a number that the function names; or the fault of the first bad one
+abbrev pub Found : Type 0
+Found = Result ℕ Fault
 
 -- ---- one field
 
 -- a u16 that is there and in its range
 unfoldable pub number_at : List ℕ → ℕ → ℕ → ℕ → Found
-number_at x at low high = cond (leb (at + 2) (length x)) (cond (within low high (u16 x at)) (Good (u16 x at)) (Bad OutOfRange)) (Bad WrongLength)
+number_at x at low high = cond (leb (at + 2) (length x)) (cond (within low high (u16 x at)) (Ok (u16 x at)) (Err OutOfRange)) (Err WrongLength)
 
 -- the highest successor that u may have among n nodes
 unfoldable pub highest_of : ℕ → ℕ → ℕ
@@ -22,8 +24,8 @@ highest_of u n = cond (eqb u 0) n (n + 1)
 
 -- a vertex that the table has not marked yet
 abbrev pub unmarked : List ℕ → ℕ → Found → Found
-unmarked seen mark (Good s) = cond (eqb (get_or seen s 0) mark) (Bad OutOfRange) (Good s)
-unmarked seen mark (Bad v) = Bad v
+unmarked seen mark (Ok s) = cond (eqb (get_or seen s 0) mark) (Err OutOfRange) (Ok s)
+unmarked seen mark (Err f) = Err f
 
 -- a successor of u: it rises, has its bound, and is not marked for u
 unfoldable pub arc_at : List ℕ → ℕ → ℕ → ℕ → List ℕ → Found
@@ -37,8 +39,8 @@ FieldsGood x at fields stop =
     (later : List Field) → verdict (length x) at (fields ++ later) ≡ verdict (length x) stop later
 
 -- one of them is bad and decides
-abbrev pub FieldsBad : List ℕ → ℕ → List Field → declared.Verdict → Type 0
-FieldsBad x at fields v = (later : List Field) → verdict (length x) at (fields ++ later) ≡ verdict_of v
+abbrev pub FieldsBad : List ℕ → ℕ → List Field → Fault → Type 0
+FieldsBad x at fields f = (later : List Field) → verdict (length x) at (fields ++ later) ≡ fault_verdict f
 
 -- ---- nodes
 
@@ -52,8 +54,8 @@ pub record NodesGood (L : ℕ) (x : List ℕ) (n : ℕ) : Type 0 where
   pub passes : FieldsGood x 0 (nodes_fields L x) (2 + n)
 
 abbrev pub NodesFound : ℕ → List ℕ → Found → Type 0
-NodesFound L x (Good n) = NodesGood L x n
-NodesFound L x (Bad v) = FieldsBad x 0 (nodes_fields L x) v
+NodesFound L x (Ok n) = NodesGood L x n
+NodesFound L x (Err f) = FieldsBad x 0 (nodes_fields L x) f
 
 -- ---- the list of a vertex
 
@@ -85,8 +87,8 @@ pub record ListGood (x : List ℕ) (u total : ℕ) (seen : List ℕ) (count : �
   pub passes : FieldsGood x (arcs_at x u) (list_fields x u total) (arcs_at x (suc u))
 
 abbrev pub ListFound : List ℕ → ℕ → ℕ → List ℕ → Found → Type 0
-ListFound x u total seen (Good count) = ListGood x u total seen count
-ListFound x u total seen (Bad v) = FieldsBad x (arcs_at x u) (list_fields x u total) v
+ListFound x u total seen (Ok count) = ListGood x u total seen count
+ListFound x u total seen (Err f) = FieldsBad x (arcs_at x u) (list_fields x u total) f
 
 -- ---- arcs
 
@@ -96,8 +98,8 @@ pub record ArcsGood (x : List ℕ) (at : ℕ) : Type 0 where
   pub passes : FieldsGood x (2 + node_count x) (arc_fields x 0 0 (sink_of x)) at
 
 abbrev pub ArcsFound : List ℕ → Found → Type 0
-ArcsFound x (Good at) = ArcsGood x at
-ArcsFound x (Bad v) = FieldsBad x (2 + node_count x) (arc_fields x 0 0 (sink_of x)) v
+ArcsFound x (Ok at) = ArcsGood x at
+ArcsFound x (Err f) = FieldsBad x (2 + node_count x) (arc_fields x 0 0 (sink_of x)) f
 
 -- ---- reserve
 

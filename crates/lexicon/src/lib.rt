@@ -3,20 +3,17 @@
 
 ghost use Rattle.std.specs.Prelude.{◌≡◌, ◌+◌, ◌*◌, ◌≤◌, min, length};
 ghost use Rattle.endian.specs.Bytes.{u16};
+ghost use Rattle.call.specs.Table.{refusal_of};
 ghost use Rattle.voice.specs.Fields.{verdict_of};
-ghost use Rattle.lexicon.specs.Lexicon.{arcs_at, successor_part, lexicon_refusal, lexicon_refused};
+ghost use Rattle.lexicon.specs.Lexicon.{arcs_at, listed, numbers_of, successor_part};
+ghost use Rattle.lexicon.specs.Lexicon.{lexicon_verdict, lexicon_refused};
 
-use crate::fields::{Found, arcs, nodes, reserve};
-use endian::u16_at;
-use voice::Verdict;
+use crate::fields::{arcs, nodes, reserve};
+use call::Refusal;
+use endian::{u16_at, u16_of};
+use voice::Fault;
 
 mod fields;
-
-pub(crate) fn least(a: usize, b: usize) -> usize
-    ensures { result ≡ min a b }
-{
-    if a < b { a } else { b }
-}
 
 // Past the count and the list of u16 that stand at `at`, or the end of the bytes where they end before the list does.
 fn skip(lexicon: &[u8], at: usize) -> usize
@@ -25,7 +22,7 @@ fn skip(lexicon: &[u8], at: usize) -> usize
 {
     let left = lexicon.len() - at;
     let size = 2 + 2 * (u16_at(lexicon, at) as usize);
-    at + least(size, left)
+    at + size.min(left)
 }
 
 // Where the list of a vertex begins, with its count, or the end of the bytes where they end before that.
@@ -33,17 +30,16 @@ fn arcs_at(lexicon: &[u8], vertex: usize) -> usize
     ensures { result ≡ min (arcs_at lexicon.now vertex) (length lexicon.now) }
 {
     let nodes = u16_at(lexicon, 0) as usize;
-    let mut at = least(2 + nodes, lexicon.len());
-    let mut u = 0;
-    while u < vertex {
+    let mut at = lexicon.len().min(2 + nodes);
+    for _u in 0..vertex {
         at = skip(lexicon, at);
-        u += 1;
     }
     at
 }
 
-// The part of the image that holds the successors of a vertex, for any bytes and any vertex: empty where the vertex is above the N read there or
-// the bytes end before its list does. Only its bytes are promised, not where in the image they lie.
+// The part of the image that holds the successors of a vertex, for any bytes and any vertex: empty where the vertex is
+// above the N read there or the bytes end before its list does. Only its bytes are promised, not where in the image
+// they lie.
 pub fn successors(lexicon: &[u8], vertex: usize) -> &[u8]
     ensures { result.now ≡ successor_part lexicon.now vertex }
 {
@@ -61,16 +57,43 @@ pub fn successors(lexicon: &[u8], vertex: usize) -> &[u8]
     &lexicon[start..end]
 }
 
-// The verdict on any bytes as a lexicon of words in so many letters, well formed, or 4, or 5: the first field that is
-// missing or out of its range decides, and bytes after the last come last.
-pub fn judge(lexicon: &[u8], letters: usize) -> Verdict
-    ensures { lexicon_refusal (verdict_of result) ≡ lexicon_refused letters lexicon.now }
+// The numbers of the list that stands at an offset behind its count, two bytes each, for any bytes and any offset: none
+// where the bytes end before the list does.
+pub fn list_at(lexicon: &[u8], at: usize) -> &[[u8; 2]]
+    ensures { numbers_of result.now ≡ listed lexicon.now at }
 {
-    match nodes(lexicon, letters) {
-        Found::Bad(v) => v,
-        Found::Good(n) => match arcs(lexicon, n) {
-            Found::Bad(v) => v,
-            Found::Good(at) => reserve(lexicon, at),
-        },
+    let Some(list) = lexicon.get(at..) else {
+        return &[];
+    };
+    let Some((&[lo, hi], rest)) = list.split_first_chunk::<2>() else {
+        return &[];
+    };
+    let count = u16_of(lo, hi) as usize;
+    let (numbers, _) = rest.as_chunks::<2>();
+    if numbers.len() < count {
+        return &[];
+    }
+    &numbers[..count]
+}
+
+// All fields, section by section: the first that is missing or out of its range decides, and bytes after the last come
+// last.
+fn judge_fields(lexicon: &[u8], letters: usize) -> Result<(), Fault>
+    ensures { verdict_of result ≡ lexicon_verdict letters lexicon.now }
+{
+    let n = nodes(lexicon, letters)?;
+    let end = arcs(lexicon, n)?;
+    reserve(lexicon, end)
+}
+
+// Whether any bytes are a well-formed lexicon of words in so many letters; if not, 4 or 5. It is no function over the
+// two refusals with `voice::judge`, since each image has its own judge of fields.
+pub fn judge(lexicon: &[u8], letters: usize) -> Result<(), Refusal>
+    ensures { refusal_of result ≡ lexicon_refused letters lexicon.now }
+{
+    match judge_fields(lexicon, letters) {
+        Ok(()) => Ok(()),
+        Err(Fault::WrongLength) => Err(Refusal::LexiconLength),
+        Err(Fault::OutOfRange) => Err(Refusal::LexiconRange),
     }
 }

@@ -4,7 +4,7 @@ use Prim.Native.Nat.{ℕ, ◌+◌, ◌*◌, ◌≤◌, ◌<◌}
 use mathlib.Core.Path.{◌≡◌, refl, sym, ap, ◌∙◌}
 use mathlib.Core.Bool.{Bool, true, false}
 use mathlib.Core.List.{List, [], ◌∷◌}
-use mathlib.Core.Option.{Option, none, some}
+use Rattle.std.proofs.Common.{Option, None, Some, ok_or}
 use native.Mathlib.Omega.{arith}
 use native.Mathlib.Decide.{dec_lt}
 use lib.ListN.{length, replicate, length-replicate}
@@ -15,7 +15,7 @@ use Rattle.endian.specs.Rows.{number_at}
 use Rattle.endian.proofs.Lists.{get_d_copies}
 use Rattle.call.specs.declared.Refusal.{Refusal}
 use Rattle.call.specs.declared.Refusal.TheVariants.{NoWord}
-use Rattle.call.specs.Table.{Answer, value, refused, on, unless}
+use Rattle.call.specs.Table.{Answer, value, refused, answer_of, on, unless}
 use Rattle.call.proofs.Table.{unless-past, refused-before}
 use Rattle.lexicon.specs.Lexicon.{sink_of}
 use Rattle.graph.specs.Graph.{Graph, graph_of, sink, FullPath, from_root, word_count}
@@ -23,16 +23,16 @@ use Rattle.graph.specs.Words.{word_of_path, LexiconWord, path_of_word, code_of}
 use Rattle.graph.specs.Checking.{Accepted, first_rows, check_answer}
 use Rattle.graph.proofs.Paths.{full-paths}
 use Rattle.graph.proofs.Accepted.{accepted, sound-images, Passed}
-use Rattle.checking.proofs.Arcs.{sound_of}
+use Rattle.checking.specs.declared.Vertex.{Vertex}
 use Rattle.codes.specs.Lookup.{word_to_code_rows, word_to_code_answer}
 use Rattle.codes.specs.Theorems.{CodeTheorems}
 use Rattle.codes.proofs.Theorems.{code_theorems}
 use Rattle.codes.proofs.Words.{word-root, path_short}
-use Rattle.lookup.specs.Seeking.{code_after, code_answer, sought_answer, prints_column, Prints}
+use Rattle.lookup.specs.Seeking.{code_after, code_answer, sought_answer, Prints}
 use Rattle.lookup.specs.Seeking.{Printed, Seekable}
 use Rattle.lookup.specs.Marks.{ends, Marks}
 use Rattle.lookup.proofs.Least.{first_code_lem}
-use Rattle.lookup.proofs.Ways.{WayAfter, Printing, found_way, no_way, after-within}
+use Rattle.lookup.proofs.Ways.{WayAfter, Printing, found_way, no_way}
 
 -- ---- before a search no pair is marked
 
@@ -58,34 +58,19 @@ module _ (prints : List ℕ) (g : Graph) (word : List ℕ) where
   unfolding sought_answer
   sought_long h = rw (lt-ltb 32 (length word) h) refl
 
-  sought_short : length word ≤ 32 → code_answer (code_after prints g 0 word) ≡ sought_answer prints g word
+  pub sought_short : length word ≤ 32 → code_answer (code_after prints g 0 word) ≡ sought_answer prints g word
   unfolding sought_answer
   sought_short h = rw (le-ltb 32 (length word) h) refl
 
-  pub sought_none : length word ≤ 32 → code_after prints g 0 word ≡ none → refused NoWord ≡ sought_answer prints g word
-  unfolding code_answer
-  sought_none h e = sym (rw e refl) ∙ sought_short h
-
-  pub sought_found : length word ≤ 32 → {c : ℕ} → code_after prints g 0 word ≡ some c
-      → value c ≡ sought_answer prints g word
-  unfolding code_answer
-  sought_found h e = sym (rw e refl) ∙ sought_short h
-
--- a code counted from the root is no more than W
-pub root_few : {x : List ℕ} {vertices : List (List ℕ)} → Seekable x vertices → (word : List ℕ) → Bytes word → (c : ℕ)
-    → code_after (prints_column vertices) (graph_of x) 0 word ≡ some c → c ≤ 1048576
-unfolding sink sink_of
-root_few {x} {vertices} t word low c e =
-    let formed = t.countable.tabled.located.formed in
-    omega (
-      arith,
-      t.countable.few {u = 0} (omega arith),
-      after-within (sound_of formed) (prints_column vertices) t.end word low {u = 0} (omega arith) e,
-    )
+-- a code that is found, or else 13
+pub found_or : (o : Option ℕ) → answer_of (ok_or o NoWord) ≡ code_answer o
+unfolding code_answer
+found_or None = refl
+found_or (Some c) = refl
 
 -- ---- as word to code answers
 
-pub seekable : {v x : List ℕ} {vertices : List (List ℕ)} → Printed v x vertices → Seekable x vertices
+pub seekable : {v x : List ℕ} {vertices : List Vertex} → Printed v x vertices → Seekable x vertices
 seekable p = record { countable = p.countable; end = p.prints.end }
 
 module _ {v x : List ℕ} (h : Accepted v x) {prints : List ℕ} (p : Prints v x prints) (word : List ℕ)
@@ -135,15 +120,15 @@ module _ {v x : List ℕ} (h : Accepted v x) {prints : List ℕ} (p : Prints v x
     | no n ↦ go (code_after prints g 0 word) refl ∙ sought_short prints g word (omega arith)
   ]
     where
-      off : code_after prints g 0 word ≡ none → ¬ LexiconWord v g word
+      off : code_after prints g 0 word ≡ None → ¬ LexiconWord v g word
       off e w = full w.full w.spells
         where
           full : {q : List ℕ} → FullPath g q → ¬ (word_of_path v g q ≡ word)
           full (from_root {p = q} a) s = no_way printing word low (omega arith) e a (sym (word-root v g q) ∙ s)
 
       go : (o : Option ℕ) → code_after prints g 0 word ≡ o → looked ≡ code_answer (code_after prints g 0 word)
-      go none e = no_word (off e) ∙ rw e refl
-      go (some c) e = found (found_way printing word low (omega arith) e) ∙ rw e refl
+      go None e = no_word (off e) ∙ rw e refl
+      go (Some c) e = found (found_way printing word low (omega arith) e) ∙ rw e refl
 
 -- ---- after checking
 

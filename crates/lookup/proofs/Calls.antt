@@ -19,6 +19,7 @@ use Rattle.call.proofs.Buffers.{written-refused}
 use Rattle.graph.specs.Graph.{graph_of, word_count}
 use Rattle.graph.specs.Checking.{first_rows, check_answer}
 use Rattle.graph.proofs.Accepted.{accepted, Passed}
+use Rattle.checking.specs.declared.Vertex.{Vertex}
 use Rattle.checking.specs.Tables.{opened_vertices, Vertices}
 use Rattle.checking.proofs.VertexRows.{opened-vertices}
 use Rattle.codes.specs.Items.{items_of, runs_past, bad_items, answer_bytes, item_answers}
@@ -31,7 +32,7 @@ use Rattle.lookup.proofs.Answers.{word_sought}
 use Rattle.lookup.proofs.Stock.{length_sought}
 
 -- the table that checking leaves
-pub opened-table : {v x work : List ℕ} {W : ℕ} → Passed v x work W → (before : List (List ℕ)) {after : List (List ℕ)}
+pub opened-table : {v x work : List ℕ} {W : ℕ} → Passed v x work W → (before : List Vertex) {after : List Vertex}
     {answer : Answer ℕ} → answer ≡ value W → after ≡ opened_vertices answer x before → Vertices x after
 opened-table p before e h = opened-vertices (formed (accepted p.images)) before e h
 

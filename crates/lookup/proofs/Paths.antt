@@ -4,53 +4,51 @@
 use Prim.Native.Nat.{ℕ, zero, suc, ◌+◌, ◌*◌, ◌-◌, ◌≤◌, ◌<◌}
 use mathlib.Core.Path.{◌≡◌, refl, sym, ap, ◌∙◌}
 use mathlib.Core.Bool.{Bool, true, false, cond}
-use mathlib.Core.List.{List, [], ◌∷◌}
-use mathlib.Core.Option.{none, some}
+use mathlib.Core.List.{List}
+use Rattle.std.proofs.Common.{Option, None, Some}
 use native.Mathlib.Nat.{zero-add, add_assoc}
 use native.Mathlib.Omega.{arith}
 use native.Mathlib.Numerals.{add-one}
 use lib.ListN.{length, get_or, drop, set}
 use lib.Seq.{get_or-set_same, get_or-set_other}
 use lib.Dec.{eqb}
-use Rattle.endian.specs.Bytes.{u16}
 use Rattle.endian.specs.Rows.{number_at}
-use Rattle.lexicon.specs.Lexicon.{node_count, arcs_at}
+use Rattle.lexicon.specs.Lexicon.{node_count}
 use Rattle.graph.specs.Graph.{graph_of, path_count, word_count}
 use Rattle.checking.specs.Tables.{WellFormed}
 use Rattle.checking.proofs.Arcs.{shape_of}
-use Rattle.checking.proofs.Increments.{counts-below}
+use Rattle.lookup.specs.declared.seeking.Arc.{Arc}
 use Rattle.lookup.specs.Seeking.{code_after}
 use Rattle.lookup.specs.Marks.{pair_of, Marks, PairMarked}
 use Rattle.lookup.specs.Trying.{Tried, Onward, LedOn, nowhere, ended, onward}
 use Rattle.lookup.proofs.Chains.{counted, counted-more}
-use Rattle.lookup.proofs.Tries.{trial_of, tried_of, try_start, try_found, try_next, next, passed-few}
-use Rattle.lookup.proofs.Tries.{marks-more}
+use Rattle.lookup.proofs.Tries.{try_start, try_found, try_next, passed-few, counts-below, marks-more}
 
--- the row of a letter: the vertex that the search came through, and where its arc stands
-abbrev row_at : List (List ℕ) → ℕ → ℕ → ℕ → Type 0
-row_at path i u at = get_or path i [] ≡ u ∷ at ∷ []
+-- the row of a letter: the vertex that the search came through, and its arc
+abbrev row_at : List (ℕ × ℕ) → ℕ → ℕ → ℕ → Type 0
+row_at path i u n = get_or path i (0, 0) ≡ (u, n)
 
 -- at letter i the search is at vertex u, and b paths are passed on the way down; no pair of the way is marked
-pub data Way (x prints word m : List ℕ) (path : List (List ℕ)) : ℕ → ℕ → ℕ → Type 0 where
+pub data Way (x prints word m : List ℕ) (path : List (ℕ × ℕ)) : ℕ → ℕ → ℕ → Type 0 where
   begun : number_at m (pair_of 0 0) ≡ 0 → Way x prints word m path 0 0 0
-  gone-down : {i u b at c s : ℕ} → Way x prints word m path i u b → u ≤ node_count x
-      → Onward x prints word i u s at c → row_at path i u at → number_at m (pair_of (suc i) s) ≡ 0
+  gone-down : {i u b n c s : ℕ} → Way x prints word m path i u b → u ≤ node_count x
+      → Onward x prints word i u s n c → row_at path i u n → number_at m (pair_of (suc i) s) ≡ 0
       → Way x prints word m path (suc i) s (b + c)
 
 -- the way up: the vertex before, and its arc
-pub record Up (x prints word m : List ℕ) (path : List (List ℕ)) (i s b : ℕ) : Type 0 where
+pub record Up (x prints word m : List ℕ) (path : List (ℕ × ℕ)) (i s b : ℕ) : Type 0 where
   pub before : ℕ
   pub base : ℕ
-  pub at : ℕ
+  pub index : ℕ
   pub c : ℕ
   pub way : Way x prints word m path i before base
   pub vertex : before ≤ node_count x
-  pub arc : Onward x prints word i before s at c
-  pub row : row_at path i before at
+  pub arc : Onward x prints word i before s index c
+  pub row : row_at path i before index
   pub sum_is : b ≡ base + c
 
 module _ {x prints word : List ℕ} (w : WellFormed x) where
-  module _ {m : List ℕ} {path : List (List ℕ)} where
+  module _ {m : List ℕ} {path : List (ℕ × ℕ)} where
     pub vertex-in : {i u b : ℕ} → Way x prints word m path i u b → u ≤ node_count x
     vertex-in (begun f) = omega arith
     vertex-in (gone-down way h arc row f) = arc.node
@@ -61,16 +59,15 @@ module _ {x prints word : List ℕ} (w : WellFormed x) where
 
     -- what is found behind the way
     pub way-found : {i u b k : ℕ} → Way x prints word m path i u b
-        → code_after prints (graph_of x) u (drop i word) ≡ some k → code_after prints (graph_of x) 0 word ≡ some (b + k)
-    way-found {k = k} (begun f) q = q ∙ ap some (sym (zero-add k))
+        → code_after prints (graph_of x) u (drop i word) ≡ Some k → code_after prints (graph_of x) 0 word ≡ Some (b + k)
+    way-found {k = k} (begun f) q = q ∙ ap Some (sym (zero-add k))
     way-found {k = k} (gone-down {b = b} {c = c} way h arc row f) q =
-        let by = arc.fits ∙ q in
-        way-found way (try_found w h (trial_of w h arc.tried) arc.inside (rw arc.leads at by))
-        ∙ ap some (sym (add_assoc b c k))
+        way-found way (try_found w h arc.tried arc.inside arc.leads (arc.fits ∙ q))
+        ∙ ap Some (sym (add_assoc b c k))
 
     -- nothing is found from the root
     pub way-root : {i u b : ℕ} → Way x prints word m path i u b → i ≡ 0
-        → code_after prints (graph_of x) u (drop i word) ≡ none → code_after prints (graph_of x) 0 word ≡ none
+        → code_after prints (graph_of x) u (drop i word) ≡ None → code_after prints (graph_of x) 0 word ≡ None
     way-root (begun f) z e = e
     way-root (gone-down way h arc row f) z e = absurd (omega arith)
 
@@ -79,17 +76,15 @@ module _ {x prints word : List ℕ} (w : WellFormed x) where
     unfolding word_count
     way-within (begun f) = omega arith
     way-within (gone-down {u = u} {b = b} {c = c} {s = s} way h arc row f) =
-        let l = trial_of w h arc.tried in
-        let below = counts-below w h l.counts (next w h l arc.inside) in
-        omega (arith, way-within way, below, ap (path_count (graph_of x)) arc.leads)
+        omega (arith, way-within way, counts-below w h arc.tried arc.inside arc.leads)
 
     -- a row behind those of the way
-    pub way-stored : {i u b : ℕ} (row : List ℕ) (k : ℕ) → i ≤ k → Way x prints word m path i u b
+    pub way-stored : {i u b : ℕ} (row : ℕ × ℕ) (k : ℕ) → i ≤ k → Way x prints word m path i u b
         → Way x prints word m (set path k row) i u b
     way-stored row k l (begun f) = begun f
     way-stored new k l (gone-down {i = i} way h arc row f) =
         gone-down (way-stored new k (omega arith) way) h arc
-        (get_or-set_other path k i new [] (λ q. omega arith) ∙ row) f
+        (get_or-set_other path k i new (0, 0) (λ q. omega arith) ∙ row) f
 
     -- a mark of a later letter
     pub way-marked : {i u b : ℕ} (j v : ℕ) {n : List ℕ} → PairMarked m (pair_of j v) n → i < j
@@ -102,10 +97,10 @@ module _ {x prints word : List ℕ} (w : WellFormed x) where
         (put.others (pair_of (suc i) s) (λ q. omega arith) ∙ f)
 
     pub way_up : {i s b : ℕ} → Way x prints word m path (suc i) s b → Up x prints word m path i s b
-    way_up (gone-down {u = u} {b = b} {at = at} {c = c} way h arc row f) = record {
+    way_up (gone-down {u = u} {b = b} {n = n} {c = c} way h arc row f) = record {
       before = u;
       base = b;
-      at = at;
+      index = n;
       c = c;
       way = way;
       vertex = h;
@@ -127,86 +122,84 @@ counted-most m (suc k) = go (eqb (number_at m k) 0) (counted-most m k)
 
 -- ---- the search, from letter to letter
 
--- At letter i of the word the arcs of u before an offset are passed; code counts all paths that are passed so far.
-pub record Going (x prints word m : List ℕ) (path : List (List ℕ)) (i u at code last : ℕ) : Type 0 where
+-- At letter i of the word the first n arcs of u are passed; code counts all paths that are passed so far.
+pub record Going (x prints word m : List ℕ) (path : List (ℕ × ℕ)) (i u n code last : ℕ) : Type 0 where
   pub marks : Marks prints (graph_of x) word m last
   pub position : i ≤ length word
   pub base : ℕ
   pub c : ℕ
   pub way : Way x prints word m path i u base
-  pub tried : Tried x prints word i u at c
+  pub tried : Tried x prints word i u n c
   pub sum_is : code ≡ base + c
 
-module _ {x prints word m : List ℕ} {path : List (List ℕ)} (w : WellFormed x) (short : length word ≤ 32) where
-  pub going_start : {at last : ℕ} → at ≡ arcs_at x 0 → Marks prints (graph_of x) word m last
-      → number_at m (pair_of 0 0) ≡ 0 → Going x prints word m path 0 0 (at + 2) 0 last
-  going_start e marks free = record {
+module _ {x prints word m : List ℕ} {path : List (ℕ × ℕ)} (w : WellFormed x) (short : length word ≤ 32) where
+  pub going_start : {last : ℕ} → Marks prints (graph_of x) word m last → number_at m (pair_of 0 0) ≡ 0
+      → Going x prints word m path 0 0 0 0 last
+  going_start marks free = record {
     marks = marks;
     position = omega arith;
     base = 0;
     c = 0;
     way = begun free;
-    tried = try_start w (omega arith) e;
+    tried = try_start w (omega arith);
     sum_is = refl;
   }
 
-  module _ {i u at code last : ℕ} (g : Going x prints word m path i u at code last) where
+  module _ {i u n code last : ℕ} (g : Going x prints word m path i u n code last) where
     pub vertex_of : u ≤ node_count x
     vertex_of = vertex-in w g.way
 
     pub free_of : number_at m (pair_of i u) ≡ 0
     free_of = way_free w g.way
 
-    pub going_found : (passed : ℕ) → code_after prints (graph_of x) u (drop i word) ≡ some (g.c + passed)
-        → code_after prints (graph_of x) 0 word ≡ some (code + passed)
-    going_found passed e = way-found w g.way e ∙ ap some (omega (arith, g.sum_is))
+    pub going_found : (passed : ℕ) → code_after prints (graph_of x) u (drop i word) ≡ Some (g.c + passed)
+        → code_after prints (graph_of x) 0 word ≡ Some (code + passed)
+    going_found passed e = way-found w g.way e ∙ ap Some (omega (arith, g.sum_is))
 
     -- from the root none leads on
-    pub going_nowhere : i ≡ 0 → code_after prints (graph_of x) u (drop i word) ≡ none
-        → code_after prints (graph_of x) 0 word ≡ none
+    pub going_nowhere : i ≡ 0 → code_after prints (graph_of x) u (drop i word) ≡ None
+        → code_after prints (graph_of x) 0 word ≡ None
     going_nowhere z e = way-root w g.way z e
 
     pub going_few : code ≤ path_count (graph_of x) 0
     unfolding word_count
     going_few =
-        omega (arith, way-within w g.way, g.sum_is, passed-few w vertex_of (trial_of w vertex_of g.tried))
+        omega (arith, way-within w g.way, g.sum_is, passed-few w vertex_of g.tried)
 
     -- past an arc whose pair is marked
-    pub going_past : (passed : ℕ) {next at' : ℕ} → Onward x prints word i u next at' (g.c + passed)
+    pub going_past : (passed : ℕ) {next n' : ℕ} → Onward x prints word i u next n' (g.c + passed)
         → ¬ (number_at m (pair_of (i + 1) next) ≡ 0)
-        → Going x prints word m path i u (at' + 2) (code + passed + path_count (graph_of x) next) last
-    going_past passed {next} {at'} arc marked =
+        → Going x prints word m path i u (n' + 1) (code + passed + path_count (graph_of x) next) last
+    going_past passed {next} arc marked =
         let tells = g.marks.tells (omega (arith, arc.letter)) (omega (arith, arc.node, (shape_of w).few)) marked in
         let none-by = arc.fits ∙ ap (λ k. code_after prints (graph_of x) next (drop k word)) (sym (add-one i)) ∙ tells in
-        let trial = try_next w vertex_of (trial_of w vertex_of arc.tried) arc.inside
-        (rw arc.leads at none-by) in
         record {
           marks = g.marks;
           position = g.position;
           base = g.base;
-          c = g.c + passed + path_count (graph_of x) (u16 x at');
+          c = g.c + passed + path_count (graph_of x) next;
           way = g.way;
-          tried = tried_of w vertex_of trial;
-          sum_is = omega (arith, g.sum_is, ap (path_count (graph_of x)) arc.leads);
+          tried = try_next w vertex_of arc.tried arc.inside arc.leads none-by;
+          sum_is = omega (arith, g.sum_is);
         }
 
     -- down by an arc
-    pub going_down : (passed : ℕ) {next at' start : ℕ} → Onward x prints word i u next at' (g.c + passed)
-        → number_at m (pair_of (i + 1) next) ≡ 0 → length path ≡ 33 → start ≡ arcs_at x next
-        → Going x prints word m (set path i (u ∷ at' ∷ [])) (i + 1) next (start + 2) (code + passed) last
-    going_down passed {next} {at'} {start} arc unmarked rows begins = rw (add-one i) (record {
+    pub going_down : (passed : ℕ) {next n' : ℕ} → Onward x prints word i u next n' (g.c + passed)
+        → number_at m (pair_of (i + 1) next) ≡ 0 → length path ≡ 33
+        → Going x prints word m (set path i (u, n')) (i + 1) next 0 (code + passed) last
+    going_down passed {next} {n'} arc unmarked rows = rw (add-one i) (record {
       marks = g.marks;
       position = omega (arith, arc.letter);
       base = g.base + (g.c + passed);
       c = 0;
       way = gone-down (way-stored w _ i (omega arith) g.way) vertex_of arc
-          (get_or-set_same path i (u ∷ at' ∷ []) [] (omega (arith, arc.letter))) (rw (add-one i) at unmarked);
-      tried = try_start w arc.node begins;
+          (get_or-set_same path i (u, n') (0, 0) (omega (arith, arc.letter))) (rw (add-one i) at unmarked);
+      tried = try_start w arc.node;
       sum_is = omega (arith, g.sum_is);
     })
 
   -- the letter before, and the arc that led from it
-  pub came_from : (i : ℕ) {u at code last : ℕ} (g : Going x prints word m path i u at code last) → ¬ (i ≡ 0)
+  pub came_from : (i : ℕ) {u n code last : ℕ} (g : Going x prints word m path i u n code last) → ¬ (i ≡ 0)
       → Up x prints word m path (i - 1) u g.base
   came_from zero g d = absurd (d refl)
   came_from (suc i) {u} g d =
@@ -214,26 +207,24 @@ module _ {x prints word m : List ℕ} {path : List (List ℕ)} (w : WellFormed x
       rw e (way_up w g.way)
 
   -- back up, where none leads on
-  pub going_up : (i passed : ℕ) {u at code last : ℕ} {n : List ℕ} (g : Going x prints word m path i u at code last)
+  pub going_up : (i passed : ℕ) {u n code last : ℕ} {m' : List ℕ} (g : Going x prints word m path i u n code last)
       → ¬ (i ≡ 0)
-      → code_after prints (graph_of x) u (drop i word) ≡ none → g.c + passed ≡ path_count (graph_of x) u
-      → PairMarked m (pair_of i u) n
-      → Going x prints word n path (i - 1) (get_or (get_or path (i - 1) []) 0 0) (get_or (get_or path (i - 1) []) 1 0 + 2)
+      → code_after prints (graph_of x) u (drop i word) ≡ None → g.c + passed ≡ path_count (graph_of x) u
+      → PairMarked m (pair_of i u) m'
+      → Going x prints word m' path (i - 1) (get_or path (i - 1) (0, 0)).0 ((get_or path (i - 1) (0, 0)).1 + 1)
       (code + passed) (pair_of i u)
-  going_up i passed {u} {at} {code} g d e q put =
+  going_up i passed {u} {n} {code} g d e q put =
       let up = came_from i g d in
       let s-i : suc (i - 1) ≡ i = omega arith in
       let none-by = up.arc.fits ∙ ap (λ k. code_after prints (graph_of x) u (drop k word)) s-i ∙ e in
-      let trial = try_next w up.vertex (trial_of w up.vertex up.arc.tried) up.arc.inside
-      (rw up.arc.leads at none-by) in
       rw up.row (record {
         marks = marks-more i u (omega (arith, vertex_of g, (shape_of w).few)) put g.marks e;
         position = omega (arith, g.position);
         base = up.base;
-        c = up.c + path_count (graph_of x) (u16 x up.at);
+        c = up.c + path_count (graph_of x) u;
         way = way-marked w i u put (omega arith) up.way;
-        tried = tried_of w up.vertex trial;
-        sum_is = omega (arith, g.sum_is, up.sum_is, ap (path_count (graph_of x)) up.arc.leads);
+        tried = try_next w up.vertex up.arc.tried up.arc.inside up.arc.leads none-by;
+        sum_is = omega (arith, g.sum_is, up.sum_is);
       })
 
 -- ---- it ends
@@ -242,9 +233,9 @@ module _ {x prints word m : List ℕ} {path : List (List ℕ)} (w : WellFormed x
 unfoldable pub steps_left : List ℕ → ℕ → ℕ → ℕ
 steps_left m i at = 350000 * (13267 - counted m 13267) + 10000 * (33 - i) + (10000 - at)
 
-pub less_on : (m : List ℕ) (i at : ℕ) {at' : ℕ} → at ≤ at' → at' < 10000 → steps_left m i (at' + 2) < steps_left m i at
+pub less_on : (m : List ℕ) (i n : ℕ) {n' : ℕ} → n ≤ n' → n' < 10000 → steps_left m i (n' + 1) < steps_left m i n
 unfolding steps_left
-less_on m i at h l = omega arith
+less_on m i n h l = omega arith
 
 pub less_down : (m : List ℕ) (i at at' : ℕ) → i ≤ 32 → at < 10000 → steps_left m (i + 1) at' < steps_left m i at
 unfolding steps_left
@@ -267,21 +258,22 @@ less_up {m} {n} i at at' {p} put high free =
 
 -- ---- where the arcs of a vertex led
 
-module _ {x prints word : List ℕ} {i u next at c : ℕ} where
-  pub led-nowhere : LedOn x prints word i u next at c → next ≡ 0
-      → (code_after prints (graph_of x) u (drop i word) ≡ none) × (c ≡ path_count (graph_of x) u)
+module _ {x prints word : List ℕ} {i u first c : ℕ} {arc : Option Arc} where
+  pub led-nowhere : LedOn x prints word i u first arc c → arc ≡ None
+      → (code_after prints (graph_of x) u (drop i word) ≡ None) × (c ≡ path_count (graph_of x) u)
   led-nowhere (nowhere is e all) z = (e, all)
-  led-nowhere (ended low past e) z = absurd (omega arith)
-  led-nowhere (onward arc) z = absurd (omega (arith, arc.rises))
+  led-nowhere (ended is past e) z = absurd (cc)
+  led-nowhere (onward is l arc) z = absurd (cc)
 
-  pub led-end : LedOn x prints word i u next at c → ¬ (next ≡ 0) → i ≡ length word
-      → code_after prints (graph_of x) u (drop i word) ≡ some c
-  led-end (nowhere is e all) d p = absurd (d is)
-  led-end (ended low past e) d p = e
-  led-end (onward arc) d p = absurd (omega (arith, arc.letter))
+  module _ {a : Arc} (is : arc ≡ Some a) where
+    pub led-end : LedOn x prints word i u first arc c → i ≡ length word
+        → code_after prints (graph_of x) u (drop i word) ≡ Some c
+    led-end (nowhere z e all) p = absurd (cc)
+    led-end (ended is past e) p = e
+    led-end (onward is l on) p = absurd (omega (arith, on.letter))
 
-  pub led-onward : LedOn x prints word i u next at c → ¬ (next ≡ 0) → i ≤ length word → ¬ (i ≡ length word)
-      → Onward x prints word i u next at c
-  led-onward (nowhere is e all) d l p = absurd (d is)
-  led-onward (ended low past e) d l p = absurd (p (omega arith))
-  led-onward (onward arc) d l p = arc
+    pub led-onward : LedOn x prints word i u first arc c → i ≤ length word → ¬ (i ≡ length word)
+        → (first ≤ a.index) × Onward x prints word i u a.next a.index c
+    led-onward (nowhere z e all) l p = absurd (cc)
+    led-onward (ended is past e) l p = absurd (p (omega arith))
+    led-onward (onward {a = b} z l on) k p = let e : b ≡ a = cc in rw (← e) (l, on)

@@ -1,8 +1,8 @@
--- The column of prints while it is filled, from the first node up, with the sink's last. The other columns that are
--- used stay as they were. Assumes nothing.
+-- The column of prints while it is filled, from the first node up, with the sink's last. The fields that a search reads
+-- beside it stay as they were. Assumes nothing.
 use Prim.Native.Nat.{ℕ, suc, ◌+◌, ◌≤◌, ◌<◌}
-use mathlib.Core.Path.{◌≡◌, refl, ap, ◌∙◌}
-use mathlib.Core.List.{List, []}
+use mathlib.Core.Path.{◌≡◌, refl, ◌∙◌}
+use mathlib.Core.List.{List}
 use native.Mathlib.Omega.{arith}
 use native.Mathlib.Decide.{ℕ_discrete}
 use lib.ListN.{length, get_or, set, length-set}
@@ -11,7 +11,8 @@ use Rattle.voice.specs.Voice.{print_byte}
 use Rattle.lexicon.specs.Lexicon.{node_count, sink_of, node_letter}
 use Rattle.graph.specs.Checking.{Accepted}
 use Rattle.graph.proofs.Accepted.{accepted}
-use Rattle.checking.specs.Tables.{column, Vertices}
+use Rattle.checking.specs.declared.Vertex.{Vertex}
+use Rattle.checking.specs.Tables.{no_vertex, list_field, paths_field, slot_field, arcs_column, paths_column, Vertices}
 use Rattle.checking.proofs.Columns.{column-long, column-stored, column-kept}
 use Rattle.codes.specs.Lines.{Countable}
 use Rattle.codes.proofs.Words.{formed}
@@ -20,7 +21,7 @@ use Rattle.lookup.specs.Seeking.{prints_column, Printed}
 
 -- ---- the table
 
-pub table-countable : (v : List ℕ) {x : List ℕ} {t : List (List ℕ)} → Accepted v x → Vertices x t → Countable x t
+pub table-countable : (v : List ℕ) {x : List ℕ} {t : List Vertex} → Accepted v x → Vertices x t → Countable x t
 table-countable v h r = countable {v = v} (record {
   accepted = h;
   tabled = record {
@@ -32,20 +33,18 @@ table-countable v h r = countable {v = v} (record {
 -- ---- its prints
 
 -- of the nodes below this one
-pub record PrintsBelow (v x : List ℕ) (node : ℕ) (t t' : List (List ℕ)) : Type 0 where
+pub record PrintsBelow (v x : List ℕ) (node : ℕ) (t t' : List Vertex) : Type 0 where
   pub long : length t' ≡ 402
-  pub wide : {u : ℕ} → u < 402 → length (get_or t' u []) ≡ 4
-  pub arcs : column 0 t' ≡ column 0 t
-  pub paths : column 1 t' ≡ column 1 t
+  pub arcs : arcs_column t' ≡ arcs_column t
+  pub paths : paths_column t' ≡ paths_column t
   pub low : 1 ≤ node
   pub high : node ≤ suc (node_count x)
   pub done : {u : ℕ} → 1 ≤ u → u < node
       → (get_or (prints_column t') u 0 ≡ print_byte v (node_letter x u)) × (get_or (prints_column t') u 0 < 256)
 
-pub prints-start : (v : List ℕ) {x : List ℕ} {t : List (List ℕ)} → Vertices x t → PrintsBelow v x 1 t t
+pub prints-start : (v : List ℕ) {x : List ℕ} {t : List Vertex} → Vertices x t → PrintsBelow v x 1 t t
 prints-start v r = record {
   long = r.long;
-  wide = r.wide;
   arcs = refl;
   paths = refl;
   low = omega arith;
@@ -53,33 +52,30 @@ prints-start v r = record {
   done = λ l h. absurd (omega arith);
 }
 
-module _ {v x : List ℕ} {node : ℕ} {t t' : List (List ℕ)} (p : PrintsBelow v x node t t') (small : node_count x ≤ 400)
+module _ {v x : List ℕ} {node : ℕ} {t t' : List Vertex} (p : PrintsBelow v x node t t') (small : node_count x ≤ 400)
     (a : ℕ) where
-  row : node < 402
-  row = omega (arith, p.high)
+  -- the node's vertex, with what it prints
+  abbrev printing : Vertex
+  printing =
+      let u = get_or t' node no_vertex in
+      record { arcs_at = u.arcs_at; paths = u.paths; first_slot = a; emission = u.emission }
 
-  put : prints_column (set t' node (set (get_or t' node []) 2 a)) ≡ set (prints_column t') node a
-  put = column-stored 2 node a t' (omega (arith, p.wide row))
+  put : prints_column (set t' node printing) ≡ set (prints_column t') node a
+  put = column-stored slot_field node printing t'
 
-  here : get_or (prints_column (set t' node (set (get_or t' node []) 2 a))) node 0 ≡ a
-  here = rw put (get_or-set_same (prints_column t') node a 0 (omega (arith, row, column-long 2 t', p.long)))
+  here : get_or (prints_column (set t' node printing)) node 0 ≡ a
+  here = rw put (get_or-set_same (prints_column t') node a 0 (omega (arith, p.high, column-long slot_field t', p.long)))
 
   others : {u : ℕ} → u < node
-      → get_or (prints_column (set t' node (set (get_or t' node []) 2 a))) u 0 ≡ get_or (prints_column t') u 0
+      → get_or (prints_column (set t' node printing)) u 0 ≡ get_or (prints_column t') u 0
   others {u} h = rw put (get_or-set_other (prints_column t') node u a 0 (λ e. omega arith))
 
   pub prints-next : node ≤ node_count x → a ≡ print_byte v (node_letter x node) → a < 256
-      → PrintsBelow v x (node + 1) t (set t' node (set (get_or t' node []) 2 a))
+      → PrintsBelow v x (node + 1) t (set t' node printing)
   prints-next h e k = record {
     long = length-set t' node _ ∙ p.long;
-    wide = λ {u} l. elim (ℕ_discrete u node) [
-      | yes q ↦ ap length (ap (λ w. get_or (set t' node (set (get_or t' node []) 2 a)) w []) q
-          ∙ get_or-set_same t' node _ [] (omega (arith, row, p.long)))
-          ∙ length-set (get_or t' node []) 2 a ∙ p.wide row
-      | no d ↦ ap length (get_or-set_other t' node u _ [] d) ∙ p.wide l
-    ];
-    arcs = column-kept 0 2 node a t' (λ q. omega arith) ∙ p.arcs;
-    paths = column-kept 1 2 node a t' (λ q. omega arith) ∙ p.paths;
+    arcs = column-kept list_field node printing t' refl ∙ p.arcs;
+    paths = column-kept paths_field node printing t' refl ∙ p.paths;
     low = omega arith;
     high = omega arith;
     done = λ {u} l m. elim (ℕ_discrete u node) [
@@ -88,13 +84,13 @@ module _ {v x : List ℕ} {node : ℕ} {t t' : List (List ℕ)} (p : PrintsBelow
     ];
   }
 
-  pub prints-done : node_count x < node → a ≡ 256 → Countable x t → Printed v x (set t' node (set (get_or t' node []) 2 a))
+  pub prints-done : node_count x < node → a ≡ 256 → Countable x t → Printed v x (set t' node printing)
   unfolding sink_of
   prints-done h e c = record {
     countable = record {
       tabled = record {
-        located = rw (column-kept 0 2 node a t' (λ q. omega arith), p.arcs) c.tabled.located;
-        counted = rw (column-kept 1 2 node a t' (λ q. omega arith), p.paths) c.tabled.counted;
+        located = rw (column-kept list_field node printing t' refl, p.arcs) c.tabled.located;
+        counted = rw (column-kept paths_field node printing t' refl, p.paths) c.tabled.counted;
       };
       few = c.few;
     };

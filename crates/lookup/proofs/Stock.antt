@@ -4,9 +4,8 @@ use mathlib.Core.Path.{◌≡◌, refl, sym, ap, ap₂, ◌∙◌}
 use mathlib.Core.Bool.{Bool, true, false, ◌||◌}
 use mathlib.Core.List.{List, [], ◌∷◌, ◌++◌, flat_map, append-nil}
 use native.Mathlib.Omega.{arith}
-use native.Mathlib.Numerals.{add-one}
-use lib.ListN.{length, get_or, take, drop, length-append, length-drop, drop_of_length-le}
-use lib.Seq.{sets, sets-eq, length-sets, drop-cons, drop-append-add, take-append_seam, drop-drop, append_snoc}
+use lib.ListN.{length, take, drop, length-append, length-drop}
+use lib.Seq.{drop-append-add, take-append_seam, drop-drop, append_snoc}
 use lib.Dec.{ltb}
 use borrow.Author.Tests.{lt-ltb, le-ltb, ltb-false}
 use Rattle.endian.proofs.Booleans.{or-none}
@@ -21,54 +20,34 @@ use Rattle.lookup.specs.Items.{count_answer, sought_bytes}
 
 -- ---- the next item
 
-module _ (items : List ℕ) {at : ℕ} (h : at < length items) where
-  abbrev letters : ℕ
-  letters = get_or items at 0
+module _ {rest : List ℕ} {k : ℕ} {behind : List ℕ} (here : rest ≡ k ∷ behind) where
+  pub items_here : items_of rest ≡ take k behind ∷ items_of (drop k behind)
+  items_here = ap items_of here ∙ items_next k behind
 
-  here : drop at items ≡ letters ∷ drop (at + 1) items
-  here = rw add-one (drop-cons items at 0 h)
-
-  after : drop letters (drop (at + 1) items) ≡ drop (at + 1 + letters) items
-  after = drop-drop letters (at + 1) items
-
-  pub items_here : items_of (drop at items)
-      ≡ take letters (drop (at + 1) items) ∷ items_of (drop (at + 1 + letters) items)
-  items_here =
-      ap items_of here ∙ items_next letters (drop (at + 1) items)
-      ∙ ap (λ (l : List ℕ). take letters (drop (at + 1) items) ∷ items_of l) after
-
-  pub past-here : runs_past (drop at items)
-      ≡ (ltb (length (drop (at + 1) items)) letters || runs_past (drop (at + 1 + letters) items))
-  past-here =
-      ap runs_past here ∙ past_next letters (drop (at + 1) items)
-      ∙ ap (λ (l : List ℕ). ltb (length (drop (at + 1) items)) letters || runs_past l) after
+  pub past-here : runs_past rest ≡ (ltb (length behind) k || runs_past (drop k behind))
+  past-here = ap runs_past here ∙ past_next k behind
 
   -- an item that doesn't run past the end
-  pub inside : runs_past (drop at items) ≡ false
-      → (at + 1 + letters ≤ length items) × (runs_past (drop (at + 1 + letters) items) ≡ false)
+  pub inside : runs_past rest ≡ false → (k ≤ length behind) × (runs_past (drop k behind) ≡ false)
   inside e =
-      let o = or-none (ltb (length (drop (at + 1) items)) letters) (runs_past (drop (at + 1 + letters) items))
-      (sym past-here ∙ e) in
-      (omega (arith, ltb-false (length (drop (at + 1) items)) letters o.0, length-drop (at + 1) items), o.1)
+      let o = or-none (ltb (length behind) k) (runs_past (drop k behind)) (sym past-here ∙ e) in
+      (ltb-false (length behind) k o.0, o.1)
 
 -- ---- counting
 
-pub record Counting (items : List ℕ) (at count : ℕ) : Type 0 where
-  pub inside : at ≤ length items
+-- the items before the rest are counted, and none of them runs past the end
+pub record Counting (items rest : List ℕ) (count : ℕ) : Type 0 where
   pub few : count ≤ 1000
-  pub counted : length (items_of items) ≡ count + length (items_of (drop at items))
-  pub past : runs_past items ≡ runs_past (drop at items)
+  pub counted : length (items_of items) ≡ count + length (items_of rest)
+  pub past : runs_past items ≡ runs_past rest
 
-pub count-start : (items : List ℕ) → Counting items 0 0
-count-start items = record { inside = omega arith; few = omega arith; counted = omega arith; past = refl }
+pub count-start : (items : List ℕ) → Counting items items 0
+count-start items = record { few = omega arith; counted = omega arith; past = refl }
 
-module _ {items : List ℕ} {at count : ℕ} (c : Counting items at count) where
-  module _ (h : at < length items) where
-    abbrev k : ℕ
-    k = get_or items at 0
-
-    more : length (items_of items) ≡ count + suc (length (items_of (drop (at + 1 + k) items)))
-    more = c.counted ∙ ap (λ (l : List (List ℕ)). count + length l) (items_here items h)
+module _ {items rest : List ℕ} {count : ℕ} (c : Counting items rest count) where
+  module _ {k : ℕ} {behind : List ℕ} (here : rest ≡ k ∷ behind) where
+    more : length (items_of items) ≡ count + suc (length (items_of (drop k behind)))
+    more = c.counted ∙ ap (λ (l : List (List ℕ)). count + length l) (items_here here)
 
     pub count-many : count ≡ 1000 → refused Items ≡ count_answer items
     unfolding count_answer unless bad_items
@@ -78,27 +57,20 @@ module _ {items : List ℕ} {at count : ℕ} (c : Counting items at count) where
         go true = refl
         go false = refl
 
-    pub count_past : length items < at + 1 + k → refused Items ≡ count_answer items
+    pub count_past : length behind < k → refused Items ≡ count_answer items
     unfolding count_answer unless bad_items
-    count_past l = rw (
-      c.past,
-      past-here items h,
-      lt-ltb (length (drop (at + 1) items)) k (omega (arith, length-drop (at + 1) items)),
-    ) refl
+    count_past l = rw (c.past, past-here here, lt-ltb (length behind) k l) refl
 
-    pub count_next : ¬ (count ≡ 1000) → at + 1 + k ≤ length items → Counting items (at + 1 + k) (count + 1)
+    pub count_next : ¬ (count ≡ 1000) → k ≤ length behind → Counting items (drop k behind) (count + 1)
     count_next n l = record {
-      inside = omega arith;
       few = omega (arith, c.few);
       counted = omega (arith, more);
-      past = c.past ∙ past-here items h
-          ∙ rw (le-ltb (length (drop (at + 1) items)) k (omega (arith, length-drop (at + 1) items))) refl;
+      past = c.past ∙ past-here here ∙ rw (le-ltb (length behind) k l) refl;
     }
 
-  pub count-done : length items ≤ at → value count ≡ count_answer items
+  pub count-done : rest ≡ [] → value count ≡ count_answer items
   unfolding count_answer unless bad_items
-  count-done h =
-      let e : drop at items ≡ [] = drop_of_length-le items h in
+  count-done e =
       let n : length (items_of items) ≡ count = rw (c.counted, e, items_none) (omega arith) in
       rw (c.past, e, past-none, n, le-ltb 1000 count c.few) refl
 
@@ -106,18 +78,16 @@ module _ {items : List ℕ} {at count : ℕ} (c : Counting items at count) where
 
 -- bytes written behind those that are there already
 bytes-more : (done more out₀ : List ℕ) {out : List ℕ} {n : ℕ} → length done ≡ n → out ≡ done ++ drop n out₀
-    → n + length more ≤ length out → sets out n more ≡ done ++ more ++ drop (n + length more) out₀
-bytes-more done more out₀ {out} {n} long e room =
-    sets-eq more out n room
-    ∙ ap₂ (λ (a b : List ℕ). a ++ more ++ b) front back
+    → (k : ℕ) → take n out ++ more ++ drop (n + k) out ≡ done ++ more ++ drop (n + k) out₀
+bytes-more done more out₀ {out} {n} long e k = ap₂ (λ (a b : List ℕ). a ++ more ++ b) front back
   where
     front : take n out ≡ done
     front = ap (take n) e ∙ ap (λ k. take k (done ++ drop n out₀)) (sym long) ∙ take-append_seam done (drop n out₀)
 
-    back : drop (n + length more) out ≡ drop (n + length more) out₀
+    back : drop (n + k) out ≡ drop (n + k) out₀
     back =
-        ap (drop (n + length more)) e ∙ ap (λ k. drop (k + length more) (done ++ drop n out₀)) (sym long)
-        ∙ drop-append-add done (drop n out₀) (length more) ∙ drop-drop (length more) n out₀
+        ap (drop (n + k)) e ∙ ap (λ j. drop (j + k) (done ++ drop n out₀)) (sym long)
+        ∙ drop-append-add done (drop n out₀) k ∙ drop-drop k n out₀
 
 module _ (prints : List ℕ) (g : Graph) where
   sought_append : (l m : List (List ℕ))
@@ -135,21 +105,19 @@ module _ (prints : List ℕ) (g : Graph) where
       let answer : List ℕ → List ℕ = λ word. answer_bytes (sought_answer prints g word) in
       omega (arith, length_pieces answer 8 (λ word. length-answer (sought_answer prints g word)) words)
 
--- the items before an offset are answered
-pub record Answering (prints : List ℕ) (g : Graph) (items out₀ out : List ℕ) (at answered : ℕ) : Type 0 where
-  pub inside : at ≤ length items
-  pub past : runs_past (drop at items) ≡ false
+-- the items before the rest are answered
+pub record Answering (prints : List ℕ) (g : Graph) (items out₀ out rest : List ℕ) (answered : ℕ) : Type 0 where
+  pub past : runs_past rest ≡ false
   pub done : List (List ℕ)
-  pub split : items_of items ≡ done ++ items_of (drop at items)
+  pub split : items_of items ≡ done ++ items_of rest
   pub count : answered ≡ 8 * length done
   pub bytes : out ≡ sought_bytes prints g done ++ drop answered out₀
   pub long : length out ≡ length out₀
 
 pub answer-start : (prints : List ℕ) (g : Graph) {items : List ℕ} (out : List ℕ) → runs_past items ≡ false
-    → Answering prints g items out out 0 0
+    → Answering prints g items out out items 0
 unfolding sought_bytes flat_map
 answer-start prints g out e = record {
-  inside = omega arith;
   past = e;
   done = [];
   split = refl;
@@ -158,28 +126,27 @@ answer-start prints g out e = record {
   long = refl;
 }
 
-module _ {prints : List ℕ} {g : Graph} {items out₀ out : List ℕ} {at answered : ℕ}
-    (a : Answering prints g items out₀ out at answered) where
-  all_done : length items ≤ at → items_of items ≡ a.done
-  all_done h =
-      a.split ∙ ap (λ (l : List ℕ). a.done ++ items_of l) (drop_of_length-le items h)
-      ∙ ap (λ (l : List (List ℕ)). a.done ++ l) items_none ∙ append-nil a.done
+module _ {prints : List ℕ} {g : Graph} {items out₀ out rest : List ℕ} {answered : ℕ}
+    (a : Answering prints g items out₀ out rest answered) where
+  pub answer-out : rest ≡ [] → out ≡ sought_bytes prints g (items_of items) ++ drop (8 * length (items_of items)) out₀
+  answer-out e =
+      let all : items_of items ≡ a.done = a.split
+      ∙ ap (λ (l : List ℕ). a.done ++ items_of l) e
+      ∙ ap (λ (l : List (List ℕ)). a.done ++ l) items_none ∙ append-nil a.done in
+      rw (all, ← a.count) a.bytes
 
-  pub answer-out : length items ≤ at
-      → out ≡ sought_bytes prints g (items_of items) ++ drop (8 * length (items_of items)) out₀
-  answer-out h = rw (all_done h, ← a.count) a.bytes
-
-  module _ (h : at < length items) where
+  module _ {k : ℕ} {behind : List ℕ} (here : rest ≡ k ∷ behind) where
     abbrev item : List ℕ
-    item = take (get_or items at 0) (drop (at + 1) items)
+    item = take k behind
 
-    next-split : items_of items ≡ (a.done ++ item ∷ []) ++ items_of (drop (at + 1 + get_or items at 0) items)
-    next-split =
-        a.split ∙ ap (λ (l : List (List ℕ)). a.done ++ l) (items_here items h)
-        ∙ sym (append_snoc a.done item (items_of (drop (at + 1 + get_or items at 0) items)))
+    abbrev earlier : List ℕ
+    earlier = sought_bytes prints g a.done
 
-    pub item-inside : at + 1 + get_or items at 0 ≤ length items
-    item-inside = (inside items h a.past).0
+    abbrev answer : List ℕ
+    answer = answer_bytes (sought_answer prints g item)
+
+    pub item-inside : k ≤ length behind
+    item-inside = (inside here a.past).0
 
     pub answer-room : 8 * length (items_of items) ≤ length out₀ → answered + 8 ≤ length out
     answer-room r =
@@ -189,32 +156,40 @@ module _ {prints : List ℕ} {g : Graph} {items out₀ out : List ℕ} {at answe
           a.count,
           a.long,
           ap length a.split,
-          ap length (items_here items h),
-          length-append a.done (items_of (drop at items)),
+          ap length (items_here here),
+          length-append a.done (items_of rest),
         )
 
-    pub answer-next : 8 * length (items_of items) ≤ length out₀ → (word : List ℕ) → word ≡ item → {out' : List ℕ}
-        → out' ≡ sets out answered (answer_bytes (sought_answer prints g word))
-        → Answering prints g items out₀ out' (at + 1 + get_or items at 0) (answered + 8)
-    answer-next r word q {out'} put = record {
-      inside = item-inside;
-      past = (inside items h a.past).1;
+    pub answer-next : 8 * length (items_of items) ≤ length out₀ → {out' : List ℕ}
+        → out' ≡ take answered out ++ answer ++ drop (answered + 8) out
+        → Answering prints g items out₀ out' (drop k behind) (answered + 8)
+    answer-next r {out'} put = record {
+      past = (inside here a.past).1;
       done = a.done ++ item ∷ [];
-      split = next-split;
+      split = a.split
+          ∙ ap (λ (l : List (List ℕ)). a.done ++ l) (items_here here)
+          ∙ sym (append_snoc a.done item (items_of (drop k behind)));
       count = omega (arith, a.count, length-append a.done (item ∷ []));
-      bytes = e ∙ bytes-more (sought_bytes prints g a.done) (answer_bytes (sought_answer prints g item)) out₀
-          (length_sought prints g a.done ∙ sym a.count) a.bytes
-          (rw (length-answer (sought_answer prints g item)) (answer-room r))
-          ∙ ap₂ (λ (l : List ℕ) n. l ++ drop n out₀) whole
-          (ap (λ n. answered + n) (length-answer (sought_answer prints g item)));
-      long = ap length e ∙ length-sets out answered (answer_bytes (sought_answer prints g item)) ∙ a.long;
+      bytes = e ∙ ap (λ (l : List ℕ). l ++ drop (answered + 8) out₀) whole;
+      long = ap length e
+          ∙ omega (
+            arith,
+            length-append (earlier ++ answer) (drop (answered + 8) out₀),
+            length-append earlier answer,
+            length-drop (answered + 8) out₀,
+            length_sought prints g a.done,
+            length-answer (sought_answer prints g item),
+            answer-room r,
+            a.count,
+            a.long,
+          );
     }
       where
-        e : out' ≡ sets out answered (answer_bytes (sought_answer prints g item))
-        e = put ∙ ap (λ (w : List ℕ). sets out answered (answer_bytes (sought_answer prints g w))) q
+        e : out' ≡ (earlier ++ answer) ++ drop (answered + 8) out₀
+        e = put
+            ∙ bytes-more earlier answer out₀ (length_sought prints g a.done ∙ sym a.count) a.bytes 8
 
-        whole : sought_bytes prints g a.done ++ answer_bytes (sought_answer prints g item)
-            ≡ sought_bytes prints g (a.done ++ item ∷ [])
+        whole : earlier ++ answer ≡ sought_bytes prints g (a.done ++ item ∷ [])
         whole =
-            ap (λ (l : List ℕ). sought_bytes prints g a.done ++ l) (sym (sought_one prints g item))
+            ap (λ (l : List ℕ). earlier ++ l) (sym (sought_one prints g item))
             ∙ sym (sought_append prints g a.done (item ∷ []))

@@ -1,27 +1,26 @@
 -- The arcs of a vertex, tried one after the other: what the arcs that are left give, behind the path counts of those
 -- passed, is what all gave at the beginning. Assumes nothing.
-use Prim.Native.Nat.{ℕ, ◌+◌, ◌*◌, ◌≤◌, ◌<◌}
+use Prim.Native.Nat.{ℕ, suc, ◌+◌, ◌≤◌, ◌<◌}
 use mathlib.Core.Path.{◌≡◌, refl, sym, ap, ◌∙◌}
-use mathlib.Core.List.Memᴰ
-use mathlib.Core.List.{List, ◌++◌, map, map-append, append-nil}
-use mathlib.Core.Option.{Option, none, some}
+use mathlib.Core.List.{List, [], ◌∷◌, map, map-append}
+use Rattle.std.proofs.Common.{None, Some}
 use native.Mathlib.Omega.{arith}
 use native.Mathlib.Decide.{ℕ_discrete, dec_lt}
 use native.Mathlib.Numerals.{add-one}
-use lib.ListN.{length, get_or, drop, drop_of_length-le}
-use lib.Seq.{drop-cons, get_or-drop}
+use lib.ListN.{length, get_or, take, drop, drop_of_length-le, take-append-drop}
+use lib.Seq.{drop-cons, get_or-drop, take-suc}
 use borrow.Author.Tests.{eq-eqb, ne_eqb, lt-ltb, le-ltb}
-use Rattle.endian.specs.Bytes.{Bytes, u16}
+use Rattle.endian.specs.Bytes.{Bytes}
 use Rattle.endian.specs.Lists.{sum}
 use Rattle.endian.proofs.Lists.{index_of, sum-append}
-use Rattle.lexicon.specs.Lexicon.{node_count, sink_of, arcs_at, arc_count, successors}
+use Rattle.lexicon.specs.Lexicon.{node_count, sink_of, successors}
 use Rattle.lexicon.proofs.Shape.{arcs-next}
+use Rattle.lexicon.proofs.Readers.{length-successors}
 use Rattle.graph.specs.Graph.{Graph, graph_of, sink, path_count}
 use Rattle.graph.proofs.Codes.{path_count-below}
 use Rattle.checking.specs.Tables.{WellFormed}
-use Rattle.checking.proofs.Arcs.{shape_of, sound_of, ArcNext, arc-next, arcs-done}
-use Rattle.checking.proofs.Increments.{CountsPassed, counts_start, counts-next}
-use Rattle.lookup.specs.Seeking.{wanted_at, code_or, first_code, code_by, code_after, code_number}
+use Rattle.checking.proofs.Arcs.{shape_of, sound_of}
+use Rattle.lookup.specs.Seeking.{wanted_at, code_or, first_code, code_by, code_after}
 use Rattle.lookup.specs.Marks.{pair_of, Marks, PairMarked}
 use Rattle.lookup.specs.Trying.{Tried}
 
@@ -52,7 +51,7 @@ module _ (word : List ℕ) (i : ℕ) where
   wanted_low h low = rw (wanted_letter h) low
 
 module _ (prints : List ℕ) (g : Graph) (word : List ℕ) (i s : ℕ) where
-  pub fits_not : ¬ (get_or prints s 0 ≡ wanted_at word i) → code_by prints g (drop i word) s ≡ none
+  pub fits_not : ¬ (get_or prints s 0 ≡ wanted_at word i) → code_by prints g (drop i word) s ≡ None
   unfolding code_by
   fits_not d = elim (dec_lt i (length word)) [
     | yes h ↦ rw (
@@ -67,7 +66,7 @@ module _ (prints : List ℕ) (g : Graph) (word : List ℕ) (i s : ℕ) where
 
   module _ (fits : get_or prints s 0 ≡ wanted_at word i) where
     -- no byte is 256
-    pub fits-end : get_or word i 0 < 256 → wanted_at word i ≡ 256 → code_by prints g (drop i word) s ≡ some 0
+    pub fits-end : get_or word i 0 < 256 → wanted_at word i ≡ 256 → code_by prints g (drop i word) s ≡ Some 0
     unfolding code_by
     fits-end low e = elim (dec_lt i (length word)) [
       | yes h ↦ absurd (omega (arith, wanted_letter word i h))
@@ -88,110 +87,92 @@ low-bytes word low i x m =
 
 -- ---- while they are tried
 
-pub record Trial (x prints word : List ℕ) (i u at stop c : ℕ) : Type 0 where
-  pub counts : CountsPassed x u at stop c
-  pub left : code_after prints (graph_of x) u (drop i word)
-      ≡ first_code (code_by prints (graph_of x) (drop i word)) (path_count (graph_of x)) counts.later c
-
-stop-there : {x : List ℕ} → WellFormed x → {u : ℕ} → u ≤ node_count x → arcs_at x u + 2 + 2 * arc_count x u ≤ length x
+-- no list is long
+pub arcs-few : {x : List ℕ} → WellFormed x → {u : ℕ} → u ≤ node_count x → length (successors x u) ≤ 4601
 unfolding sink_of
-stop-there {x} w {u} h = omega (arith, arcs-next x u, (shape_of w).there {u = u} (omega arith))
+arcs-few {x} w {u} h =
+    omega (arith, length-successors x u, arcs-next x u, (shape_of w).small {u = suc u} (omega arith))
 
 module _ {x prints word : List ℕ} (w : WellFormed x) {i u : ℕ} (h : u ≤ node_count x) where
-  pub trial_of : {at c : ℕ} → Tried x prints word i u at c
-      → Trial x prints word i u at (arcs_at x u + 2 + 2 * arc_count x u) c
-  unfolding sink_of sink
-  trial_of {at} {c} t = record {
-    counts = record {
-      earlier = t.earlier;
-      later = t.later;
-      arcs = record {
-        read = t.read;
-        size = sym t.ends;
-        there = stop-there w h;
-        rise = λ m. (sound_of w).rises (omega arith) (rw t.split (Memᴰ.append_right t.earlier m));
-      };
-      split = t.split;
-      total_is = t.passes;
-    };
-    left = t.left;
-  }
+  pub try_start : Tried x prints word i u 0 0
+  unfolding sum code_after
+  try_start = record { inside = omega arith; passes = refl; left = refl }
 
-  pub tried_of : {at c : ℕ} → Trial x prints word i u at (arcs_at x u + 2 + 2 * arc_count x u) c
-      → Tried x prints word i u at c
-  tried_of t = record {
-    earlier = t.counts.earlier;
-    later = t.counts.later;
-    split = t.counts.split;
-    read = t.counts.arcs.read;
-    ends = sym t.counts.arcs.size;
-    passes = t.counts.total_is;
-    left = t.left;
-  }
-
-  pub try_start : {at : ℕ} → at ≡ arcs_at x u → Tried x prints word i u (at + 2) 0
-  unfolding code_after counts_start arc_count
-  try_start {at} e = rw e (tried_of (record { counts = counts_start w h refl; left = refl }))
-
-  module _ {at stop c : ℕ} (t : Trial x prints word i u at stop c) where
-    pub try_done : stop ≤ at → code_after prints (graph_of x) u (drop i word) ≡ none
-    unfolding first_code
-    try_done k =
-        t.left
-        ∙ ap (λ (l : List ℕ). first_code (code_by prints (graph_of x) (drop i word)) (path_count (graph_of x)) l c)
-        (arcs-done t.counts.arcs k)
-
-    -- all paths of the vertex are passed then
-    pub all-passed : stop ≤ at → c ≡ path_count (graph_of x) u
+  module _ {n c : ℕ} (t : Tried x prints word i u n c) where
+    all-of : path_count (graph_of x) u ≡ c + sum (map (path_count (graph_of x)) (drop n (successors x u)))
     unfolding sink
-    all-passed k =
-        let e : successors x u ≡ t.counts.earlier =
-        t.counts.split ∙ ap (λ (l : List ℕ). t.counts.earlier ++ l) (arcs-done t.counts.arcs k)
-        ∙ append-nil t.counts.earlier in
-        t.counts.total_is ∙ ap (λ (l : List ℕ). sum (map (path_count (graph_of x)) l)) (sym e)
-        ∙ sym (path_count-below (sound_of w) (omega arith))
+    all-of =
+        let counts = map (path_count (graph_of x)) in
+        path_count-below (sound_of w) (omega arith)
+        ∙ ap (λ (l : List ℕ). sum (counts l)) (sym (take-append-drop n (successors x u)))
+        ∙ ap sum (map-append (path_count (graph_of x)) (take n (successors x u)) (drop n (successors x u)))
+        ∙ sum-append (counts (take n (successors x u))) (counts (drop n (successors x u)))
+        ∙ ap (λ k. k + sum (counts (drop n (successors x u)))) (sym t.passes)
 
     pub passed-few : c ≤ path_count (graph_of x) u
-    unfolding sink
-    passed-few =
-        let counts = map (path_count (graph_of x)) in
-        omega (
-          arith,
-          t.counts.total_is,
-          path_count-below (sound_of w) {u = u} (omega arith),
-          ap (λ (l : List ℕ). sum (map (path_count (graph_of x)) l)) t.counts.split,
-          ap sum (map-append (path_count (graph_of x)) t.counts.earlier t.counts.later),
-          sum-append (counts t.counts.earlier) (counts t.counts.later),
-        )
+    passed-few = omega (arith, all-of)
 
-    module _ (k : at < stop) where
-      pub next : ArcNext x u at stop t.counts.later
-      next = arc-next t.counts.arcs k
+    module _ (k : length (successors x u) ≤ n) where
+      none-left : drop n (successors x u) ≡ []
+      none-left = drop_of_length-le (successors x u) {i = n} k
+
+      pub try_done : code_after prints (graph_of x) u (drop i word) ≡ None
+      unfolding first_code
+      try_done =
+          t.left
+          ∙ ap (λ (l : List ℕ). first_code (code_by prints (graph_of x) (drop i word)) (path_count (graph_of x)) l c)
+          none-left
+
+      -- all paths of the vertex are passed then
+      pub all-passed : c ≡ path_count (graph_of x) u
+      unfolding sum
+      all-passed = let e = rw none-left at all-of in omega (arith, e)
+
+    module _ {s : ℕ} (k : n < length (successors x u)) (e : get_or (successors x u) n 0 ≡ s) where
+      first-left : drop n (successors x u) ≡ s ∷ drop (n + 1) (successors x u)
+      first-left = drop-cons (successors x u) n 0 k ∙ rw (e, add-one n)
 
       here-left : code_after prints (graph_of x) u (drop i word)
-          ≡ code_or (code_by prints (graph_of x) (drop i word) (u16 x at)) c
-          (first_code (code_by prints (graph_of x) (drop i word)) (path_count (graph_of x)) next.others
-          (c + path_count (graph_of x) (u16 x at)))
+          ≡ code_or (code_by prints (graph_of x) (drop i word) s) c
+          (first_code (code_by prints (graph_of x) (drop i word)) (path_count (graph_of x)) (drop (n + 1) (successors x u))
+          (c + path_count (graph_of x) s))
       unfolding first_code
       here-left =
           t.left
           ∙ ap (λ (l : List ℕ). first_code (code_by prints (graph_of x) (drop i word)) (path_count (graph_of x)) l c)
-          next.split
+          first-left
 
-      pub try_found : {code : ℕ} → code_by prints (graph_of x) (drop i word) (u16 x at) ≡ some code
-          → code_after prints (graph_of x) u (drop i word) ≡ some (c + code)
+      pub counts-below : c + path_count (graph_of x) s ≤ path_count (graph_of x) u
+      unfolding sum
+      counts-below = let a = rw first-left at all-of in omega (arith, a)
+
+      pub try_found : {code : ℕ} → code_by prints (graph_of x) (drop i word) s ≡ Some code
+          → code_after prints (graph_of x) u (drop i word) ≡ Some (c + code)
       unfolding code_or
-      try_found e = here-left ∙ rw e refl
+      try_found q = here-left ∙ rw q refl
 
-      pub try_next : code_by prints (graph_of x) (drop i word) (u16 x at) ≡ none
-          → Trial x prints word i u (at + 2) stop (c + path_count (graph_of x) (u16 x at))
-      unfolding code_or counts-next
-      try_next e = record { counts = counts-next w h t.counts next; left = here-left ∙ rw e refl }
+      pub try_next : code_by prints (graph_of x) (drop i word) s ≡ None
+          → Tried x prints word i u (n + 1) (c + path_count (graph_of x) s)
+      unfolding code_or sum
+      try_next q =
+          let counts = map (path_count (graph_of x)) in record {
+            inside = omega arith;
+            passes =
+                rw (
+                  add-one n,
+                  take-suc (successors x u) n 0 k,
+                  e,
+                  map-append (path_count (graph_of x)) (take n (successors x u)) (s ∷ []),
+                  sum-append (counts (take n (successors x u))) (path_count (graph_of x) s ∷ []),
+                )
+                (omega (arith, t.passes));
+            left = here-left ∙ rw q refl;
+          }
 
 -- ---- none leads on: the pair is marked
 
 pub marks-more : (i u : ℕ) {m n prints word : List ℕ} {g : Graph} {last : ℕ} → u < 402
-    → PairMarked m (pair_of i u) n → Marks prints g word m last → code_after prints g u (drop i word) ≡ none
+    → PairMarked m (pair_of i u) n → Marks prints g word m last → code_after prints g u (drop i word) ≡ None
     → Marks prints g word n (pair_of i u)
 marks-more i u low put marks none-leads = record {
   long = put.long ∙ marks.long;
@@ -204,25 +185,3 @@ marks-more i u low put marks none-leads = record {
     | no o ↦ marks.tells a b (λ z. d (put.others (pair_of j v) o ∙ z))
   ];
 }
-
--- ---- what is answered
-
-pub number-found : (o : Option ℕ) {code : ℕ} → o ≡ some code → code ≡ code_number o
-unfolding code_number
-number-found o e = rw e refl
-
-pub number-none : (o : Option ℕ) → o ≡ none → 4294967295 ≡ code_number o
-unfolding code_number
-number-none o e = rw e refl
-
-pub found_number : (o : Option ℕ) {code : ℕ} → code ≡ code_number o → ¬ (code ≡ 4294967295) → o ≡ some code
-unfolding code_number
-found_number (some c) e d = ap some (sym e)
-found_number none e d = absurd (d e)
-
--- a code that is found is below that number
-pub none_number : (o : Option ℕ) {code : ℕ} → ((c : ℕ) → o ≡ some c → c ≤ 1048576) → code ≡ code_number o
-    → code ≡ 4294967295 → o ≡ none
-unfolding code_number
-none_number none few e d = refl
-none_number (some c) few e d = absurd (omega (arith, few c refl))

@@ -9,7 +9,7 @@ use mathlib.Core.List.Memᴰ.{head as here}
 use mathlib.Core.List.Memᴰ.{tail as there}
 use mathlib.Core.List.{List, [], ◌∷◌, ◌++◌, map, Memᴰ}
 use mathlib.Core.List.Memᴰ
-use mathlib.Core.Option.{Option, none, some, none-ne-some, some-injective}
+use Rattle.std.proofs.Common.{Option, None, Some}
 use native.Mathlib.Omega.{arith}
 use native.Mathlib.Decide.{ℕ_discrete}
 use lib.ListN.{get_or}
@@ -21,10 +21,13 @@ use Rattle.voice.specs.Voice.{print_byte}
 use Rattle.graph.specs.Graph.{Graph, sink, ArcPath, arrived, along, path_count, code_from}
 use Rattle.graph.specs.Words.{word_of_path}
 use Rattle.graph.proofs.Sound.{Sound}
-use Rattle.graph.proofs.Codes.{increment-at, arc-within}
+use Rattle.graph.proofs.Codes.{increment-at}
 use Rattle.codes.proofs.Words.{word-node, word-beyond, word_none}
 use Rattle.lookup.specs.Seeking.{code_or, first_code, code_by, code_after}
 use Rattle.lookup.proofs.Least.{Least, LeastWith, code_below, later-above}
+
+some_same : {a b : ℕ} → Some a ≡ Some b → a ≡ b
+some_same e = cc
 
 -- ---- the first of a list that has a code
 
@@ -35,23 +38,23 @@ module _ (code : ℕ → Option ℕ) (count : ℕ → ℕ) where
     pub later : List ℕ
     pub own : ℕ
     pub split : l ≡ earlier ++ one ∷ later
-    pub unfound : {t : ℕ} → Memᴰ t earlier → code t ≡ none
-    pub found : code one ≡ some own
+    pub unfound : {t : ℕ} → Memᴰ t earlier → code t ≡ None
+    pub found : code one ≡ Some own
     pub adds : c ≡ passed + sum (map count earlier) + own
 
   pub first_member : {l : List ℕ} {passed c : ℕ} → (f : FirstOf l passed c) → Memᴰ f.one l
   first_member f =
       subst (λ (l : List ℕ). Memᴰ f.one l) (sym f.split) (Memᴰ.append_right f.earlier (here refl))
 
-  pub first_some : (l : List ℕ) (passed : ℕ) {c : ℕ} → first_code code count l passed ≡ some c → FirstOf l passed c
+  pub first_some : (l : List ℕ) (passed : ℕ) {c : ℕ} → first_code code count l passed ≡ Some c → FirstOf l passed c
   unfolding first_code code_or sum
-  first_some [] passed {c} e = absurd (none-ne-some c e)
+  first_some [] passed {c} e = absurd (cc)
   first_some (s ∷ l) passed {c} e = go (code s) refl (λ h. first_some l (passed + count s) h)
     where
       go : (o : Option ℕ) → code s ≡ o
-          → (first_code code count l (passed + count s) ≡ some c → FirstOf l (passed + count s) c)
+          → (first_code code count l (passed + count s) ≡ Some c → FirstOf l (passed + count s) c)
           → FirstOf (s ∷ l) passed c
-      go (some own) q on = record {
+      go (Some own) q on = record {
         earlier = [];
         one = s;
         later = l;
@@ -59,9 +62,9 @@ module _ (code : ℕ → Option ℕ) (count : ℕ → ℕ) where
         split = refl;
         unfound = λ {t} m. absurd (Memᴰ.not-nil m);
         found = q;
-        adds = let f = some-injective _ _ (rw q at e) in omega arith;
+        adds = let f = some_same (rw q at e) in omega arith;
       }
-      go none q on = let f = on (rw q at e) in record {
+      go None q on = let f = on (rw q at e) in record {
         earlier = s ∷ f.earlier;
         one = f.one;
         later = f.later;
@@ -72,21 +75,21 @@ module _ (code : ℕ → Option ℕ) (count : ℕ → ℕ) where
         adds = omega (arith, f.adds);
       }
         where
-          before : (f : FirstOf l (passed + count s) c) {t : ℕ} → Memᴰ t (s ∷ f.earlier) → code t ≡ none
+          before : (f : FirstOf l (passed + count s) c) {t : ℕ} → Memᴰ t (s ∷ f.earlier) → code t ≡ None
           before f (here h) = rw h q
           before f (there m) = f.unfound m
 
-  pub first_none : (l : List ℕ) (passed : ℕ) → first_code code count l passed ≡ none → {t : ℕ} → Memᴰ t l
-      → code t ≡ none
+  pub first_none : (l : List ℕ) (passed : ℕ) → first_code code count l passed ≡ None → {t : ℕ} → Memᴰ t l
+      → code t ≡ None
   unfolding first_code code_or
   first_none [] passed e {t = t} m = elim m [ ]
   first_none (s ∷ l) passed e {t} m = go (code s) refl m (λ h. first_none l (passed + count s) h)
     where
       go : (o : Option ℕ) → code s ≡ o → Memᴰ t (s ∷ l)
-          → (first_code code count l (passed + count s) ≡ none → Memᴰ t l → code t ≡ none) → code t ≡ none
-      go (some own) q m on = absurd (none-ne-some (passed + own) (sym (rw q at e)))
-      go none q (here h) on = rw h q
-      go none q (there m) on = on (rw q at e) m
+          → (first_code code count l (passed + count s) ≡ None → Memᴰ t l → code t ≡ None) → code t ≡ None
+      go (Some own) q m on = let z = (sym (rw q at e)) in absurd (cc)
+      go None q (here h) on = rw h q
+      go None q (there m) on = on (rw q at e) m
 
 -- ---- ways that spell the bytes
 
@@ -133,10 +136,10 @@ pub record Printing (v : List ℕ) (g : Graph) (prints : List ℕ) : Type 0 wher
 
 module _ (v : List ℕ) (g : Graph) (prints : List ℕ) where
   abbrev BySome : List ℕ → Type 0
-  BySome bytes = (s c : ℕ) → 0 < s → s ≤ sink g → code_by prints g bytes s ≡ some c → WayBy v g s bytes c
+  BySome bytes = (s c : ℕ) → 0 < s → s ≤ sink g → code_by prints g bytes s ≡ Some c → WayBy v g s bytes c
 
   abbrev ByNone : List ℕ → Type 0
-  ByNone bytes = (s : ℕ) (q : List ℕ) → 0 < s → s ≤ sink g → code_by prints g bytes s ≡ none → ArcPath g s q
+  ByNone bytes = (s : ℕ) (q : List ℕ) → 0 < s → s ≤ sink g → code_by prints g bytes s ≡ None → ArcPath g s q
       → word_of_path v g (s ∷ q) ≡ bytes → ⊥
 
 module _ {v : List ℕ} {g : Graph} {prints : List ℕ} (printing : Printing v g prints) where
@@ -144,7 +147,7 @@ module _ {v : List ℕ} {g : Graph} {prints : List ℕ} (printing : Printing v g
   ok = printing.sound
 
   after-some : (bytes : List ℕ) → BySome v g prints bytes → ByNone v g prints bytes → (u c : ℕ) → u < sink g
-      → code_after prints g u bytes ≡ some c → WayAfter v g u bytes c
+      → code_after prints g u bytes ≡ Some c → WayAfter v g u bytes c
   unfolding code_after code_from
   after-some bytes by-some by-none u c h e =
       record {
@@ -185,7 +188,7 @@ module _ {v : List ℕ} {g : Graph} {prints : List ℕ} (printing : Printing v g
                 later-above ok {u = u} h f.earlier f.later f.one f.split a,
               )
 
-  after_none : (bytes : List ℕ) → ByNone v g prints bytes → (u : ℕ) → u < sink g → code_after prints g u bytes ≡ none
+  after_none : (bytes : List ℕ) → ByNone v g prints bytes → (u : ℕ) → u < sink g → code_after prints g u bytes ≡ None
       → (q : List ℕ) → ArcPath g u q → word_of_path v g q ≡ bytes → ⊥
   unfolding code_after
   after_none bytes by-none u h e q (arrived d) m = omega arith
@@ -218,7 +221,7 @@ module _ {v : List ℕ} {g : Graph} {prints : List ℕ} (printing : Printing v g
       go : (b : Bool) → eqb (get_or prints s 0) 256 ≡ b → WayBy v g s [] c
       go true q =
           let d = is_end h k (eqb-true (get_or prints s 0) 256 q) in
-          let f = some-injective 0 c (rw q at e) in
+          let f = some_same (rw q at e) in
           record {
             path = [];
             arcs = arrived d;
@@ -226,7 +229,7 @@ module _ {v : List ℕ} {g : Graph} {prints : List ℕ} (printing : Printing v g
             least = λ p o m. omega arith;
             code = sym f;
           }
-      go false q = absurd (none-ne-some c (rw q at e))
+      go false q = let z = (rw q at e) in absurd (cc)
 
   end_none : ByNone v g prints []
   unfolding code_by
@@ -235,7 +238,7 @@ module _ {v : List ℕ} {g : Graph} {prints : List ℕ} (printing : Printing v g
       go : Dec (s ≡ sink g) → ⊥
       go (yes d) =
           let f = eq-eqb (get_or prints s 0) 256 (ap (λ u. get_or prints u 0) d ∙ printing.end) in
-          none-ne-some 0 (sym (rw f at e))
+          let z = rw f at e in absurd (cc)
       go (no d) = cons≢nil (sym (starts_with q h (omega arith)) ∙ m)
 
   module _ {b : ℕ} {bytes : List ℕ} (l : b < 256) (some-by : BySome v g prints bytes)
@@ -256,7 +259,7 @@ module _ {v : List ℕ} {g : Graph} {prints : List ℕ} (printing : Printing v g
               least = λ p o m. w.least p o (same_tail (sym (starts_with p h n) ∙ m));
               code = w.code;
             }
-        go false q = absurd (none-ne-some c (rw q at e))
+        go false q = let z = (rw q at e) in absurd (cc)
 
     letter_none : ByNone v g prints (b ∷ bytes)
     unfolding code_by code_after
@@ -280,46 +283,8 @@ module _ {v : List ℕ} {g : Graph} {prints : List ℕ} (printing : Printing v g
   -- ---- from a vertex on
 
   module _ (bytes : List ℕ) (low : Bytes bytes) {u : ℕ} (h : u < sink g) where
-    pub found_way : {c : ℕ} → code_after prints g u bytes ≡ some c → WayAfter v g u bytes c
+    pub found_way : {c : ℕ} → code_after prints g u bytes ≡ Some c → WayAfter v g u bytes c
     found_way {c} e = let r = ways_by bytes low in after-some bytes r.0 r.1 u c h e
 
-    pub no_way : code_after prints g u bytes ≡ none → {q : List ℕ} → ArcPath g u q → ¬ (word_of_path v g q ≡ bytes)
+    pub no_way : code_after prints g u bytes ≡ None → {q : List ℕ} → ArcPath g u q → ¬ (word_of_path v g q ≡ bytes)
     no_way e {q} o m = after_none bytes (ways_by bytes low).1 u h e q o m
-
--- ---- a code that is found is no more than the paths from there
-
-module _ {g : Graph} (ok : Sound g) (prints : List ℕ) (end : get_or prints (sink g) 0 ≡ 256) where
-  abbrev Within : List ℕ → Type 0
-  Within bytes = (s c : ℕ) → s ≤ sink g → code_by prints g bytes s ≡ some c → c ≤ path_count g s
-
-  within-after : (bytes : List ℕ) → Within bytes → (u c : ℕ) → u < sink g → code_after prints g u bytes ≡ some c
-      → c ≤ path_count g u
-  unfolding code_after
-  within-after bytes within u c h e =
-      let f = first_some (code_by prints g bytes) (path_count g) (g.successors u) 0 e in
-      omega (
-        arith,
-        f.adds,
-        within f.one f.own (ok.rises h (first_member _ _ f)).1 f.found,
-        increment-at ok h f.earlier f.later f.one f.split,
-        arc-within ok {u = u} h f.earlier f.later f.one f.split,
-      )
-
-  within_by : (bytes : List ℕ) → Bytes bytes → Within bytes
-  unfolding code_by code_after
-  within_by [] low s c k e = go (eqb (get_or prints s 0) 256) refl
-    where
-      go : (b : Bool) → eqb (get_or prints s 0) 256 ≡ b → c ≤ path_count g s
-      go true q = let f = some-injective 0 c (rw q at e) in omega arith
-      go false q = absurd (none-ne-some c (rw q at e))
-  within_by (b ∷ bytes) low s c k e =
-      go (eqb (get_or prints s 0) b) refl (within_by bytes (λ x m. low x (there m))) (low b (here refl))
-    where
-      go : (t : Bool) → eqb (get_or prints s 0) b ≡ t → Within bytes → b < 256 → c ≤ path_count g s
-      go true q within l =
-          within-after bytes within s c (not_end g prints end k l (eqb-true (get_or prints s 0) b q)) (rw q at e)
-      go false q within l = absurd (none-ne-some c (rw q at e))
-
-  pub after-within : (bytes : List ℕ) → Bytes bytes → {u c : ℕ} → u < sink g → code_after prints g u bytes ≡ some c
-      → c ≤ path_count g u
-  after-within bytes low {u} {c} h e = within-after bytes (within_by bytes low) u c h e

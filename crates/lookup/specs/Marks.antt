@@ -4,7 +4,7 @@
 -- they are cleared. No public contract cites it. Assumes nothing.
 use Rattle.std.specs.Prelude.{ℕ, ◌+◌, ◌*◌, ◌≤◌, ◌<◌, ◌≡◌, length, drop}
 use mathlib.Core.List.{List, [], ◌∷◌, Memᴰ}
-use Rattle.std.proofs.Math.Option.{none}
+use Rattle.std.specs.Prelude.{None}
 use Rattle.endian.specs.Rows.{number_at}
 use Rattle.graph.specs.Graph.{Graph}
 use Rattle.lookup.specs.Seeking.{code_after}
@@ -30,7 +30,7 @@ pub record Marks (prints : List ℕ) (g : Graph) (word m : List ℕ) (last : ℕ
   pub long : length m ≡ 26534
   pub chained : Chained m last
   pub tells : {i u : ℕ} → i ≤ 32 → u < 402 → ¬ (number_at m (pair_of i u) ≡ 0)
-      → code_after prints g u (drop i word) ≡ none
+      → code_after prints g u (drop i word) ≡ None
 
 -- one more pair is marked
 pub record PairMarked (m : List ℕ) (p : ℕ) (n : List ℕ) : Type 0 where

@@ -1,6 +1,5 @@
 // A stock list: items of a length byte and that many letters, and the answers to them, 8 bytes each.
-ghost use Rattle.std.specs.Prelude.{◌≡◌, ◌++◌, false, ◌+◌, ◌*◌, ◌≤◌, length, drop, replicate};
-ghost use Rattle.std.proofs.lemmas.List.Edits.{sets};
+ghost use Rattle.std.specs.Prelude.{◌≡◌, ◌++◌, false, ◌+◌, ◌*◌, ◌≤◌, length, take, drop, replicate};
 ghost use Rattle.endian.specs.Bytes.{u32_bytes};
 ghost use Rattle.call.specs.Table.{answer_of};
 ghost use Rattle.graph.specs.Graph.{graph_of};
@@ -9,7 +8,8 @@ ghost use Rattle.lookup.specs.Seeking.{prints_column, Seekable};
 ghost use Rattle.lookup.specs.Items.{count_answer, sought_bytes};
 
 use crate::seeking::look_up;
-use call::{Answer, Refusal};
+use call::Refusal;
+use checking::Vertex;
 use endian::u32_bytes;
 
 // The most items of a list (row 19).
@@ -19,52 +19,41 @@ const ITEMS: u32 = 1000;
 pub(crate) const ANSWER: usize = 8;
 
 // The number of items, or 19: the list is read to its end before any item is looked up.
-pub(crate) fn count_items(items: &[u8]) -> Answer
+pub(crate) fn count_items(items: &[u8]) -> Result<u32, Refusal>
     ensures { answer_of result ≡ count_answer items.now }
 {
-    let mut at = 0;
+    let mut rest = items;
     let mut count = 0;
-    while at < items.len() {
-        let end = at + 1 + items[at] as usize;
+    while let [letters, behind @ ..] = rest {
         if count == ITEMS {
-            return Answer::Refused(Refusal::Items);
+            return Err(Refusal::Items);
         }
-        if items.len() < end {
-            return Answer::Refused(Refusal::Items);
-        }
-        at = end;
+        let Some((_, after)) = behind.split_at_checked(*letters as usize) else {
+            return Err(Refusal::Items);
+        };
+        rest = after;
         count += 1;
     }
-    Answer::Value(count)
-}
-
-fn put_bytes(out: &mut [u8], at: usize, bytes: [u8; 4])
-    requires { (at + 4 ≤ length out.old) × (length bytes ≡ 4) }
-    ensures { out.new ≡ sets out.old at bytes }
-{
-    out[at] = bytes[0];
-    out[at + 1] = bytes[1];
-    out[at + 2] = bytes[2];
-    out[at + 3] = bytes[3];
+    Ok(count)
 }
 
 // Writes the two numbers of an answer.
 fn put_numbers(out: &mut [u8], at: usize, refusal: u32, code: u32)
     requires { at + 8 ≤ length out.old }
-    ensures { out.new ≡ sets out.old at (u32_bytes refusal ++ u32_bytes code) }
+    ensures { out.new ≡ take at out.old ++ (u32_bytes refusal ++ u32_bytes code) ++ drop (at + 8) out.old }
 {
-    put_bytes(out, at, u32_bytes(refusal));
-    put_bytes(out, at + 4, u32_bytes(code));
+    out[at..at + 4].copy_from_slice(&u32_bytes(refusal));
+    out[at + 4..at + ANSWER].copy_from_slice(&u32_bytes(code));
 }
 
 // Writes the answer to an item.
-fn put_answer(out: &mut [u8], at: usize, answer: Answer)
+fn put_answer(out: &mut [u8], at: usize, answer: Result<u32, Refusal>)
     requires { at + 8 ≤ length out.old }
-    ensures { out.new ≡ sets out.old at (answer_bytes (answer_of answer)) }
+    ensures { out.new ≡ take at out.old ++ answer_bytes (answer_of answer) ++ drop (at + 8) out.old }
 {
     match answer {
-        Answer::Value(code) => put_numbers(out, at, 0, code),
-        Answer::Refused(refusal) => {
+        Ok(code) => put_numbers(out, at, 0, code),
+        Err(refusal) => {
             let number = refusal.number();
             put_numbers(out, at, number as u32, 0)
         }
@@ -74,7 +63,7 @@ fn put_answer(out: &mut [u8], at: usize, answer: Answer)
 // Looks the items up, one after the other, and writes the answers to them.
 pub(crate) fn put_answers(
     lexicon: &[u8],
-    vertices: &[[u32; 4]; 402],
+    vertices: &[Vertex; 402],
     items: &[u8],
     marks: &mut [u8],
     out: &mut [u8],
@@ -86,13 +75,13 @@ pub(crate) fn put_answers(
         (graph_of lexicon.now) (items_of items.now)
         ++ drop (8 * length (items_of items.now)) out.old }
 {
-    let mut at = 0;
+    let mut rest = items;
     let mut answered = 0;
-    while at < items.len() {
-        let end = at + 1 + items[at] as usize;
-        let answer = look_up(lexicon, vertices, &items[at + 1..end], marks);
+    while let [letters, behind @ ..] = rest {
+        let (word, after) = behind.split_at(*letters as usize);
+        let answer = look_up(lexicon, vertices, word, marks);
         put_answer(out, answered, answer);
         answered += ANSWER;
-        at = end;
+        rest = after;
     }
 }

@@ -10,8 +10,8 @@ use crate::image::put_prints;
 use crate::items::{ANSWER, count_items, put_answers};
 use crate::marks::MARKS;
 use crate::seeking::look_up;
-use call::{Answer, Refusal};
-use checking::open;
+use call::Refusal;
+use checking::{Vertex, open};
 
 mod image;
 mod items;
@@ -19,17 +19,19 @@ mod marks;
 mod seeking;
 
 // The code of a word, given as print bytes.
-pub fn word_to_code(voice: &[u8], lexicon: &[u8], word: &[u8], work: &mut [u8]) -> Answer
+pub fn word_to_code(
+    voice: &[u8],
+    lexicon: &[u8],
+    word: &[u8],
+    work: &mut [u8],
+) -> Result<u32, Refusal>
     ensures result_value { answer_of result ≡ word_to_code_answer voice.now lexicon.now word.now
         work.old }
     ensures work_after { work.new ≡ word_to_code_work voice.now lexicon.now word.now
         work.old }
 {
-    let mut vertices = [[0u32; 4]; 402];
-    let opened = open(voice, lexicon, work, &mut vertices);
-    let Answer::Value(_) = opened else {
-        return opened;
-    };
+    let mut vertices = [Vertex::BLANK; 402];
+    open(voice, lexicon, work, &mut vertices)?;
     put_prints(voice, lexicon, &mut vertices);
     look_up(lexicon, &vertices, word, &mut work[0..MARKS])
 }
@@ -41,7 +43,7 @@ pub fn words_to_codes(
     items: &[u8],
     work: &mut [u8],
     out: &mut [u8],
-) -> Answer
+) -> Result<u32, Refusal>
     ensures result_value { answer_of result ≡ words_to_codes_answer voice.now lexicon.now items.now
         work.old out.old }
     ensures work_after { work.new ≡ words_to_codes_work voice.now lexicon.now
@@ -49,19 +51,13 @@ pub fn words_to_codes(
     ensures out_after { out.new ≡ words_to_codes_out voice.now lexicon.now items.now
         work.old out.old }
 {
-    let mut vertices = [[0u32; 4]; 402];
-    let opened = open(voice, lexicon, work, &mut vertices);
-    let Answer::Value(_) = opened else {
-        return opened;
-    };
-    let counted = count_items(items);
-    let Answer::Value(count) = counted else {
-        return counted;
-    };
+    let mut vertices = [Vertex::BLANK; 402];
+    open(voice, lexicon, work, &mut vertices)?;
+    let count = count_items(items)?;
     if out.len() < ANSWER * count as usize {
-        return Answer::Refused(Refusal::Output);
+        return Err(Refusal::Output);
     }
     put_prints(voice, lexicon, &mut vertices);
     put_answers(lexicon, &vertices, items, &mut work[0..MARKS], out);
-    counted
+    Ok(count)
 }

@@ -1,4 +1,5 @@
-// Packed codes: their width, packing and unpacking (document 01, Lexicon; rows 9, 12 and 14 to 16 of its refusal table).
+// Packed codes: their width, packing and unpacking (document 01, Lexicon; rows 9, 12 and 14 to 16 of its refusal
+// table).
 #![tactic(auto)]
 
 ghost use Rattle.std.specs.Prelude.{◌≡◌, ◌+◌, ◌*◌, ◌≤◌, ◌<◌, length, take, drop};
@@ -12,8 +13,8 @@ ghost use Rattle.packing.specs.Packing.{number_of, to_bits, packed, packed_size,
 ghost use Rattle.packing.specs.Width.{width, width_answer};
 ghost use Rattle.packing.specs.Offsets.{overlay, CodeOffset, CodeLimits, PackedFits, RightSize, CodeInBytes};
 
-use crate::bits::{code_at, put_code};
-use call::{Answer, Refusal, inside, zero};
+use crate::bits::{BitOffset, code_at, put_code};
+use call::{Refusal, inside};
 use endian::u32_bytes;
 
 mod bits;
@@ -27,32 +28,27 @@ const WORDS: usize = 1048576;
 // The most codes that are packed together (row 12).
 const CODES: usize = 8;
 
-// The bits of a code below a number of words: none where there is one word, else the length of the greatest code in binary.
+// The bits of a code below a number of words: none where there is one word, else the length of the greatest code in
+// binary.
 fn width_of(words: u32) -> u32
     requires { 1 ≤ words }
     ensures { result ≡ width words }
 {
+    // 1 apart and all others by leading zeros: a form that docs/SPECIFICATION.md names
     if words == 1 {
         return 0;
     }
-    32 - u32::leading_zeros(words - 1)
+    u32::BITS - (words - 1).leading_zeros()
 }
 
 // The same for any number of words; 9 for 0 and above 1,048,576.
-pub fn width(words: u32) -> Answer
+pub fn width(words: u32) -> Result<u32, Refusal>
     ensures { answer_of result ≡ width_answer words }
 {
     if !inside(words as usize, 1, WORDS) {
-        return Answer::Refused(Refusal::WordCount);
+        return Err(Refusal::WordCount);
     }
-    Answer::Value(width_of(words))
-}
-
-// Where a code begins.
-#[derive(Drop)]
-struct BitOffset {
-    byte: usize,
-    bit: u32,
+    Ok(width_of(words))
 }
 
 // Code i begins at bit i × b, in byte i × b / 8; nothing else here knows where codes begin.
@@ -72,41 +68,34 @@ fn packed_size(n: usize, b: u32) -> usize
     requires { CodeLimits n b }
     ensures { result ≡ packed_size b n }
 {
-    (n * (b as usize) + 7) / 8
+    (n * (b as usize)).div_ceil(8)
 }
 
 // Row 15, for codes that are given.
 fn has_bad_code(words: u32, codes: &[u32]) -> bool
     ensures { result ≡ any (bad_code words) codes.now }
 {
-    let mut i = 0;
-    while i < codes.len() {
-        if words <= codes[i] {
-            return true;
-        }
-        i += 1;
-    }
-    false
+    codes.iter().any(|code| words <= *code)
 }
 
 // The rows of packing in the table's order, all judged before a byte is written, or the bytes that the codes take.
-fn judge_pack(words: u32, codes: &[u32], out: &[u8]) -> Answer
+fn judge_pack(words: u32, codes: &[u32], out: &[u8]) -> Result<u32, Refusal>
     ensures { answer_of result ≡ pack_answer words codes.now out.now }
 {
     if !inside(words as usize, 1, WORDS) {
-        return Answer::Refused(Refusal::WordCount);
+        return Err(Refusal::WordCount);
     }
     if !inside(codes.len(), 1, CODES) {
-        return Answer::Refused(Refusal::Count);
+        return Err(Refusal::Count);
     }
     if has_bad_code(words, codes) {
-        return Answer::Refused(Refusal::Code);
+        return Err(Refusal::Code);
     }
     let size = packed_size(codes.len(), width_of(words));
     if out.len() < size {
-        return Answer::Refused(Refusal::Output);
+        return Err(Refusal::Output);
     }
-    Answer::Value(size as u32)
+    Ok(size as u32)
 }
 
 // Makes the first n bytes zero, so that the padding is.
@@ -114,7 +103,7 @@ fn zero_first(out: &mut [u8], n: usize)
     requires { n ≤ length out.old }
     ensures { out.new ≡ zeroed n out.old }
 {
-    zero(&mut out[0..n]);
+    out[..n].fill(0);
 }
 
 // Packs codes that were judged.
@@ -123,27 +112,19 @@ fn put_codes(out: &mut [u8], b: u32, codes: &[u32])
     ensures { out.new ≡ packed b codes.now ++ drop (packed_size b (length codes.now)) out.old }
 {
     zero_first(out, packed_size(codes.len(), b));
-    let mut i = 0;
-    while i < codes.len() {
-        let at = offset_of(i, b);
-        put_code(out, at.byte, at.bit, b, codes[i]);
-        i += 1;
+    for (i, code) in codes.iter().enumerate() {
+        put_code(out, offset_of(i, b), b, *code);
     }
 }
 
 // Packs the codes and answers the bytes written.
-pub fn pack(words: u32, codes: &[u32], out: &mut [u8]) -> Answer
+pub fn pack(words: u32, codes: &[u32], out: &mut [u8]) -> Result<u32, Refusal>
     ensures result_value { answer_of result ≡ pack_answer words codes.now out.old }
     ensures out_after { out.new ≡ pack_out words codes.now out.old }
 {
-    let answer = judge_pack(words, codes, &out[..]);
-    match answer {
-        Answer::Value(_) => {
-            put_codes(out, width_of(words), codes);
-            answer
-        }
-        Answer::Refused(_) => answer,
-    }
+    let size = judge_pack(words, codes, &out[..])?;
+    put_codes(out, width_of(words), codes);
+    Ok(size)
 }
 
 // Row 14. The padding, from where code n would begin, is read as one number: it is 0 where all its bits are.
@@ -156,7 +137,7 @@ fn is_bad_packed(n: usize, packed: &[u8], b: u32) -> bool
     }
     let end = offset_of(n, b);
     let padding = (packed.len() - end.byte) as u32 * 8 - end.bit;
-    code_at(packed, end.byte, end.bit, padding) != 0
+    code_at(packed, end, padding) != 0
 }
 
 // Code i of those that the bytes hold.
@@ -164,8 +145,7 @@ fn unpacked_code(packed: &[u8], i: usize, b: u32) -> u32
     requires { CodeInBytes i b packed.now }
     ensures { result ≡ number_of (take b (drop (i * b) (to_bits packed.now))) }
 {
-    let at = offset_of(i, b);
-    code_at(packed, at.byte, at.bit, b)
+    code_at(packed, offset_of(i, b), b)
 }
 
 // Row 15, for codes that are still packed, since nothing may be written yet.
@@ -173,50 +153,45 @@ fn has_bad_unpacked(words: u32, n: usize, packed: &[u8], b: u32) -> bool
     requires { RightSize b n packed.now }
     ensures { result ≡ any (bad_code words) (unpacked b n packed.now) }
 {
-    let mut i = 0;
-    while i < n {
+    for i in 0..n {
         if words <= unpacked_code(packed, i, b) {
             return true;
         }
-        i += 1;
     }
     false
 }
 
 // The rows of unpacking in the table's order, all judged before a byte is written, or n.
-fn judge_unpack(words: u32, n: u32, packed: &[u8], out: &[u8]) -> Answer
+fn judge_unpack(words: u32, n: u32, packed: &[u8], out: &[u8]) -> Result<u32, Refusal>
     ensures { answer_of result ≡ unpack_answer words n packed.now out.now }
 {
     let count = n as usize;
     if !inside(words as usize, 1, WORDS) {
-        return Answer::Refused(Refusal::WordCount);
+        return Err(Refusal::WordCount);
     }
     if !inside(count, 1, CODES) {
-        return Answer::Refused(Refusal::Count);
+        return Err(Refusal::Count);
     }
     let b = width_of(words);
     if is_bad_packed(count, packed, b) {
-        return Answer::Refused(Refusal::Packed);
+        return Err(Refusal::Packed);
     }
     if has_bad_unpacked(words, count, packed, b) {
-        return Answer::Refused(Refusal::Code);
+        return Err(Refusal::Code);
     }
     if out.len() < 4 * count {
-        return Answer::Refused(Refusal::Output);
+        return Err(Refusal::Output);
     }
-    Answer::Value(n)
+    Ok(n)
 }
 
-// Puts a number as u32, little-endian.
+// Puts a number as u32, little-endian. Other crates do the like in a line: a shared function would be public, and test
+// for room.
 fn put_u32(out: &mut [u8], at: usize, v: u32)
     requires { at + 4 ≤ length out.old }
     ensures { out.new ≡ overlay at (u32_bytes v) out.old }
 {
-    let bytes = u32_bytes(v);
-    out[at] = bytes[0];
-    out[at + 1] = bytes[1];
-    out[at + 2] = bytes[2];
-    out[at + 3] = bytes[3];
+    out[at..at + 4].copy_from_slice(&u32_bytes(v));
 }
 
 // Unpacks codes that were judged.
@@ -224,24 +199,17 @@ fn put_unpacked(out: &mut [u8], n: usize, packed: &[u8], b: u32)
     requires { RightSize b n packed.now × (n * 4 ≤ length out.old) }
     ensures { out.new ≡ overlay 0 (flat_map u32_bytes (unpacked b n packed.now)) out.old }
 {
-    let mut i = 0;
-    while i < n {
+    for i in 0..n {
         put_u32(out, i * 4, unpacked_code(packed, i, b));
-        i += 1;
     }
 }
 
 // Unpacks n codes, writes each as u32, and answers n.
-pub fn unpack(words: u32, n: u32, packed: &[u8], out: &mut [u8]) -> Answer
+pub fn unpack(words: u32, n: u32, packed: &[u8], out: &mut [u8]) -> Result<u32, Refusal>
     ensures result_value { answer_of result ≡ unpack_answer words n packed.now out.old }
     ensures out_after { out.new ≡ unpack_out words n packed.now out.old }
 {
-    let answer = judge_unpack(words, n, packed, &out[..]);
-    match answer {
-        Answer::Value(_) => {
-            put_unpacked(out, n as usize, packed, width_of(words));
-            answer
-        }
-        Answer::Refused(_) => answer,
-    }
+    let count = judge_unpack(words, n, packed, &out[..])?;
+    put_unpacked(out, n as usize, packed, width_of(words));
+    Ok(count)
 }

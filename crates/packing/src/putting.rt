@@ -4,12 +4,10 @@ ghost use Rattle.std.specs.Prelude.{◌≡◌, ◌++◌, ◌+◌, ◌*◌, ◌^�
 ghost use Rattle.packing.specs.Packing.{packed, packed_size};
 ghost use Rattle.packing.specs.Walks.{Packable, BitsFit, BytePut, CodeFits, CodePut, RestFits, RestPut};
 
-// So many bytes are put, and so many bits behind them are in no byte yet: fewer than 8 where a code begins.
-#[derive(Drop)]
-struct BitOffset {
-    byte: usize,
-    bit: u32,
-}
+use crate::bits::BitOffset;
+
+// A place says here that so many bytes are put, and that so many bits behind them are in no byte yet: fewer than 8
+// where a code begins.
 
 // The bits that are held, with the b bits of a code behind them.
 fn join(held: u32, b: u32, code: u32) -> u32
@@ -32,7 +30,7 @@ fn put_byte(out: &mut [u8], at: BitOffset, joined: u32) -> BitOffset
     out[byte] = ((joined >> bit) % 256) as u8;
     BitOffset {
         byte: byte + 1,
-        bit: bit,
+        bit,
     }
 }
 
@@ -72,13 +70,11 @@ pub(crate) fn put_codes(out: &mut [u8], b: u32, codes: &[u32])
 {
     let mut at = BitOffset { byte: 0, bit: 0 };
     let mut held = 0;
-    let mut i = 0;
-    while i < codes.len() {
-        let joined = join(held, b, codes[i]);
+    for code in codes {
+        let joined = join(held, b, *code);
         at = put_code(out, at, b, joined);
         // the bits that are in no byte yet are fewer than 8, the last of them all
         held = joined % 256;
-        i += 1;
     }
     put_rest(out, at, held);
 }

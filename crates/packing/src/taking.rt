@@ -4,22 +4,17 @@
 ghost use Rattle.std.specs.Prelude.{◌≡◌, ◌-◌, ◌%◌, ◌^◌, ◌≤◌, ◌<◌, length};
 ghost use Rattle.packing.specs.Walks.{PackedLength, CanTake, BytesTaken, CodesRead};
 
+use crate::bits::power;
+
 // So many bytes are taken, and of their bits so many are held, as the number that they make.
-#[derive(Drop)]
+#[derive(Clone, Copy)]
 struct Taken {
     bytes: usize,
     bits: u32,
     held: u32,
 }
 
-// 2^k.
-fn power(k: u32) -> u32
-    requires { k < 32 }
-    ensures { result ≡ 2 ^ k }
-{
-    1 << k
-}
-
+// Takes bytes until b bits are held.
 fn take_bytes(packed: &[u8], at: Taken, b: u32) -> Taken
     requires { CanTake b at.bytes at.bits at.held packed.now }
     ensures { BytesTaken b at.bytes at.bits at.held result.bytes result.bits result.held
@@ -28,16 +23,13 @@ fn take_bytes(packed: &[u8], at: Taken, b: u32) -> Taken
     let mut bytes = at.bytes;
     let mut bits = at.bits;
     let mut held = at.held;
+    // what ends it is the number of bits held, and a range would need a division
     while bits < b {
         held = held * 256 + packed[bytes] as u32;
         bytes += 1;
         bits += 8;
     }
-    Taken {
-        bytes: bytes,
-        bits: bits,
-        held: held,
-    }
+    Taken { bytes, bits, held }
 }
 
 // What is held behind the first b bits, which are a code.
@@ -53,22 +45,20 @@ fn pass_code(at: Taken, b: u32) -> Taken
     }
 }
 
-// Reads n codes, and answers the padding: the number that the bits behind them make.
-pub(crate) fn read_codes(packed: &[u8], n: usize, b: u32, codes: &mut [u32]) -> u32
-    requires { PackedLength b n packed.now × (n ≤ length codes.old) }
-    ensures { CodesRead b n result packed.now codes.new }
+// Reads as many codes as there is room for, and answers the padding: the number that the bits behind them make.
+pub(crate) fn read_codes(packed: &[u8], b: u32, codes: &mut [u32]) -> u32
+    requires { PackedLength b (length codes.old) packed.now }
+    ensures { CodesRead b (length codes.old) result packed.now codes.new }
 {
     let mut at = Taken {
         bytes: 0,
         bits: 0,
         held: 0,
     };
-    let mut i = 0;
-    while i < n {
+    for code in codes.iter_mut() {
         let more = take_bytes(packed, at, b);
-        codes[i] = more.held >> (more.bits - b);
+        *code = more.held >> (more.bits - b);
         at = pass_code(more, b);
-        i += 1;
     }
     at.held
 }

@@ -2,10 +2,8 @@
 -- exact half to the even neighbour. Assumes nothing.
 use Rattle.std.specs.Prelude.{ℕ, ◌+◌, ◌*◌, ◌/◌, ◌%◌, cond, [], ◌∷◌, ltb, ℤ, pos, negsuc, neg_ℤ, nat_abs}
 use Rattle.call.specs.declared.Refusal.TheVariants.{Frames}
-use Rattle.call.specs.Table.{Answer, value, refused, on, unless}
+use Rattle.call.specs.Table.{Answer, on, unless}
 use Rattle.call.specs.Limits.{bad_frame_count}
-use Rattle.ranking.specs.declared.MeanScore.{MeanScore}
-use Rattle.ranking.specs.declared.MeanScore.TheVariants.{Value, Refused}
 
 -- the nearest whole number to n over T, from T = 1 on: n / T where the remainder is less than half of T, the next
 -- number where it is more, and where it is exactly half the even one of the two
@@ -26,8 +24,3 @@ mean score T = with_sign score (nearest (nat_abs score) T)
 -- the mean as a call
 unfoldable pub mean_answer : ℤ → ℕ → Answer ℤ
 mean_answer score T = unless (on Frames (bad_frame_count T) ∷ []) (mean score T)
-
--- the answer that each case of the code's enum is
-abbrev pub mean_of : MeanScore → Answer ℤ
-mean_of (Value z) = value z
-mean_of (Refused r) = refused r

@@ -2,57 +2,39 @@
 #![tactic(auto)]
 
 ghost use Rattle.std.specs.Prelude.{◌≡◌, ◌≤◌, nat_abs};
-ghost use Rattle.ranking.specs.Mean.{with_sign, mean_of, mean_answer};
+ghost use Rattle.call.specs.Table.{answer_of};
+ghost use Rattle.ranking.specs.Mean.{with_sign, mean_answer};
 
 use call::Refusal;
-
-// A mean may be negative, so that it has an answer of its own.
-#[derive(Clone, Copy)]
-pub enum MeanScore {
-    Value(i32),
-    Refused(Refusal),
-}
 
 // The most frames that are decoded.
 pub const FRAMES: u32 = 1000;
 
-// A number without its sign, which for the lowest i32 is no i32.
-fn without_sign(x: i32) -> u32
-    ensures { result ≡ nat_abs x }
-{
-    if x < 0 {
-        return ((-1 - x) as u32) + 1;
-    }
-    x as u32
-}
-
-// A number with the sign of x. The minus sign is put on in 64 bits, since 2^31 is no i32 and -2^31 is one.
+// A number with the sign of x, for which std has no method. The minus sign is put on in 64 bits, since 2^31 is no i32
+// and -2^31 is one.
 fn with_sign(x: i32, number: u32) -> i32
     requires { number ≤ nat_abs x }
     ensures { result ≡ with_sign x number }
 {
     if x < 0 {
-        return (0 - (number as i64)) as i32;
+        return -i64::from(number) as i32;
     }
     number as i32
 }
 
 // The nearest whole number to score over frames, an exact half to the even neighbour; 11 for 0 frames and above 1,000.
-pub fn mean(score: i32, frames: u32) -> MeanScore
-    ensures { mean_of result ≡ mean_answer score frames }
+pub fn mean(score: i32, frames: u32) -> Result<i32, Refusal>
+    ensures { answer_of result ≡ mean_answer score frames }
 {
-    if frames == 0 {
-        return MeanScore::Refused(Refusal::Frames);
+    if frames == 0 || FRAMES < frames {
+        return Err(Refusal::Frames);
     }
-    if FRAMES < frames {
-        return MeanScore::Refused(Refusal::Frames);
-    }
-    let number = without_sign(score);
+    let number = score.unsigned_abs();
     let quotient = number / frames;
     // 1 more tips an exact half only, and there an odd quotient gives way to the next number
     let odd = quotient % 2;
     if frames < 2 * (number % frames) + odd {
-        return MeanScore::Value(with_sign(score, quotient + 1));
+        return Ok(with_sign(score, quotient + 1));
     }
-    MeanScore::Value(with_sign(score, quotient))
+    Ok(with_sign(score, quotient))
 }

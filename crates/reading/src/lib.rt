@@ -13,6 +13,8 @@ pub fn read_full<R: Read>(reader: &mut R, space: &mut [u8]) -> io::Result<usize>
         (λ xs. take n space.new ≡ take (length space.old) xs)) }
 {
     let mut got = 0;
+    // a step is what the reader gives, so that no range counts the steps; the library's `read_exact` does not say how
+    // much came where the bytes end early, and `read_to_end` takes a heap
     while got < space.len() {
         let n = reader.read(&mut space[got..])?;
         if n == 0 {

@@ -29,6 +29,7 @@ use Rattle.canonical.proofs.Sorting.{Sorted}
 use Rattle.canonical.proofs.Continuations.{Below, rest_sorted, below_rest}
 use Rattle.canonical.proofs.Nodes.{node-next}
 use Rattle.sorting.specs.Slots.{word_at, words_from}
+use Rattle.registering.specs.declared.Row.{Row}
 use Rattle.registering.specs.Register.{Words, previous, Shared, Linked, rests_from}
 use Rattle.registering.specs.Numbering.{Numbered}
 use Rattle.registering.specs.Arcs.{partings, link_number}
@@ -176,7 +177,7 @@ module _ {t : List ℕ} {N f m e : ℕ} (w : Words t N) (b : Behind t N f m e) w
       ∙ node-next ws start (letter k)
       ∙ ap (λ r. node (letter k) (after (letter k) r)) (sym b.rest)
 
-  module _ {rows : List (List ℕ)} {order numbers : List ℕ} {count : ℕ}
+  module _ {rows : List Row} {order numbers : List ℕ} {count : ℕ}
       (num : Numbered t N rows order numbers count) where
     leads : (k place : ℕ) → f ≤ k → k < f + m → e < length (word_at t k) → Linked t N rows count place k (e + 1)
         → get_or numbers place 0 ≡ next_vertex ws rest (letter k)

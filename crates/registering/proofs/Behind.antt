@@ -5,7 +5,6 @@ use mathlib.Core.Path.{◌≡◌, refl, sym, ap, ◌∙◌}
 use mathlib.Core.List.{List, [], ◌∷◌, map}
 use native.Mathlib.Omega.{arith}
 use lib.ListN.{length, drop}
-use Rattle.checking.proofs.Columns.{column-at}
 use Rattle.canonical.specs.Dictionary.{continuations}
 use Rattle.canonical.specs.Nodes.{Node, node_of}
 use Rattle.canonical.specs.Groups.{begins}
@@ -13,8 +12,10 @@ use Rattle.canonical.proofs.Continuations.{Below}
 use Rattle.canonical.proofs.Vertices.{WordList}
 use Rattle.sorting.specs.Slots.{word_at, words_from}
 use Rattle.sorting.proofs.SlotWords.{words-length, words-out}
-use Rattle.registering.specs.Register.{Words, rests_from, node_at, Group, Register}
+use Rattle.registering.specs.declared.Row.{Row}
+use Rattle.registering.specs.Register.{Words, rests_from, node_at, Group, Register, no_row}
 use Rattle.registering.specs.Numbering.{Rows}
+use Rattle.registering.proofs.Fields.{field-at}
 use Rattle.registering.proofs.RestWords.{longest-low}
 use Rattle.registering.proofs.Runs.{rests_map, words-sorted, letters_of, run-node}
 use Rattle.registering.proofs.Arcs.{Behind}
@@ -56,12 +57,11 @@ module _ {t : List ℕ} {n : ℕ} (w : Words t n) where
     group_low =
         omega (arith, g.high, longest-low t d i m (λ k a b. w.holds k (omega (arith, g.reach.inside))))
 
-  pub register_rows : {rows : List (List ℕ)} {count : ℕ} → Register t n rows count → Rows rows count
+  pub register_rows : {rows : List Row} {count : ℕ} → Register t n rows count → Rows rows count
   register_rows {rows} g = record {
     few = g.few;
     long = g.long;
-    wide = g.wide;
-    low = λ r h. rw (column-at 3 r rows) (omega (arith, group_low (g.groups r h)));
+    low = λ r h. rw (field-at (λ row. row.longest) r rows no_row) (omega (arith, group_low (g.groups r h)));
   }
 
   -- ---- the root

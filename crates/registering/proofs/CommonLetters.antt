@@ -8,8 +8,8 @@ use mathlib.Core.List.{List, [], ◌∷◌}
 use native.Mathlib.Decide.{ℕ_discrete, dec_le}
 use native.Mathlib.Numerals.{add-one}
 use native.Mathlib.Omega.{arith}
-use lib.ListN.{length, get_or, take, drop, set, drop_of_length-le, length-take, length-set}
-use lib.Seq.{drop-cons, get_or-set_same, get_or-set_other}
+use lib.ListN.{length, get_or, take, drop, drop_of_length-le, length-take}
+use lib.Seq.{drop-cons}
 use lib.Dec.{eqb}
 use borrow.Author.Tests.{eq-eqb, ne_eqb, eqb-true}
 use Rattle.endian.proofs.Booleans.{and_in, and-out}
@@ -19,7 +19,7 @@ use Rattle.sorting.specs.Slots.{word_at, Slot}
 use Rattle.sorting.proofs.SlotWords.{word-length, letter_at_lem}
 use Rattle.registering.specs.Register.{Words, previous, Shared, Reach, Group, rests_from, marks_of}
 use Rattle.registering.proofs.RestWords.{rest-length, longest-more}
-use Rattle.registering.proofs.Marks.{marks-low, marks-one, marks-more}
+use Rattle.registering.proofs.Marks.{mark_low, marks-one, marks-more}
 use Rattle.registering.proofs.Common.{common-most, common-begins}
 
 -- ---- two words from a place on
@@ -50,14 +50,6 @@ pub record Alike (t : List ℕ) (j i d : ℕ) : Type 0 where
   pub other : Slot t i
   pub inside : d ≤ min (get_or t (33 * j) 0) (get_or t (33 * i) 0)
   pub all : d + common (drop d (word_at t j)) (drop d (word_at t i)) ≡ common (word_at t j) (word_at t i)
-
-pub alike-start : {t : List ℕ} {j i : ℕ} → Slot t j → Slot t i → Alike t j i 0
-alike-start {t} {j} {i} a b = record {
-  one = a;
-  other = b;
-  inside = omega arith;
-  all = omega arith;
-}
 
 module _ {t : List ℕ} {j i d : ℕ} (p : Alike t j i d) where
   module _ (h : d < min (get_or t (33 * j) 0) (get_or t (33 * i) 0)) where
@@ -193,37 +185,6 @@ module _ {t : List ℕ} {n : ℕ} {shared : List ℕ} (s : Shared t n shared) (i
       ≡ false
   shared_new k = common-apart d (previous t i) (word_at t i) (omega (arith, s.letters i h))
 
--- the entries of the first i words
-pub record SharedTo (t : List ℕ) (n : ℕ) (old shared : List ℕ) (i : ℕ) : Type 0 where
-  pub inside : i ≤ n
-  pub room : n ≤ length old
-  pub long : length shared ≡ length old
-  pub letters : (j : ℕ) → j < i → get_or shared j 0 ≡ common (previous t j) (word_at t j)
-
-pub shared_none : (t : List ℕ) {n : ℕ} {old : List ℕ} → n ≤ length old → SharedTo t n old old 0
-shared_none t h = record { inside = omega arith; room = h; long = refl; letters = λ j k. absurd (omega arith) }
-
-module _ {t : List ℕ} {n : ℕ} {old shared : List ℕ} {i : ℕ} (s : SharedTo t n old shared i) where
-  pub shared_more : {a : ℕ} → i < n → a ≡ common (previous t i) (word_at t i)
-      → SharedTo t n old (set shared i a) (i + 1)
-  shared_more {a} h e =
-      let k : i < length shared = omega (arith, s.room, s.long) in
-      record {
-        inside = omega arith;
-        room = s.room;
-        long = length-set shared i a ∙ s.long;
-        letters = λ j q. elim (ℕ_discrete j i) [
-          | yes f ↦ rw f (get_or-set_same shared i a 0 k ∙ e)
-          | no f ↦ get_or-set_other shared i j a 0 f ∙ s.letters j (omega arith)
-        ];
-      }
-
-  pub shared_all : n ≤ i → Shared t n shared
-  shared_all h = record {
-    long = omega (arith, s.room, s.long);
-    letters = λ j q. s.letters j (omega arith);
-  }
-
 -- the next word
 module _ {t : List ℕ} {n : ℕ} {shared : List ℕ} (s : Shared t n shared) (k d : ℕ) (h : suc k < n) where
   pub next-take : d ≤ get_or shared (suc k) 0 → take d (word_at t (suc k)) ≡ take d (word_at t k)
@@ -347,6 +308,7 @@ module _ {t : List ℕ} {n : ℕ} {shared : List ℕ} (s : Shared t n shared) (i
 pub record Grouping (t : List ℕ) (n i d k letters mark : ℕ) : Type 0 where
   pub run : RunTo t n i d k
   pub short : letters ≤ 32
+  pub low : mark < 65536
   pub high : letters ≡ d + longest (rests_from t d i (k - i))
   pub marked : mark ≡ marks_of 0 (rests_from t d i (k - i))
 
@@ -359,14 +321,12 @@ grouping_start {t} {n} {i} d w h l =
     record {
       run = run-start t n i d h (omega (arith, word-length s));
       short = s.short;
+      low = omega (arith, w.marks i d h l, mark_low (drop d (word_at t i)));
       high = rw e (omega (arith, rest-length s d));
       marked = rw e (w.marks i d h l ∙ sym (marks-one t d i));
     }
 
 module _ {t : List ℕ} {n i d k letters mark : ℕ} (g : Grouping t n i d k letters mark) where
-  pub grouping_low : mark < 65536
-  grouping_low = omega (arith, g.marked, marks-low 0 (rests_from t d i (k - i)) (omega arith))
-
   module _ {shared : List ℕ} (w : Words t n) (s : Shared t n shared) where
     pub grouping_more : k < n → d ≤ get_or shared k 0
         → Grouping t n i d (k + 1) (max letters (get_or t (33 * k) 0))
@@ -384,6 +344,7 @@ module _ {t : List ℕ} {n i d k letters mark : ℕ} (g : Grouping t n i d k let
         record {
           run = r;
           short = omega (arith, g.short, slot.short);
+          low = omega arith;
           high = rw e (omega (arith, m, g.high, rest-length slot d, l));
           marked = rw (e, a, g.marked, w.marks k d h l);
         }

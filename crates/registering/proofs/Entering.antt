@@ -1,18 +1,20 @@
 -- A node more: where the search finds it, the register stays; where it does not, its row is put behind the others and
 -- at the head of its letter's chain, or there is no room. Assumes nothing.
 use Prim.Native.Nat.{ℕ, ◌+◌, ◌*◌, ◌≤◌, ◌<◌}
-use mathlib.Core.Path.{◌≡◌, refl, sym, ap, subst, ◌∙◌}
+use mathlib.Core.Path.{◌≡◌, refl, sym, ap, ◌∙◌}
 use mathlib.Core.Bool.{cond}
-use mathlib.Core.List.{List, [], ◌∷◌}
+use mathlib.Core.List.{List}
 use native.Mathlib.Decide.{ℕ_discrete}
 use native.Mathlib.Numerals.{add-one}
 use native.Mathlib.Omega.{arith}
 use lib.Dec.{eqb}
-use lib.ListN.{length, get_or, set, length-set}
+use lib.ListN.{get_or, set, length-set}
 use lib.Seq.{get_or-set_same, get_or-set_other}
 use borrow.Author.Tests.{eq-eqb, ne_eqb}
+use Rattle.std.specs.Prelude.{Some, None}
+use Rattle.registering.specs.declared.Row.{Row}
 use Rattle.registering.specs.Register.{Register, Chained, Group, GroupRow, Added, Entered, known, added, full}
-use Rattle.registering.specs.Register.{row_node, node_in, node_at, chain_of, last_alike}
+use Rattle.registering.specs.Register.{row_node, node_in, node_at, chain_of, no_row, last_alike}
 use Rattle.registering.specs.Finding.{Found, there, missing}
 use Rattle.registering.proofs.Chains.{last-kept}
 
@@ -20,46 +22,46 @@ use Rattle.registering.proofs.Chains.{last-kept}
 abbrev pub group_letter : List ℕ → ℕ → ℕ → ℕ
 group_letter t i d = get_or t (33 * i + d) 0
 
-abbrev pub group_row : List ℕ → List ℕ → ℕ → ℕ → ℕ → ℕ → ℕ → List ℕ
-group_row t chains i m d h mark = i ∷ m ∷ d ∷ h ∷ get_or chains (group_letter t i d) 0 ∷ mark ∷ []
+abbrev pub group_row : List ℕ → List ℕ → ℕ → ℕ → ℕ → ℕ → ℕ → Row
+group_row t chains i m d h mark = record {
+  first = i;
+  many = m;
+  depth = d;
+  longest = h;
+  chain_or_number = get_or chains (group_letter t i d) 0;
+  mark_or_place = mark;
+}
 
 -- ---- no row more
 
-module _ {t : List ℕ} {n count : ℕ} {rows : List (List ℕ)} {chains : List ℕ} {i m d : ℕ} where
-  pub enter-known : {r : ℕ} → Found t rows count (node_at t i m d) r → Chained t rows chains count → r < count
-      → Entered t n rows count i m d rows chains r
-  enter-known (there k e) c h = known k refl e c
-  enter-known (missing u) c h = absurd (omega arith)
+module _ {t : List ℕ} {n count : ℕ} {rows : List Row} {chains : List ℕ} {i m d : ℕ} where
+  pub enter-known : {r : ℕ} → Found t rows count (node_at t i m d) (Some r) → Chained t rows chains count
+      → Entered t n rows count i m d rows chains (Some r)
+  enter-known (there k e) c = known k refl e c
 
-  pub enter-full : {r : ℕ} → Found t rows count (node_at t i m d) r → Register t n rows count → count ≤ r → 400 ≤ r
-      → Entered t n rows count i m d rows chains r
-  enter-full (there k e) g h f = absurd (omega arith)
-  enter-full (missing u) g h f =
-      let e : 400 ≡ count = omega (arith, g.few) in
-      subst (λ r. Entered t n rows count i m d rows chains r) e (full (sym e) u refl)
+  pub enter-full : Found t rows count (node_at t i m d) None → count ≡ 400
+      → Entered t n rows count i m d rows chains None
+  enter-full (missing u) e = full e u refl
 
 -- ---- a row more
 
-module _ {t : List ℕ} {n count : ℕ} {rows : List (List ℕ)} {chains : List ℕ} {i m d h mark : ℕ}
+module _ {t : List ℕ} {n count : ℕ} {rows : List Row} {chains : List ℕ} {i m d h mark : ℕ}
     (g : Register t n rows count) (c : Chained t rows chains count) (a : Group t n i m d h mark)
     (byte : group_letter t i d < 256) (room : count < 400) where
   -- the row, and the tables after it
-  abbrev row : List ℕ
+  abbrev row : Row
   row = group_row t chains i m d h mark
 
-  abbrev more : List (List ℕ)
+  abbrev more : List Row
   more = set rows count row
 
-  here : get_or more count [] ≡ row
-  here = get_or-set_same rows count row [] (omega (arith, g.long))
+  here : get_or more count no_row ≡ row
+  here = get_or-set_same rows count row no_row (omega (arith, g.long))
 
-  other : (r : ℕ) → ¬ (r ≡ count) → get_or more r [] ≡ get_or rows r []
-  other r k = get_or-set_other rows count r row [] k
+  other : (r : ℕ) → ¬ (r ≡ count) → get_or more r no_row ≡ get_or rows r no_row
+  other r k = get_or-set_other rows count r row no_row k
 
-  wide : (r : ℕ) → r < 401 → length (get_or more r []) ≡ 6
-  wide r k = elim (ℕ_discrete r count) [ yes e ↦ rw (e, here) | no e ↦ rw (other r e) (g.wide r k) ]
-
-  groups : (r : ℕ) → r < count + 1 → GroupRow t n (get_or more r [])
+  groups : (r : ℕ) → r < count + 1 → GroupRow t n (get_or more r no_row)
   groups r k = elim (ℕ_discrete r count) [ yes e ↦ rw (e, here) a | no e ↦ rw (other r e) (g.groups r (omega arith)) ]
 
   row-added : Added t n rows count i m d more
@@ -72,7 +74,6 @@ module _ {t : List ℕ} {n count : ℕ} {rows : List (List ℕ)} {chains : List 
     register = record {
       few = omega arith;
       long = length-set rows count row ∙ g.long;
-      wide = wide;
       groups = groups;
     };
   }
@@ -100,9 +101,9 @@ module _ {t : List ℕ} {n count : ℕ} {rows : List (List ℕ)} {chains : List 
         ∙ sym (last_more b ∙ rw (ne_eqb b (group_letter t i d) e))
   ]
 
-  chained-at : (r : ℕ) → r < count + 1 → chain_of (get_or more r []) ≡ last_alike t more (node_in t more r).letter r
+  chained-at : (r : ℕ) → r < count + 1 → chain_of (get_or more r no_row) ≡ last_alike t more (node_in t more r).letter r
   chained-at r k = elim (ℕ_discrete r count) [
-    | yes e ↦ ap (λ x. chain_of (get_or more x [])) e
+    | yes e ↦ ap (λ x. chain_of (get_or more x no_row)) e
         ∙ ap chain_of here
         ∙ c.heads (group_letter t i d) byte
         ∙ sym (earlier (group_letter t i d) count (omega arith))
@@ -121,7 +122,6 @@ module _ {t : List ℕ} {n count : ℕ} {rows : List (List ℕ)} {chains : List 
     chains = chained-at;
   }
 
-  pub enter-new : {r : ℕ} → Found t rows count (node_at t i m d) r → count ≤ r
-      → Entered t n rows count i m d (set rows r row) (set chains (group_letter t i d) (r + 1)) r
-  enter-new (there k e) q = absurd (omega arith)
-  enter-new (missing u) q = added room u row-added row_chained
+  pub enter-new : Found t rows count (node_at t i m d) None
+      → Entered t n rows count i m d more (set chains (group_letter t i d) (count + 1)) (Some count)
+  enter-new (missing u) = added room u row-added row_chained

@@ -16,7 +16,7 @@ use Rattle.endian.proofs.Lists.{flat_map_append, from-add, sum-append, map_cong,
 use Rattle.voice.specs.Voice.{states}
 use Rattle.image.specs.Image.{list_bytes}
 use Rattle.image.proofs.Reading.{length_from, length-u16}
-use Rattle.registering.specs.Register.{first_of, many_of, depth_of}
+use Rattle.registering.specs.declared.Row.{Row}
 use Rattle.registering.specs.Numbering.{numbers_in}
 use Rattle.registering.specs.Arcs.{place_in, vertex_in, first_arc, vertex_list, partings, partings_of, list_of}
 use Rattle.registering.specs.Arcs.{list_length, Spanned}
@@ -28,11 +28,11 @@ use Rattle.registering.proofs.Partings.{list-long}
 -- ---- letters, and their states
 
 -- what is asked for reading a node's letter
-pub node-read : {t : List ℕ} {rows : List (List ℕ)} {count k : ℕ} → Lettered t rows count → k < count
+pub node-read : {t : List ℕ} {rows : List Row} {count k : ℕ} → Lettered t rows count → k < count
     → ((k + 1 ≤ 400) × (place_in rows (k + 1) ≤ 400)) × LetterRow t (vertex_in rows (k + 1))
 node-read {k = k} l h = ((omega (arith, l.places.few), l.places.inside (k + 1) (omega arith)), l.row k h)
 
-module _ (t : List ℕ) (rows : List (List ℕ)) where
+module _ (t : List ℕ) (rows : List Row) where
   pub letters-none : letters_from t rows 1 0 ≡ []
   unfolding letters_from from
   letters-none = refl
@@ -77,27 +77,27 @@ select-few p (a ∷ l) =
     cond_cases (λ m. length m ≤ suc (length l)) (p a) (a ∷ select p l) (select p l)
     (λ e. omega arith) (λ e. omega arith)
 
-pub parts-few : {shared row : List ℕ} → Spanned shared row → length (partings_of shared row) < 2000
+pub parts-few : {shared : List ℕ} {row : Row} → Spanned shared row → length (partings_of shared row) < 2000
 unfolding partings
 parts-few {shared} {row} s =
     omega (
       arith,
-      select-few (λ k. eqb (get_or shared k 0) (depth_of row)) (from (suc (first_of row)) (many_of row - 1)),
-      length_from (suc (first_of row)) (many_of row - 1),
+      select-few (λ k. eqb (get_or shared k 0) row.depth) (from (suc row.first) (row.many - 1)),
+      length_from (suc row.first) (row.many - 1),
       s.few,
       s.some,
     )
 
-pub list-few : {shared row : List ℕ} → Spanned shared row → list_length shared row ≤ 2000
+pub list-few : {shared : List ℕ} {row : Row} → Spanned shared row → list_length shared row ≤ 2000
 unfolding list_length
 list-few s = parts-few s
 
-list-bytes : (shared links numbers row : List ℕ) (first : ℕ)
+list-bytes : (shared links numbers : List ℕ) (row : Row) (first : ℕ)
     → length (list_bytes (list_of shared links numbers row first)) ≡ 2 + 2 * list_length shared row
 unfolding list_length
 list-bytes shared links numbers row first = omega (arith, list-long shared links numbers row first)
 
-module _ (t shared links : List ℕ) (rows : List (List ℕ)) (count : ℕ) where
+module _ (t shared links : List ℕ) (rows : List Row) (count : ℕ) where
   abbrev own : ℕ → List ℕ
   own k = list_bytes (vertex_list t shared links rows count k)
 
@@ -141,7 +141,7 @@ module _ (t shared links : List ℕ) (rows : List (List ℕ)) (count : ℕ) wher
       (λ k m. list-bytes shared links (numbers_in rows) (vertex_in rows k)
       (first_arc t (numbers_in rows) count (vertex_in rows k) (get_or links (place_in rows k) 0))))
 
-module _ (shared : List ℕ) (rows : List (List ℕ)) where
+module _ (shared : List ℕ) (rows : List Row) where
   pub size_none : lists_length shared rows 0 0 ≡ 0
   unfolding lists_length from sum
   size_none = refl
@@ -172,7 +172,7 @@ module _ (shared : List ℕ) (rows : List (List ℕ)) where
 
 -- ---- all of it
 
-module _ (t shared links : List ℕ) (rows : List (List ℕ)) (count : ℕ) where
+module _ (t shared links : List ℕ) (rows : List Row) (count : ℕ) where
   abbrev letters : List ℕ
   letters = letters_from t rows 1 count
 

@@ -1,4 +1,5 @@
 pub mod RestWords
+pub mod Fields
 pub mod Marks
 pub mod CommonLetters
 pub mod Rests

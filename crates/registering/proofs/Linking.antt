@@ -3,31 +3,33 @@
 use Prim.Native.Nat.{ℕ, ◌+◌, ◌*◌, ◌≤◌, ◌<◌}
 use mathlib.Core.Path.{◌≡◌, refl, ap, ◌∙◌}
 use mathlib.Core.Logic.{◌⊎◌, inl, inr, ⊎_elim}
-use mathlib.Core.List.{List, []}
+use mathlib.Core.List.{List}
 use native.Mathlib.Decide.{ℕ_discrete, dec_lt}
 use native.Mathlib.Omega.{arith}
 use lib.ListN.{length, get_or, set, length-set}
 use lib.Seq.{get_or-set_same, get_or-set_other}
-use Rattle.registering.specs.Register.{first_of, many_of, depth_of, row_node, Linked}
+use Rattle.registering.specs.declared.Row.{Row}
+use Rattle.registering.specs.Register.{no_row, row_node, Linked}
 use Rattle.registering.specs.Walking.{LinksTo, Gap, ahead, within}
 
 -- the first count rows are as they were
-abbrev pub Kept : List (List ℕ) → List (List ℕ) → ℕ → Type 0
-Kept rows rows' count = (r : ℕ) → r < count → get_or rows' r [] ≡ get_or rows r []
+abbrev pub Kept : List Row → List Row → ℕ → Type 0
+Kept rows rows' count = (r : ℕ) → r < count → get_or rows' r no_row ≡ get_or rows r no_row
 
 -- the nodes are linked as far as the words up to slot i go: those at places below old, among count
-pub record Filled (t : List ℕ) (n : ℕ) (shared : List ℕ) (rows : List (List ℕ)) (links : List ℕ) (old count i : ℕ)
+pub record Filled (t : List ℕ) (n : ℕ) (shared : List ℕ) (rows : List Row) (links : List ℕ) (old count i : ℕ)
     : Type 0 where
   pub long : length links ≡ 2400
-  pub down : (r : ℕ) → r < old → depth_of (get_or rows r []) < get_or t (33 * first_of (get_or rows r [])) 0
-      → Linked t n rows count (get_or links r 0) (first_of (get_or rows r [])) (depth_of (get_or rows r []) + 1)
-  pub across : (j r : ℕ) → j < i → r < old → first_of (get_or rows r []) < j
-      → j < first_of (get_or rows r []) + many_of (get_or rows r []) → get_or shared j 0 ≡ depth_of (get_or rows r [])
+  pub down : (r : ℕ) → r < old → (get_or rows r no_row).depth < get_or t (33 * (get_or rows r no_row).first) 0
+      → Linked t n rows count (get_or links r 0) (get_or rows r no_row).first ((get_or rows r no_row).depth + 1)
+  pub across : (j r : ℕ) → j < i → r < old → (get_or rows r no_row).first < j
+      → j < (get_or rows r no_row).first + (get_or rows r no_row).many
+      → get_or shared j 0 ≡ (get_or rows r no_row).depth
       → Linked t n rows count (get_or links (400 + j) 0) j (get_or shared j 0 + 1)
   pub root : (j : ℕ) → j < i → get_or shared j 0 ≡ 0 → Linked t n rows count (get_or links (400 + j) 0) j 1
   pub entry : Linked t n rows count (get_or links (400 + i) 0) i (get_or shared i 0 + 1)
 
-linked_on : {t : List ℕ} {n : ℕ} {rows rows' : List (List ℕ)} {count count' place i d : ℕ} → Kept rows rows' count
+linked_on : {t : List ℕ} {n : ℕ} {rows rows' : List Row} {count count' place i d : ℕ} → Kept rows rows' count
     → count ≤ count' → Linked t n rows count place i d → Linked t n rows' count' place i d
 linked_on {t} {place} kept more l = record {
   inside = omega (arith, l.inside);
@@ -36,7 +38,7 @@ linked_on {t} {place} kept more l = record {
 
 -- ---- the free link
 
-module _ {t : List ℕ} {n : ℕ} {shared : List ℕ} {rows : List (List ℕ)} {links : List ℕ} {count i d : ℕ} where
+module _ {t : List ℕ} {n : ℕ} {shared : List ℕ} {rows : List Row} {links : List ℕ} {count i d : ℕ} where
   pub gap-low : {link : ℕ} → Gap t n shared rows links count i d link → count ≤ 400 → link < 401 + i
   gap-low (ahead e) few = omega arith
   gap-low (within low first depth past entry) few = omega arith
@@ -46,7 +48,7 @@ module _ {t : List ℕ} {n : ℕ} {shared : List ℕ} {rows : List (List ℕ)} {
   gap_shared (within low first depth past entry) = omega arith
 
   gap_row : {link : ℕ} → Gap t n shared rows links count i d link → count ≤ 400 → link < count
-      → (first_of (get_or rows link []) ≡ i) × (depth_of (get_or rows link []) ≡ d)
+      → ((get_or rows link no_row).first ≡ i) × ((get_or rows link no_row).depth ≡ d)
   gap_row (ahead e) few h = absurd (omega arith)
   gap_row (within low first depth past entry) few h = (first, depth)
 
@@ -62,7 +64,7 @@ module _ {t : List ℕ} {n : ℕ} {shared : List ℕ} {rows : List (List ℕ)} {
 
 -- ---- it is filled
 
-module _ {t : List ℕ} {n : ℕ} {shared : List ℕ} {rows rows' : List (List ℕ)} {links : List ℕ}
+module _ {t : List ℕ} {n : ℕ} {shared : List ℕ} {rows rows' : List Row} {links : List ℕ}
     {count count' i d link place : ℕ} (few : count ≤ 400) (low : i < 2000)
     (old : LinksTo t n shared rows links count i link) (gap : Gap t n shared rows links count i d link)
     (kept : Kept rows rows' count) (more : count ≤ count') (new : Linked t n rows' count' place i (d + 1)) where
@@ -72,9 +74,9 @@ module _ {t : List ℕ} {n : ℕ} {shared : List ℕ} {rows rows' : List (List �
   past : (k : ℕ) → ¬ (k ≡ link) → get_or (set links link place) k 0 ≡ get_or links k 0
   past k h = get_or-set_other links link k place 0 h
 
-  down : (r : ℕ) → r < count → depth_of (get_or rows r []) < get_or t (33 * first_of (get_or rows r [])) 0
-      → Linked t n rows' count' (get_or (set links link place) r 0) (first_of (get_or rows r []))
-      (depth_of (get_or rows r []) + 1)
+  down : (r : ℕ) → r < count → (get_or rows r no_row).depth < get_or t (33 * (get_or rows r no_row).first) 0
+      → Linked t n rows' count' (get_or (set links link place) r 0) (get_or rows r no_row).first
+      ((get_or rows r no_row).depth + 1)
   down r h short = elim (ℕ_discrete r link) [
     | yes e ↦
         let u = gap_row gap few (omega arith) in
@@ -101,11 +103,11 @@ module _ {t : List ℕ} {n : ℕ} {shared : List ℕ} {rows rows' : List (List �
 -- ---- words that are done
 
 -- where the words behind slot i up to slot k want no link, the links of slot i are those up to slot k
-pub filled_on : {t : List ℕ} {n : ℕ} {shared : List ℕ} {rows : List (List ℕ)} {links : List ℕ} {count i : ℕ}
+pub filled_on : {t : List ℕ} {n : ℕ} {shared : List ℕ} {rows : List Row} {links : List ℕ} {count i : ℕ}
     (k gap : ℕ) → Filled t n shared rows links count count i
-    → ((j : ℕ) → i < j → j < k → (r : ℕ) → r < count → first_of (get_or rows r []) < j
-    → j < first_of (get_or rows r []) + many_of (get_or rows r [])
-    → ¬ (get_or shared j 0 ≡ depth_of (get_or rows r [])))
+    → ((j : ℕ) → i < j → j < k → (r : ℕ) → r < count → (get_or rows r no_row).first < j
+    → j < (get_or rows r no_row).first + (get_or rows r no_row).many
+    → ¬ (get_or shared j 0 ≡ (get_or rows r no_row).depth))
     → ((j : ℕ) → i < j → j < k → 1 ≤ get_or shared j 0) → LinksTo t n shared rows links count k gap
 filled_on {t} {n} {shared} {rows} {links} {count} {i} k gap f none some = record {
   long = f.long;
@@ -127,7 +129,7 @@ filled_on {t} {n} {shared} {rows} {links} {count} {i} k gap f none some = record
 }
 
 -- the last letter of a word is taken
-pub filled-end : {t : List ℕ} {n : ℕ} {shared : List ℕ} {rows : List (List ℕ)} {links : List ℕ} {count i d link : ℕ}
+pub filled-end : {t : List ℕ} {n : ℕ} {shared : List ℕ} {rows : List Row} {links : List ℕ} {count i d link : ℕ}
     → count ≤ 400 → LinksTo t n shared rows links count i link → Gap t n shared rows links count i d link
     → d ≡ get_or t (33 * i) 0 → get_or shared i 0 < d → Filled t n shared rows links count count i
 filled-end {t} {n} {shared} {rows} {links} {count} {i} {d} {link} few old gap end new = record {
@@ -135,8 +137,8 @@ filled-end {t} {n} {shared} {rows} {links} {count} {i} {d} {link} few old gap en
   down = λ r h short. elim (ℕ_discrete r link) [
     | yes e ↦
         let u = gap_row gap few (omega arith) in
-        let f : first_of (get_or rows r []) ≡ i = ap (λ k. first_of (get_or rows k [])) e ∙ u.0 in
-        let g : depth_of (get_or rows r []) ≡ d = ap (λ k. depth_of (get_or rows k [])) e ∙ u.1 in
+        let f : (get_or rows r no_row).first ≡ i = ap (λ k. (get_or rows k no_row).first) e ∙ u.0 in
+        let g : (get_or rows r no_row).depth ≡ d = ap (λ k. (get_or rows k no_row).depth) e ∙ u.1 in
         absurd (omega (arith, f, g, ap (λ k. get_or t (33 * k) 0) f))
     | no e ↦ old.down r h e short
   ];

@@ -70,6 +70,7 @@ marks-more t d i n = ap (λ k. marks_of 0 (rests_from t d i k)) (add-one n) ∙ 
 -- those behind more than d letters are put, and the next is made
 pub record MarkedPast (t : List ℕ) (i d mark : ℕ) (u : List ℕ) : Type 0 where
   pub inside : d ≤ get_or t (33 * i) 0
+  pub low : mark < 256
   pub next : mark ≡ rest_mark (drop d (word_at t i))
   pub put : WordMarked t i (d + 1) u
 
@@ -77,6 +78,7 @@ module _ {t : List ℕ} {i : ℕ} (s : Slot t i) where
   pub mark_start : MarkedPast t i (get_or t (33 * i) 0) 1 t
   mark_start = record {
     inside = omega arith;
+    low = omega arith;
     next = mark_last s;
     put = record { long = refl; below = λ k h. refl; marks = λ e p q. absurd (omega arith) };
   }
@@ -98,18 +100,22 @@ module _ {t : List ℕ} {i : ℕ} (s : Slot t i) where
 
     -- from it and the letter before it, of which there is one
     pub mark_next : 0 < d
-        → MarkedPast t i (d - 1) ((37 * mark + get_or (set u (33 * (2001 + i) + d) mark) (33 * i + d) 0) % 256)
-        (set u (33 * (2001 + i) + d) mark)
+        → MarkedPast t i (d - 1)
+        ((37 * mark + get_or (set u (33 * (2001 + i) + 1 + (d - 1)) mark) (33 * i + 1 + (d - 1)) 0) % 256)
+        (set u (33 * (2001 + i) + 1 + (d - 1)) mark)
     mark_next h =
         let inside = m.inside in
+        let to : 33 * (2001 + i) + 1 + (d - 1) ≡ 33 * (2001 + i) + d = omega arith in
+        let from : 33 * i + 1 + (d - 1) ≡ 33 * i + d = omega arith in
         let e : d - 1 + 1 ≡ d = omega arith in
         let f : suc (d - 1) ≡ d = omega arith in
         let letter = mark_put.below (33 * i + d) (omega (arith, s.short)) in
-        record {
+        rw (to, from) (record {
           inside = omega arith;
+          low = omega arith;
           next = rw (letter, m.next) (rw f at (mark_before s (d - 1) (omega arith)));
           put = rw e mark_put;
-        }
+        })
 
     pub mark_done : d ≤ 0 → WordMarked t i 0 (set u (33 * (2001 + i)) mark)
     mark_done h =

@@ -28,7 +28,8 @@ use Rattle.canonical.proofs.Ranks.{select-none}
 use Rattle.canonical.proofs.Nodes.{down_in, down-falls, nodes-apart, place-of}
 use Rattle.canonical.proofs.Registering.{nodes-from}
 use Rattle.sorting.specs.Slots.{words_from}
-use Rattle.registering.specs.Register.{longest_of, node_at, row_node, node_in, registered, Register}
+use Rattle.registering.specs.declared.Row.{Row}
+use Rattle.registering.specs.Register.{no_row, node_at, row_node, node_in, registered, Register}
 use Rattle.registering.specs.Numbering.{places_of, places_below, Low, Placed, Numbered}
 use Rattle.registering.proofs.Selected.{select-here, select-past, select-end}
 
@@ -216,7 +217,7 @@ get_d_map_in f [] k d e h = absurd (omega arith)
 get_d_map_in f (a ∷ l) zero d e h = refl
 get_d_map_in f (a ∷ l) (suc k) d e h = get_d_map_in f l k d e (omega arith)
 
-registered-map : (t : List ℕ) (rows : List (List ℕ)) (r count : ℕ)
+registered-map : (t : List ℕ) (rows : List Row) (r count : ℕ)
     → registered t rows r count ≡ map (node_in t rows) (from r count)
 unfolding registered from
 registered-map t rows r zero = refl
@@ -240,9 +241,9 @@ module _ (ws : List (List ℕ)) (top : ℕ) (low : (n : Node) → In n (reached 
       ∙ ap (λ n. flat_map (level ws) (down_from n)) (add_comm (longest ws) top)
       ∙ nodes-from ws top
 
-module _ {t : List ℕ} {n : ℕ} {rows : List (List ℕ)} (heights : List ℕ) {count : ℕ} (g : Register t n rows count)
+module _ {t : List ℕ} {n : ℕ} {rows : List Row} (heights : List ℕ) {count : ℕ} (g : Register t n rows count)
     (is : registered t rows 0 count ≡ reached (words_from t 0 n))
-    (high : (r : ℕ) → r < count → get_or heights r 0 ≡ longest_of (get_or rows r [])) where
+    (high : (r : ℕ) → r < count → get_or heights r 0 ≡ (get_or rows r no_row).longest) where
   abbrev ws : List (List ℕ)
   ws = words_from t 0 n
 

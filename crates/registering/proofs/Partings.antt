@@ -12,7 +12,7 @@ use Rattle.endian.specs.Bytes.{u16_bytes}
 use Rattle.endian.proofs.Lists.{flat_map_append}
 use Rattle.image.specs.Image.{list_bytes}
 use Rattle.image.proofs.Reading.{length-list}
-use Rattle.registering.specs.Register.{first_of, many_of, depth_of}
+use Rattle.registering.specs.declared.Row.{Row}
 use Rattle.registering.specs.Arcs.{partings, partings_of, link_number, later_arcs, list_of, list_length, Spanned}
 use Rattle.registering.specs.Image.{ArcsPut}
 use Rattle.registering.specs.Image.{Put}
@@ -22,41 +22,41 @@ use Rattle.registering.proofs.Putting.{put-none, put_both, put_front}
 -- ---- the words that part
 
 -- those of a row from word i on
-abbrev pub partings_from : List ℕ → List ℕ → ℕ → List ℕ
-partings_from shared row i = partings shared (depth_of row) i (first_of row + many_of row - i)
+abbrev pub partings_from : List ℕ → Row → ℕ → List ℕ
+partings_from shared row i = partings shared row.depth i (row.first + row.many - i)
 
-module _ (shared row : List ℕ) (i : ℕ) where
+module _ (shared : List ℕ) (row : Row) (i : ℕ) where
   abbrev parts : ℕ → Bool
-  parts k = eqb (get_or shared k 0) (depth_of row)
+  parts k = eqb (get_or shared k 0) row.depth
 
-  pub part-here : i < first_of row + many_of row → get_or shared i 0 ≡ depth_of row
+  pub part-here : i < row.first + row.many → get_or shared i 0 ≡ row.depth
       → partings_from shared row i ≡ i ∷ partings_from shared row (i + 1)
   unfolding partings
-  part-here h e = select-here parts i (first_of row + many_of row) h (eq-eqb (get_or shared i 0) (depth_of row) e)
+  part-here h e = select-here parts i (row.first + row.many) h (eq-eqb (get_or shared i 0) row.depth e)
 
-  pub part-past : i < first_of row + many_of row → ¬ (get_or shared i 0 ≡ depth_of row)
+  pub part-past : i < row.first + row.many → ¬ (get_or shared i 0 ≡ row.depth)
       → partings_from shared row i ≡ partings_from shared row (i + 1)
   unfolding partings
-  part-past h e = select-past parts i (first_of row + many_of row) h (ne_eqb (get_or shared i 0) (depth_of row) e)
+  part-past h e = select-past parts i (row.first + row.many) h (ne_eqb (get_or shared i 0) row.depth e)
 
-  pub part_end : first_of row + many_of row ≤ i → partings_from shared row i ≡ []
+  pub part_end : row.first + row.many ≤ i → partings_from shared row i ≡ []
   unfolding partings
-  part_end h = select-end parts i (first_of row + many_of row) h
+  part_end h = select-end parts i (row.first + row.many) h
 
 -- all of them
-part-start : (shared row : List ℕ) → partings_of shared row ≡ partings_from shared row (first_of row + 1)
+part-start : (shared : List ℕ) (row : Row) → partings_of shared row ≡ partings_from shared row (row.first + 1)
 part-start shared row =
-    let e : first_of row + many_of row - (first_of row + 1) ≡ many_of row - 1 = omega arith in rw (e, add-one)
+    let e : row.first + row.many - (row.first + 1) ≡ row.many - 1 = omega arith in rw (e, add-one)
 
 -- ---- how many there are
 
-pub record Counting (shared row : List ℕ) (arcs i : ℕ) : Type 0 where
-  pub inside : i ≤ first_of row + many_of row
+pub record Counting (shared : List ℕ) (row : Row) (arcs i : ℕ) : Type 0 where
+  pub inside : i ≤ row.first + row.many
   pub few : arcs ≤ i
   pub total : arcs + length (partings_from shared row i) ≡ list_length shared row
 
-module _ {shared row : List ℕ} where
-  pub count-start : Spanned shared row → Counting shared row 1 (first_of row + 1)
+module _ {shared : List ℕ} {row : Row} where
+  pub count-start : Spanned shared row → Counting shared row 1 (row.first + 1)
   unfolding list_length
   count-start s = record {
     inside = omega (arith, s.some);
@@ -65,7 +65,7 @@ module _ {shared row : List ℕ} where
   }
 
   module _ {arcs i : ℕ} (c : Counting shared row arcs i) where
-    pub count-here : i < first_of row + many_of row → get_or shared i 0 ≡ depth_of row
+    pub count-here : i < row.first + row.many → get_or shared i 0 ≡ row.depth
         → Counting shared row (arcs + 1) (i + 1)
     count-here h e = record {
       inside = omega arith;
@@ -73,7 +73,7 @@ module _ {shared row : List ℕ} where
       total = omega (arith, c.total, ap length (part-here shared row i h e));
     }
 
-    pub count_past : i < first_of row + many_of row → ¬ (get_or shared i 0 ≡ depth_of row)
+    pub count_past : i < row.first + row.many → ¬ (get_or shared i 0 ≡ row.depth)
         → Counting shared row arcs (i + 1)
     count_past h e = record {
       inside = omega arith;
@@ -81,15 +81,15 @@ module _ {shared row : List ℕ} where
       total = omega (arith, c.total, ap length (part-past shared row i h e));
     }
 
-    pub count-done : first_of row + many_of row ≤ i → arcs ≡ list_length shared row
+    pub count-done : row.first + row.many ≤ i → arcs ≡ list_length shared row
     count-done h = omega (arith, c.total, ap length (part_end shared row i h))
 
 -- ---- their numbers in the output
 
 -- those of the words passed are put
-pub record Putting (shared links numbers row : List ℕ) (at : ℕ) (out₀ out : List ℕ) (arcs i : ℕ) : Type 0 where
-  pub inside : i ≤ first_of row + many_of row
-  pub beyond : first_of row < i
+pub record Putting (shared links numbers : List ℕ) (row : Row) (at : ℕ) (out₀ out : List ℕ) (arcs i : ℕ) : Type 0 where
+  pub inside : i ≤ row.first + row.many
+  pub beyond : row.first < i
   pub few : arcs ≤ i
   pub done : List ℕ
   pub count : length done ≡ arcs
@@ -97,8 +97,8 @@ pub record Putting (shared links numbers row : List ℕ) (at : ℕ) (out₀ out 
   pub put : Put (flat_map u16_bytes done) at out₀ out (at + 2 * arcs)
   pub size : length out ≡ length out₀
 
-module _ {shared links numbers row : List ℕ} {at : ℕ} {out₀ : List ℕ} where
-  pub put-start : Spanned shared row → Putting shared links numbers row at out₀ out₀ 0 (first_of row + 1)
+module _ {shared links numbers : List ℕ} {row : Row} {at : ℕ} {out₀ : List ℕ} where
+  pub put-start : Spanned shared row → Putting shared links numbers row at out₀ out₀ 0 (row.first + 1)
   unfolding flat_map
   put-start s =
       let e : at + 2 * 0 ≡ at = omega arith in
@@ -126,10 +126,10 @@ module _ {shared links numbers row : List ℕ} {at : ℕ} {out₀ : List ℕ} wh
           length-map (partings_of shared row) (link_number links numbers),
         )
 
-    pub part_room : i < first_of row + many_of row → get_or shared i 0 ≡ depth_of row → at + 2 * arcs + 2 ≤ length out
+    pub part_room : i < row.first + row.many → get_or shared i 0 ≡ row.depth → at + 2 * arcs + 2 ≤ length out
     part_room h e = omega (arith, long, p.size, ap length (part-here shared row i h e))
 
-    pub put_past : i < first_of row + many_of row → ¬ (get_or shared i 0 ≡ depth_of row)
+    pub put_past : i < row.first + row.many → ¬ (get_or shared i 0 ≡ row.depth)
         → Putting shared links numbers row at out₀ out arcs (i + 1)
     put_past h e = record {
       inside = omega arith;
@@ -144,7 +144,7 @@ module _ {shared links numbers row : List ℕ} {at : ℕ} {out₀ : List ℕ} wh
     }
 
     pub put_here : {out' : List ℕ} → length out' ≡ length out
-        → i < first_of row + many_of row → get_or shared i 0 ≡ depth_of row
+        → i < row.first + row.many → get_or shared i 0 ≡ row.depth
         → Put (u16_bytes (link_number links numbers i)) (at + 2 * arcs) out out' (at + 2 * arcs + 2)
         → Putting shared links numbers row at out₀ out' (arcs + 1) (i + 1)
     unfolding flat_map
@@ -166,7 +166,7 @@ module _ {shared links numbers row : List ℕ} {at : ℕ} {out₀ : List ℕ} wh
           size = l ∙ p.size;
         }
 
-    pub put_done : first_of row + many_of row ≤ i → ArcsPut shared links numbers row at out₀ out arcs
+    pub put_done : row.first + row.many ≤ i → ArcsPut shared links numbers row at out₀ out arcs
     put_done h = record {
       count = omega (arith, long, ap length (part_end shared row i h));
       put = subst (λ m. Put (flat_map u16_bytes m) at out₀ out (at + 2 * arcs)) all p.put;
@@ -180,7 +180,7 @@ module _ {shared links numbers row : List ℕ} {at : ℕ} {out₀ : List ℕ} wh
 
 -- ---- the list: the first arc before them, and the count before that
 
-pub list-long : (shared links numbers row : List ℕ) (first : ℕ)
+pub list-long : (shared links numbers : List ℕ) (row : Row) (first : ℕ)
     → length (list_bytes (list_of shared links numbers row first)) ≡ 4 + 2 * length (partings_of shared row)
 unfolding list_of
 list-long shared links numbers row first =
@@ -190,7 +190,7 @@ list-long shared links numbers row first =
       length-map (partings_of shared row) (link_number links numbers),
     )
 
-module _ {shared links numbers row : List ℕ} (first : ℕ) {at arcs : ℕ} {out out₁ out₂ out₃ : List ℕ} where
+module _ {shared links numbers : List ℕ} {row : Row} (first : ℕ) {at arcs : ℕ} {out out₁ out₂ out₃ : List ℕ} where
   pub list_put : at + 4 ≤ length out → length out₁ ≡ length out → length out₂ ≡ length out
       → ArcsPut shared links numbers row (at + 4) out out₁ arcs
       → Put (u16_bytes first) (at + 2) out₁ out₂ (at + 2 + 2) → Put (u16_bytes (arcs + 1)) at out₂ out₃ (at + 2)

@@ -1,14 +1,15 @@
 -- Bytes put into the output, one part after another or the first part last: each part keeps what stands outside it.
 -- Assumes nothing.
-use Prim.Native.Nat.{ℕ, ◌+◌, ◌/◌, ◌%◌, ◌≤◌, ◌<◌}
+use Prim.Native.Nat.{ℕ, ◌+◌, ◌-◌, ◌≤◌, ◌<◌}
 use mathlib.Core.Path.{◌≡◌, refl, sym, ap, ap₂, ◌∙◌}
 use mathlib.Core.List.{List, [], ◌∷◌, ◌++◌, append-nil, append_assoc}
 use native.Mathlib.Numerals.{add-one}
 use native.Mathlib.Omega.{arith}
-use lib.ListN.{length, take, drop, set, length-append, length-take, length-set, take-append-drop}
+use lib.ListN.{length, take, drop, set, length-append, length-take, take-append-drop}
 use lib.Seq.{drop_at, take-take, drop-drop, take-add, take-append-le, length-take-le, take-suc-set}
 use lib.Seq.{drop-set-lt}
-use Rattle.endian.specs.Bytes.{u16_bytes}
+use borrow.Rule.Slice.PartMut.{put_mid}
+use Rattle.std.proofs.lemmas.Slice.{take-put_mid, drop-put_mid}
 use Rattle.registering.specs.Image.{Put}
 
 pub put-none : (at : ℕ) (out : List ℕ) → Put [] at out out at
@@ -66,14 +67,15 @@ put_byte b at out h = record {
   after = drop-set-lt (at + 1) out at b (omega arith);
 }
 
-pub put-u16 : (n at : ℕ) (out : List ℕ) → at + 2 ≤ length out
-    → Put (u16_bytes n) at out (set (set out at (n % 256)) (at + 1) (n / 256 % 256)) (at + 2)
-unfolding u16_bytes
-put-u16 n at out h =
-    let e : at + 1 + 1 ≡ at + 2 = omega arith in
-    rw (sym e)
-    (put_both (put_byte (n % 256) at out (omega arith))
-    (put_byte (n / 256 % 256) (at + 1) (set out at (n % 256)) (omega (arith, length-set out at (n % 256)))))
+-- bytes copied to an offset
+pub put_part : (bytes part : List ℕ) (at end : ℕ) (out : List ℕ) → part ≡ bytes → end ≡ at + length bytes
+    → end ≤ length out → Put bytes at out (put_mid at (end - at) out part) end
+put_part bytes part at end out e f h = record {
+  ends = f;
+  before = take-put_mid at (end - at) out part end (omega (arith, ap length e)) (omega arith)
+      ∙ ap (λ l. take at out ++ l) e;
+  after = drop-put_mid at (end - at) out part end (omega arith) (omega arith) (omega (arith, ap length e));
+}
 
 -- from the start on
 pub put_all : {bytes out out' : List ℕ} {end : ℕ} → Put bytes 0 out out' end → out' ≡ bytes ++ drop (length bytes) out

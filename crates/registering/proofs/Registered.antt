@@ -17,14 +17,15 @@ use lib.Seq.{get_or-set_same, get_or-set_other}
 use Rattle.canonical.specs.Nodes.{Node, distinct}
 use Rattle.canonical.proofs.Nodes.{node-same, distinct_in}
 use Rattle.canonical.proofs.Registering.{distinct-new}
-use Rattle.registering.specs.Register.{row_node, node_in, registered, Unknown}
+use Rattle.registering.specs.declared.Row.{Row}
+use Rattle.registering.specs.Register.{no_row, row_node, node_in, registered, Unknown}
 
-pub length-registered : (t : List ℕ) (rows : List (List ℕ)) (r count : ℕ) → length (registered t rows r count) ≡ count
+pub length-registered : (t : List ℕ) (rows : List Row) (r count : ℕ) → length (registered t rows r count) ≡ count
 unfolding registered
 length-registered t rows r zero = refl
 length-registered t rows r (suc count) = ap suc (length-registered t rows (suc r) count)
 
-registered-from : (t : List ℕ) (rows : List (List ℕ)) (s count k : ℕ) → k < count
+registered-from : (t : List ℕ) (rows : List Row) (s count k : ℕ) → k < count
     → In (node_in t rows (s + k)) (registered t rows s count)
 unfolding registered
 registered-from t rows s zero k h = absurd (omega arith)
@@ -34,12 +35,12 @@ registered-from t rows s (suc count) (suc k) h =
     there (subst (λ j. In (node_in t rows j) (registered t rows (suc s) count)) e
     (registered-from t rows (suc s) count k (omega arith)))
 
-pub registered_in : (t : List ℕ) (rows : List (List ℕ)) (count r : ℕ) → r < count
+pub registered_in : (t : List ℕ) (rows : List Row) (count r : ℕ) → r < count
     → In (node_in t rows r) (registered t rows 0 count)
 registered_in t rows count r h =
     subst (λ j. In (node_in t rows j) (registered t rows 0 count)) (zero-add r) (registered-from t rows 0 count r h)
 
-registered-out : (t : List ℕ) (rows : List (List ℕ)) (s count : ℕ) {a : Node} → In a (registered t rows s count)
+registered-out : (t : List ℕ) (rows : List Row) (s count : ℕ) {a : Node} → In a (registered t rows s count)
     → (r : ℕ) × (r < s + count) × (a ≡ node_in t rows r)
 unfolding registered
 registered-out t rows s zero m = absurd (not-nil m)
@@ -50,18 +51,18 @@ registered-out t rows s (suc count) m = ⊎_elim
 
 -- ---- a row more
 
-module _ (t : List ℕ) (rows : List (List ℕ)) (count : ℕ) (row : List ℕ) (room : count < length rows) where
-  row_here : get_or (set rows count row) count [] ≡ row
-  row_here = get_or-set_same rows count row [] room
+module _ (t : List ℕ) (rows : List Row) (count : ℕ) (row : Row) (room : count < length rows) where
+  row_here : get_or (set rows count row) count no_row ≡ row
+  row_here = get_or-set_same rows count row no_row room
 
   registered-put : (s k : ℕ) → s + k ≡ count
       → registered t (set rows count row) s (suc k) ≡ registered t rows s k ++ row_node t row ∷ []
   unfolding registered
   registered-put s zero e =
       let f : s ≡ count = omega arith in
-      ap (λ j. row_node t (get_or (set rows count row) j []) ∷ []) f ∙ ap (λ q. row_node t q ∷ []) row_here
+      ap (λ j. row_node t (get_or (set rows count row) j no_row) ∷ []) f ∙ ap (λ q. row_node t q ∷ []) row_here
   registered-put s (suc k) e = ap₂ ◌∷◌
-      (ap (row_node t) (get_or-set_other rows count s row [] (omega arith)))
+      (ap (row_node t) (get_or-set_other rows count s row no_row (omega arith)))
       (registered-put (suc s) k (omega arith))
 
   pub registered-more : registered t (set rows count row) 0 (count + 1)
@@ -70,7 +71,7 @@ module _ (t : List ℕ) (rows : List (List ℕ)) (count : ℕ) (row : List ℕ) 
 
 -- ---- a node that is not there
 
-module _ (t : List ℕ) (rows : List (List ℕ)) (count : ℕ) (a : Node) (l : List Node) (new : Unknown t rows count a)
+module _ (t : List ℕ) (rows : List Row) (count : ℕ) (a : Node) (l : List Node) (new : Unknown t rows count a)
     (e : registered t rows 0 count ≡ distinct l) where
   not_there : In a l → ⊥
   not_there m =

@@ -1,14 +1,16 @@
 -- What follows a prefix in words that stand in slots, by the bytes of the table: its length, its letters, and the
 -- longest of a run of words. Assumes nothing.
 use Prim.Native.Nat.{ℕ, zero, suc, ◌+◌, ◌*◌, ◌-◌, ◌≤◌, ◌<◌, max}
-use mathlib.Core.Path.{◌≡◌, refl, ap, ◌∙◌}
+use mathlib.Core.Path.{◌≡◌, refl, sym, ap, ◌∙◌}
+use borrow.Author.Rules.{rules}
+use Rattle.std.proofs.lemmas.Slice.{between_is}
 use mathlib.Core.List.{List}
 use native.Mathlib.Omega.{arith}
-use lib.ListN.{length, get_or, drop, length-drop}
-use lib.Seq.{get_or-drop}
+use lib.ListN.{length, get_or, take, drop, length-drop}
+use lib.Seq.{drop-drop}
 use Rattle.canonical.specs.Dictionary.{longest}
 use Rattle.sorting.specs.Slots.{word_at, Slot}
-use Rattle.sorting.proofs.SlotWords.{word-length, letter_at_lem}
+use Rattle.sorting.proofs.SlotWords.{word-length}
 use Rattle.registering.specs.Register.{rests_from}
 
 -- ---- one word
@@ -17,11 +19,17 @@ use Rattle.registering.specs.Register.{rests_from}
 pub rest-length : {t : List ℕ} {i : ℕ} → Slot t i → (d : ℕ) → length (drop d (word_at t i)) ≡ get_or t (33 * i) 0 - d
 rest-length {t} {i} s d = length-drop d (word_at t i) ∙ ap (λ n. n - d) (word-length s)
 
-pub rest-letter : (t : List ℕ) (i d k : ℕ) → d + k < get_or t (33 * i) 0
-    → get_or (drop d (word_at t i)) k 0 ≡ get_or t (33 * i + 1 + d + k) 0
-rest-letter t i d k h =
-    let e : 33 * i + suc (d + k) ≡ 33 * i + 1 + d + k = omega arith in
-    get_or-drop d (word_at t i) k 0 ∙ letter_at_lem t i (d + k) h ∙ ap (λ j. get_or t j 0) e
+-- the part of the table that it is
+pub rest_part : (t : List ℕ) (i d : ℕ)
+    → take (33 * i + 1 + get_or t (33 * i) 0 - (33 * i + 1 + d)) (drop (33 * i + 1 + d) t) ≡ drop d (word_at t i)
+unfolding word_at
+rest_part t i d =
+    let e : 33 * i + 1 + get_or t (33 * i) 0 - (33 * i + 1 + d) ≡ get_or t (33 * i) 0 - d = omega arith in
+    rw e (ap (take (get_or t (33 * i) 0 - d)) (sym (drop-drop d (33 * i + 1) t))
+    ∙ inner (drop (33 * i + 1) t) d (get_or t (33 * i) 0))
+  where
+    inner : (s : List ℕ) (a b : ℕ) → take (b - a) (drop a s) ≡ drop a (take b s)
+    inner s a b = search (rules, between_is)
 
 -- ---- what follows a prefix in a run of words
 

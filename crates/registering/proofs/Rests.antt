@@ -1,29 +1,27 @@
--- What follows a prefix, compared letter by letter and word by word; and nodes by it: those of another number of words,
+-- What follows a prefix, compared word by word; and nodes by it: those of another number of words,
 -- of another longest continuation, or of another mark, differ. Assumes nothing.
 use Prim.Native.Nat.{ℕ, suc, ◌+◌, ◌*◌, ◌-◌, ◌≤◌, ◌<◌}
 use mathlib.Core.Path.{◌≡◌, refl, sym, ap, ◌∙◌}
-use mathlib.Core.Bool.{Bool, true, false, ◌&&◌, false≢true}
+use mathlib.Core.Bool.{Bool, true, false, not, ◌&&◌, false≢true}
 use mathlib.Core.List.{List, [], ◌∷◌}
-use native.Mathlib.Nat.{add-zero}
-use native.Mathlib.Numerals.{add-one}
 use native.Mathlib.Omega.{arith}
-use lib.ListN.{length, get_or, take, drop, length-take, drop_of_length-le}
-use lib.Seq.{drop-cons}
+use lib.ListN.{length, get_or, take, drop, length-take}
 use lib.Dec.{eqb}
-use borrow.Author.Tests.{eq-eqb, ne_eqb}
+use borrow.Author.Tests.{eq-eqb}
+use Rattle.std.specs.Cmp.Lexicographic.{pointwise}
 use Rattle.endian.specs.Lists.{same}
 use Rattle.endian.proofs.Booleans.{and-out}
-use Rattle.endian.proofs.Lists.{same-eq}
 use Rattle.canonical.specs.Dictionary.{longest}
 use Rattle.canonical.specs.Groups.{begins}
 use Rattle.canonical.specs.Nodes.{Node, same_words, same_node}
 use Rattle.canonical.proofs.Nodes.{node-eq}
 use Rattle.sorting.specs.Slots.{word_at, Slot}
 use Rattle.sorting.proofs.SlotWords.{word-length}
+use Rattle.registering.specs.declared.Row.{Row}
 use Rattle.registering.specs.Register.{Words, Group, GroupRow, rests_from, marks_of, node_at, row_node}
-use Rattle.registering.specs.Register.{first_of, many_of, depth_of, longest_of, mark_of}
+use Rattle.registering.specs.Register.{mark_of}
 use Rattle.registering.specs.Finding.{Lettered}
-use Rattle.registering.proofs.RestWords.{rest-length, rest-letter, length_rests, longest-low}
+use Rattle.registering.proofs.RestWords.{length_rests, longest-low}
 use Rattle.registering.proofs.Marks.{marks-low}
 
 -- a test that cannot hold
@@ -33,69 +31,17 @@ refuted false n = refl
 
 -- ---- two words, each behind a prefix
 
--- they agree in k letters, and have as many
-pub record EqualTo (t : List ℕ) (i d j e k : ℕ) : Type 0 where
-  pub one : Slot t i
-  pub other : Slot t j
-  pub even : get_or t (33 * i) 0 - d ≡ get_or t (33 * j) 0 - e
-  pub inside : k ≤ get_or t (33 * i) 0 - d
-  pub all : same (drop k (drop d (word_at t i))) (drop k (drop e (word_at t j)))
-      ≡ same (drop d (word_at t i)) (drop e (word_at t j))
+turned : (a : Bool) {b : Bool} → b ≡ not a → a ≡ not b
+turned true h = ap not (sym h)
+turned false h = ap not (sym h)
 
-module _ {t : List ℕ} {i j : ℕ} (a : Slot t i) (b : Slot t j) where
-  pub equal-start : {d e : ℕ} → get_or t (33 * i) 0 - d ≡ get_or t (33 * j) 0 - e → EqualTo t i d j e 0
-  equal-start q = record { one = a; other = b; even = q; inside = omega arith; all = refl }
-
-  pub other-lengths : (d e : ℕ) → ¬ (get_or t (33 * i) 0 - d ≡ get_or t (33 * j) 0 - e)
-      → false ≡ same (drop d (word_at t i)) (drop e (word_at t j))
-  other-lengths d e n =
-      let v = drop d (word_at t i) in
-      let w = drop e (word_at t j) in
-      sym (refuted (same v w) (λ q. n (sym (rest-length a d) ∙ ap length (same-eq v w q) ∙ rest-length b e)))
-
-module _ {t : List ℕ} {i d j e k : ℕ} (p : EqualTo t i d j e k) where
-  -- the two that are compared
-  abbrev v : List ℕ
-  v = drop d (word_at t i)
-
-  abbrev w : List ℕ
-  w = drop e (word_at t j)
-
-  module _ (h : k < get_or t (33 * i) 0 - d) where
-    here : get_or v k 0 ≡ get_or t (33 * i + 1 + d + k) 0
-    here = rest-letter t i d k (omega arith)
-
-    there : get_or w k 0 ≡ get_or t (33 * j + 1 + e + k) 0
-    there = rest-letter t j e k (omega (arith, p.even))
-
-    long : k < length v
-    long = omega (arith, rest-length p.one d)
-
-    long_too : k < length w
-    long_too = omega (arith, rest-length p.other e, p.even)
-
-    pub equal_next : get_or t (33 * i + 1 + d + k) 0 ≡ get_or t (33 * j + 1 + e + k) 0 → EqualTo t i d j e (k + 1)
-    unfolding same
-    equal_next q =
-        let u = eq-eqb (get_or v k 0) (get_or w k 0) (here ∙ q ∙ sym there) in
-        let s : same (drop k v) (drop k w) ≡ same (drop (k + 1) v) (drop (k + 1) w) =
-        rw (add-one, drop-cons v k 0 long, drop-cons w k 0 long_too, u) in
-        record { one = p.one; other = p.other; even = p.even; inside = omega arith; all = sym s ∙ p.all }
-
-    pub equal_differs : ¬ (get_or t (33 * i + 1 + d + k) 0 ≡ get_or t (33 * j + 1 + e + k) 0) → false ≡ same v w
-    unfolding same
-    equal_differs n =
-        let u = ne_eqb (get_or v k 0) (get_or w k 0) (λ q. n (sym here ∙ q ∙ there)) in
-        let s : same (drop k v) (drop k w) ≡ false = rw (drop-cons v k 0 long, drop-cons w k 0 long_too, u) in
-        sym s ∙ p.all
-
-  pub equal_ends : get_or t (33 * i) 0 - d ≤ k → true ≡ same v w
-  unfolding same
-  equal_ends h =
-      let a : length v ≤ k = omega (arith, rest-length p.one d) in
-      let b : length w ≤ k = omega (arith, rest-length p.other e, p.even) in
-      let s : same (drop k v) (drop k w) ≡ true = rw (drop_of_length-le v a, drop_of_length-le w b) in
-      sym s ∙ p.all
+-- slices are compared as `same` does
+same_slices : (xs ys : List ℕ) → pointwise eqb xs ys ≡ same xs ys
+unfolding same
+same_slices [] [] = refl
+same_slices [] (y ∷ ys) = refl
+same_slices (x ∷ xs) [] = refl
+same_slices (x ∷ xs) (y ∷ ys) = ap (λ b. eqb x y && b) (same_slices xs ys)
 
 -- ---- two runs of words, each behind a prefix
 
@@ -115,21 +61,21 @@ module _ (t : List ℕ) (d i e j n : ℕ) where
   abbrev pub Compared : ℕ → Bool
   Compared k = same_words (rests_from t d (i + k) (n - k)) (rests_from t e (j + k) (n - k))
 
-  pub rests_start : Compared 0 ≡ Whole
-  rests_start = let z : n - 0 ≡ n = omega arith in rw (add-zero i, add-zero j, z)
-
   module _ {k : ℕ} (all : Compared k ≡ Whole) where
-    -- by the test of the k-th words
-    module _ (h : k < n) {b : Bool} (test : b ≡ same (drop d (word_at t (i + k))) (drop e (word_at t (j + k)))) where
-      compared : {a : Bool} → b ≡ a → Compared k ≡ a && Compared (k + 1)
-      unfolding same_words
-      compared s = rw (rests_next t d i n k h, rests_next t e j n k h, ← test, s)
+    -- by the test whether the k-th words differ
+    module _ (h : k < n) {x y : List ℕ} {b : Bool} (test : b ≡ not (pointwise eqb x y))
+        (p : x ≡ drop d (word_at t (i + k))) (q : y ≡ drop e (word_at t (j + k)))
+      where
+        compared : {a : Bool} → b ≡ a → Compared k ≡ not a && Compared (k + 1)
+        unfolding same_words
+        compared s =
+            rw (rests_next t d i n k h, rests_next t e j n k h, ← p, ← q, ← same_slices x y, turned (pointwise eqb x y) test, s)
 
-      pub rests_equal : b ≡ true → Compared (k + 1) ≡ Whole
-      rests_equal s = sym (compared s) ∙ all
+        pub rests_equal : b ≡ false → Compared (k + 1) ≡ Whole
+        rests_equal s = sym (compared s) ∙ all
 
-      pub rests_differ : b ≡ false → false ≡ Whole
-      rests_differ s = sym (compared s) ∙ all
+        pub rests_differ : b ≡ true → false ≡ Whole
+        rests_differ s = sym (compared s) ∙ all
 
     pub rests_end : n ≤ k → true ≡ Whole
     unfolding rests_from same_words
@@ -212,31 +158,31 @@ group-small {t} {n} {i} {m} {d} w g =
     )
 
 -- the node of a row beside that of a group
-module _ {t : List ℕ} {n : ℕ} (row : List ℕ) {i m d high mark : ℕ} (r : GroupRow t n row)
+module _ {t : List ℕ} {n : ℕ} (row : Row) {i m d high mark : ℕ} (r : GroupRow t n row)
     (g : Group t n i m d high mark) where
   pub other_mark : ¬ (mark_of row ≡ mark) → false ≡ same_node (row_node t row) (node_at t i m d)
   unfolding row_node
   other_mark k =
-      sym (nodes-number t (first_of row) (many_of row) (depth_of row) i m d (marks_of 0)
+      sym (nodes-number t row.first row.many row.depth i m d (marks_of 0)
       (λ e. k (r.marked ∙ e ∙ sym g.marked)))
 
-  pub other-many : ¬ (many_of row ≡ m) → false ≡ same_node (row_node t row) (node_at t i m d)
+  pub other-many : ¬ (row.many ≡ m) → false ≡ same_node (row_node t row) (node_at t i m d)
   unfolding row_node
-  other-many k = sym (nodes-many t (first_of row) (many_of row) (depth_of row) i m d k)
+  other-many k = sym (nodes-many t row.first row.many row.depth i m d k)
 
-  pub other-longest : ¬ (longest_of row ≡ high) → false ≡ same_node (row_node t row) (node_at t i m d)
+  pub other-longest : ¬ (row.longest ≡ high) → false ≡ same_node (row_node t row) (node_at t i m d)
   unfolding row_node
   other-longest k =
-      sym (nodes-number t (first_of row) (many_of row) (depth_of row) i m d longest
+      sym (nodes-number t row.first row.many row.depth i m d longest
       (λ e. k (r.high ∙ e ∙ sym g.high)))
 
   -- of the same letter and the same number of words
-  pub same-letters : (row_node t row).letter ≡ get_or t (33 * i + d) 0 → many_of row ≡ m
-      → {b : Bool} → b ≡ same_words (rests_from t (depth_of row) (first_of row) (many_of row))
-      (rests_from t d i (many_of row))
+  pub same-letters : (row_node t row).letter ≡ get_or t (33 * i + d) 0 → row.many ≡ m
+      → {b : Bool} → b ≡ same_words (rests_from t row.depth row.first row.many)
+      (rests_from t d i row.many)
       → b ≡ same_node (row_node t row) (node_at t i m d)
   unfolding row_node node_at
   same-letters e k q =
       q
-      ∙ ap (λ l. same_words (rests_from t (depth_of row) (first_of row) (many_of row)) (rests_from t d i l)) k
-      ∙ sym (nodes_rests t (first_of row) (many_of row) (depth_of row) i m d e)
+      ∙ ap (λ l. same_words (rests_from t row.depth row.first row.many) (rests_from t d i l)) k
+      ∙ sym (nodes_rests t row.first row.many row.depth i m d e)

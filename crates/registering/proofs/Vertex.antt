@@ -4,7 +4,7 @@
 use Prim.Native.Nat.{ℕ, zero, suc, ◌+◌, ◌*◌, ◌≤◌, ◌<◌}
 use mathlib.Core.Path.{◌≡◌, sym, ap, ap₂, ◌∙◌}
 use mathlib.Core.Bool.{cond}
-use mathlib.Core.List.{List, []}
+use mathlib.Core.List.{List}
 use native.Mathlib.Decide.{ℕ_discrete}
 use native.Mathlib.Numerals.{add-one}
 use native.Mathlib.Omega.{arith}
@@ -16,8 +16,9 @@ use Rattle.canonical.proofs.Continuations.{Below}
 use Rattle.canonical.proofs.Vertices.{vertex-letter}
 use Rattle.sorting.specs.Slots.{word_at, words_from}
 use Rattle.sorting.proofs.SlotWords.{word-length}
-use Rattle.registering.specs.Register.{Words, previous, Shared, first_of, many_of, depth_of, rests_from, node_at}
-use Rattle.registering.specs.Register.{row_node, Register, Linked, Links}
+use Rattle.registering.specs.declared.Row.{Row}
+use Rattle.registering.specs.Register.{Words, previous, Shared, rests_from, node_at}
+use Rattle.registering.specs.Register.{no_row, row_node, Register, Linked, Links}
 use Rattle.registering.specs.Numbering.{numbers_in, order_in, Numbered}
 use Rattle.registering.specs.Arcs.{place_in, vertex_in, first_arc, list_of, vertex_list, NodeRow, Places, Spanned}
 use Rattle.registering.specs.Image.{letter_in, Lettered, Measured, Listed}
@@ -25,7 +26,7 @@ use Rattle.registering.proofs.Arcs.{Behind, First, ends, goes, list-is}
 use Rattle.registering.proofs.Behind.{words-short, word-list, group-behind, root_rest, root_behind}
 
 -- m words from f on with e letters before a vertex, and the place in the links of the place that the first leads to
-pub record Vertex (t : List ℕ) (n : ℕ) (shared : List ℕ) (rows : List (List ℕ)) (links : List ℕ)
+pub record Vertex (t : List ℕ) (n : ℕ) (shared : List ℕ) (rows : List Row) (links : List ℕ)
     (count u f m e link : ℕ) : Type 0 where
   pub behind : Behind t n f m e
   pub rest : rest_of (words_from t 0 n) u ≡ rests_from t e f m
@@ -34,26 +35,26 @@ pub record Vertex (t : List ℕ) (n : ℕ) (shared : List ℕ) (rows : List (Lis
       → Linked t n rows count (get_or links (400 + i) 0) i (e + 1)
 
 -- a row has these words, and so many of their letters before it
-pub record HasWords (row : List ℕ) (f m e : ℕ) : Type 0 where
-  pub first : first_of row ≡ f
-  pub many : many_of row ≡ m
-  pub depth : depth_of row ≡ e
+pub record HasWords (row : Row) (f m e : ℕ) : Type 0 where
+  pub first : row.first ≡ f
+  pub many : row.many ≡ m
+  pub depth : row.depth ≡ e
 
 -- the words, and all that the tables have of them: the register as it was filled, and as it is with numbers and root
-pub record Tables (t : List ℕ) (n : ℕ) (shared : List ℕ) (rows : List (List ℕ)) (links : List ℕ)
-    (numbered : List (List ℕ)) (count : ℕ) : Type 0 where
+pub record Tables (t : List ℕ) (n : ℕ) (shared : List ℕ) (rows : List Row) (links : List ℕ)
+    (numbered : List Row) (count : ℕ) : Type 0 where
   pub words : Words t n
   pub some : 1 ≤ n
   pub alike : Shared t n shared
   pub register : Register t n rows count
   pub linked : Links t n shared rows links count
   pub numbers : Numbered t n rows (order_in numbered) (numbers_in numbered) count
-  pub root : HasWords (get_or numbered 400 []) 0 n 0
+  pub root : HasWords (get_or numbered 400 no_row) 0 n 0
   pub same : (r : ℕ) → r < count
-      → HasWords (get_or numbered r []) (first_of (get_or rows r [])) (many_of (get_or rows r []))
-      (depth_of (get_or rows r []))
+      → HasWords (get_or numbered r no_row) (get_or rows r no_row).first (get_or rows r no_row).many
+      (get_or rows r no_row).depth
 
-module _ {t : List ℕ} {n : ℕ} {shared : List ℕ} {rows : List (List ℕ)} {links : List ℕ} {numbered : List (List ℕ)}
+module _ {t : List ℕ} {n : ℕ} {shared : List ℕ} {rows : List Row} {links : List ℕ} {numbered : List Row}
     {count : ℕ} (q : Tables t n shared rows links numbered count) where
   abbrev w : Words t n
   w = q.words
@@ -67,12 +68,12 @@ module _ {t : List ℕ} {n : ℕ} {shared : List ℕ} {rows : List (List ℕ)} {
   abbrev ws : List (List ℕ)
   ws = words_from t 0 n
 
-  abbrev row : ℕ → List ℕ
+  abbrev row : ℕ → Row
   row u = vertex_in numbered u
 
   abbrev VertexAt : ℕ → Type 0
   VertexAt u =
-      Vertex t n shared rows links count u (first_of (row u)) (many_of (row u)) (depth_of (row u)) (place_in numbered u)
+      Vertex t n shared rows links count u (row u).first (row u).many (row u).depth (place_in numbered u)
 
   first_shares : get_or shared 0 0 ≡ 0
   unfolding previous common
@@ -112,21 +113,21 @@ module _ {t : List ℕ} {n : ℕ} {shared : List ℕ} {rows : List (List ℕ)} {
       inside zero h = omega arith
       inside (suc k) h = omega (arith, num.inside k h, few)
 
-  inside : (u : ℕ) → u ≤ count → first_of (row u) < n
+  inside : (u : ℕ) → u ≤ count → (row u).first < n
   inside u h = let b = (vertex u h).behind in omega (arith, b.inside, b.some)
 
-  depth_low : (u : ℕ) → u ≤ count → depth_of (row u) ≤ 32
-  depth_low u h = omega (arith, (vertex u h).behind.letters, words-short w (first_of (row u)) (inside u h))
+  depth_low : (u : ℕ) → u ≤ count → (row u).depth ≤ 32
+  depth_low u h = omega (arith, (vertex u h).behind.letters, words-short w (row u).first (inside u h))
 
   -- a first word that does not end at the vertex goes on
-  goes_on : (u : ℕ) → u ≤ count → ¬ (get_or t (33 * first_of (row u)) 0 ≡ depth_of (row u))
-      → depth_of (row u) < get_or t (33 * first_of (row u)) 0
-  goes_on u h z = omega (arith, (vertex u h).behind.letters, word-length (w.holds (first_of (row u)) (inside u h)))
+  goes_on : (u : ℕ) → u ≤ count → ¬ (get_or t (33 * (row u).first) 0 ≡ (row u).depth)
+      → (row u).depth < get_or t (33 * (row u).first) 0
+  goes_on u h z = omega (arith, (vertex u h).behind.letters, word-length (w.holds (row u).first (inside u h)))
 
   node_row : (u : ℕ) → u ≤ count → NodeRow t (row u) (get_or links (place_in numbered u) 0)
   node_row u h = record {
     few = omega (arith, inside u h, w.few);
-    there = omega (arith, (w.holds (first_of (row u)) (inside u h)).room);
+    there = omega (arith, (w.holds (row u).first (inside u h)).room);
     linked = λ z. omega (arith, ((vertex u h).down (goes_on u h z)).inside, few);
   }
 
@@ -163,7 +164,7 @@ module _ {t : List ℕ} {n : ℕ} {shared : List ℕ} {rows : List (List ℕ)} {
         record {
           first = omega (arith, inside (k + 1) p, w.few);
           low = depth_low (k + 1) p;
-          there = omega (arith, (w.holds (first_of (row (k + 1))) (inside (k + 1) p)).room, depth_low (k + 1) p);
+          there = omega (arith, (w.holds ((row (k + 1)).first) (inside (k + 1) p)).room, depth_low (k + 1) p);
         };
   }
 
@@ -186,19 +187,19 @@ module _ {t : List ℕ} {n : ℕ} {shared : List ℕ} {rows : List (List ℕ)} {
   abbrev place : ℕ → ℕ
   place u = get_or links (place_in numbered u) 0
 
-  length_is : (u : ℕ) → u ≤ count → length (word_at t (first_of (row u))) ≡ get_or t (33 * first_of (row u)) 0
-  length_is u h = word-length (w.holds (first_of (row u)) (inside u h))
+  length_is : (u : ℕ) → u ≤ count → length (word_at t (row u).first) ≡ get_or t (33 * (row u).first) 0
+  length_is u h = word-length (w.holds (row u).first (inside u h))
 
   first-arc : (u : ℕ) (h : u ≤ count)
       → First w (vertex u h).behind num (first_arc t (numbers_in numbered) count (row u) (place u))
   unfolding first_arc
-  first-arc u h = elim (ℕ_discrete (get_or t (33 * first_of (row u)) 0) (depth_of (row u))) [
+  first-arc u h = elim (ℕ_discrete (get_or t (33 * (row u).first) 0) (row u).depth) [
     | yes z ↦ ends (length_is u h ∙ z)
         (ap (λ c. cond c (suc count) (get_or (numbers_in numbered) (place u) 0))
-        (eq-eqb (get_or t (33 * first_of (row u)) 0) (depth_of (row u)) z))
+        (eq-eqb (get_or t (33 * (row u).first) 0) (row u).depth z))
     | no z ↦ goes (place u) (omega (arith, length_is u h, goes_on u h z)) ((vertex u h).down (goes_on u h z))
         (ap (λ c. cond c (suc count) (get_or (numbers_in numbered) (place u) 0))
-        (ne_eqb (get_or t (33 * first_of (row u)) 0) (depth_of (row u)) z))
+        (ne_eqb (get_or t (33 * (row u).first) 0) (row u).depth z))
   ]
 
   pub list-of : {L : ℕ} → Below L ws → (u : ℕ) → u ≤ count

@@ -10,13 +10,15 @@ use native.Mathlib.Decide.{ℕ_discrete}
 use native.Mathlib.Omega.{arith}
 use lib.ListN.{length, get_or, take, set, length-take}
 use lib.Seq.{get_or-set_same, get_or-set_other}
-use Rattle.canonical.specs.Nodes.{Node, distinct, node_of, reached}
+use Rattle.std.specs.Prelude.{Some, None}
+use Rattle.canonical.specs.Nodes.{Node, distinct, node_of}
 use Rattle.canonical.specs.Groups.{begins, common}
 use Rattle.canonical.proofs.Nodes.{distinct-out}
 use Rattle.sorting.specs.Slots.{word_at, words_from}
 use Rattle.sorting.proofs.SlotWords.{words-out}
-use Rattle.registering.specs.Register.{Words, previous, Shared, Group, first_of, many_of, depth_of, row_node, node_at}
-use Rattle.registering.specs.Register.{node_in, registered, Register, Chained, Built, Unknown, Added, Entered}
+use Rattle.registering.specs.declared.Row.{Row}
+use Rattle.registering.specs.Register.{Words, previous, Shared, Group, no_row, row_node, node_at, node_in}
+use Rattle.registering.specs.Register.{registered, Register, Chained, Full, Built, Unknown, Added, Entered}
 use Rattle.registering.specs.Register.{known, added, full}
 use Rattle.registering.specs.Walking.{fresh_all, fresh_to, ahead, within, Walked, Walking}
 use Rattle.registering.proofs.Common.{common-most, common-short}
@@ -53,7 +55,7 @@ module _ {t : List ℕ} {n : ℕ} {shared : List ℕ} (w : Words t n) (s : Share
 
   -- ---- between words
 
-  pub walk_first : {rows : List (List ℕ)} {chains links : List ℕ} → Register t n rows 0 → Chained t rows chains 0
+  pub walk_first : {rows : List Row} {chains links : List ℕ} → Register t n rows 0 → Chained t rows chains 0
       → length links ≡ 2400 → Walked t n shared rows chains links 0 0
   unfolding registered distinct
   walk_first g c l = record {
@@ -69,30 +71,20 @@ module _ {t : List ℕ} {n : ℕ} {shared : List ℕ} (w : Words t n) (s : Share
     };
   }
 
-  pub walk-done : {rows : List (List ℕ)} {chains links : List ℕ} {count : ℕ}
+  pub walk-done : {rows : List Row} {chains links : List ℕ} {count : ℕ}
       → Walked t n shared rows chains links count n → Built t n shared rows links count
   walk-done {rows} {count} p = record {
-    register = λ h. p.register;
-    nodes = λ h. p.nodes ∙ all_reached w;
-    links = λ h. record {
+    register = p.register;
+    nodes = p.nodes ∙ all_reached w;
+    links = record {
       long = p.linked.long;
       down = λ r k. p.linked.down r k (omega (arith, p.register.few));
       across = λ i r k a b. p.linked.across i r (omega (arith, (p.register.groups r k).reach.inside)) k a b;
       root = p.linked.root;
     };
-    full = λ h. absurd (omega (arith, p.register.few));
   }
 
-  pub walk-over : {rows : List (List ℕ)} {links : List ℕ} {count : ℕ} → 400 < count
-      → 400 < length (reached (words_from t 0 n)) → Built t n shared rows links count
-  walk-over h many = record {
-    register = λ k. absurd (omega arith);
-    nodes = λ k. absurd (omega arith);
-    links = λ k. absurd (omega arith);
-    full = λ k. many;
-  }
-
-  pub walk_start : {rows : List (List ℕ)} {chains links : List ℕ} {count i : ℕ} → i < n
+  pub walk_start : {rows : List Row} {chains links : List ℕ} {count i : ℕ} → i < n
       → Walked t n shared rows chains links count i
       → Walking t n shared rows chains links count i (get_or shared i 0) (400 + i)
   walk_start {i = i} low p = record {
@@ -109,7 +101,7 @@ module _ {t : List ℕ} {n : ℕ} {shared : List ℕ} (w : Words t n) (s : Share
 
   -- ---- at the end of a word
 
-  module _ {rows : List (List ℕ)} {chains links : List ℕ} {count i d link : ℕ} (low : i < n)
+  module _ {rows : List Row} {chains links : List ℕ} {count i d link : ℕ} (low : i < n)
       (p : Walking t n shared rows chains links count i d link) where
     pub walk_end : d ≡ get_or t (33 * i) 0 → Walked t n shared rows chains links count (i + 1)
     walk_end e = record {
@@ -144,8 +136,7 @@ module _ {t : List ℕ} {n : ℕ} {shared : List ℕ} (w : Words t n) (s : Share
           more = rw add-one (to-next t n i d (omega (arith, letters_of w low)) (rw add-one at g.new))
 
       -- there is no room for it
-      walk-full : count ≡ 400 → Unknown t rows count (node_at t i m (d + 1))
-          → 400 < length (reached (words_from t 0 n))
+      walk-full : count ≡ 400 → Unknown t rows count (node_at t i m (d + 1)) → Full t n
       walk-full e new =
           let size = unknown_length t rows count x row (rw (run-node w g) at new) p.nodes in
           omega (arith, size, ap (λ l. length (distinct l)) row_next, longest-row w i (d + 1) low (omega arith))
@@ -162,19 +153,19 @@ module _ {t : List ℕ} {n : ℕ} {shared : List ℕ} (w : Words t n) (s : Share
               let u = words-out t i (suc k) j in
               rw (u.3, ← add-one d) (g.reach.have u.0 u.1 (omega (arith, u.2)))
 
-      none : (j : ℕ) → i < j → j < i + m → (r : ℕ) → r < count → first_of (get_or rows r []) < j
-          → j < first_of (get_or rows r []) + many_of (get_or rows r [])
-          → ¬ (get_or shared j 0 ≡ depth_of (get_or rows r []))
+      none : (j : ℕ) → i < j → j < i + m → (r : ℕ) → r < count → (get_or rows r no_row).first < j
+          → j < (get_or rows r no_row).first + (get_or rows r no_row).many
+          → ¬ (get_or shared j 0 ≡ (get_or rows r no_row).depth)
       none j a b r h c e q =
           let more = alike g j a b in
-          elim (ℕ_discrete (first_of (get_or rows r [])) i) [
+          elim (ℕ_discrete (get_or rows r no_row).first i) [
             | yes f ↦ omega (arith, p.own r h f)
             | no f ↦
                 let first = p.before r h in
                 omega (arith, alike (p.register.groups r h) i (omega arith) (omega arith), gap_shared p.gap)
           ]
 
-      walk-known : {rows' : List (List ℕ)} {chains' : List ℕ} {r : ℕ} → r < count → rows' ≡ rows
+      walk-known : {rows' : List Row} {chains' : List ℕ} {r : ℕ} → r < count → rows' ≡ rows
           → node_in t rows r ≡ node_at t i m (d + 1) → Chained t rows' chains' count
           → Walked t n shared rows' chains' (set links link r) count (i + m)
       walk-known {rows'} {chains'} {r} h e q c = rw e (record {
@@ -200,7 +191,7 @@ module _ {t : List ℕ} {n : ℕ} {shared : List ℕ} (w : Words t n) (s : Share
               (record { inside = h; node = same })
 
       -- its node is put behind the others
-      walk-added : {rows' : List (List ℕ)} {chains' : List ℕ} → count < 400
+      walk-added : {rows' : List Row} {chains' : List ℕ} → count < 400
           → Unknown t rows count (node_at t i m (d + 1))
           → Added t n rows count i m (d + 1) rows' → Chained t rows' chains' (count + 1)
           → Walking t n shared rows' chains' (set links link count) (count + 1) i (d + 1) count
@@ -238,20 +229,20 @@ module _ {t : List ℕ} {n : ℕ} {shared : List ℕ} (w : Words t n) (s : Share
           inside : count < length rows
           inside = omega (arith, p.register.long)
 
-          here : (r : ℕ) → r ≡ count → get_or rows' r [] ≡ a.row
+          here : (r : ℕ) → r ≡ count → get_or rows' r no_row ≡ a.row
           here r e =
-              ap (λ q. get_or q r []) a.put
-              ∙ ap (λ k. get_or (set rows count a.row) k []) e
-              ∙ get_or-set_same rows count a.row [] inside
+              ap (λ q. get_or q r no_row) a.put
+              ∙ ap (λ k. get_or (set rows count a.row) k no_row) e
+              ∙ get_or-set_same rows count a.row no_row inside
 
           kept : Kept rows rows' count
-          kept r h = ap (λ q. get_or q r []) a.put ∙ get_or-set_other rows count r a.row [] (omega arith)
+          kept r h = ap (λ q. get_or q r no_row) a.put ∙ get_or-set_other rows count r a.row no_row (omega arith)
 
-          first-of : (r : ℕ) → r ≡ count → first_of (get_or rows' r []) ≡ i
-          first-of r e = ap first_of (here r e) ∙ a.first
+          first-of : (r : ℕ) → r ≡ count → (get_or rows' r no_row).first ≡ i
+          first-of r e = ap (λ row. row.first) (here r e) ∙ a.first
 
-          depth-of : (r : ℕ) → r ≡ count → depth_of (get_or rows' r []) ≡ d + 1
-          depth-of r e = ap depth_of (here r e) ∙ a.depth
+          depth-of : (r : ℕ) → r ≡ count → (get_or rows' r no_row).depth ≡ d + 1
+          depth-of r e = ap (λ row. row.depth) (here r e) ∙ a.depth
 
           node : row_node t a.row ≡ x
           node = rw (a.first, a.many, a.depth) (run-node w g)
@@ -263,27 +254,16 @@ module _ {t : List ℕ} {n : ℕ} {shared : List ℕ} (w : Words t n) (s : Share
 
       -- ---- by what the lookup answers
 
-      module _ {rows' : List (List ℕ)} {chains' : List ℕ} where
-        pub step-known : {r : ℕ} → Entered t n rows count i m (d + 1) rows' chains' r → r < count
+      module _ {rows' : List Row} {chains' : List ℕ} where
+        pub step-known : {r : ℕ} → Entered t n rows count i m (d + 1) rows' chains' (Some r) → r < count
             → Walked t n shared rows' chains' (set links link r) count (i + m)
         step-known (known h e q c) l = walk-known h e q c
         step-known (added room new a c) l = absurd (omega arith)
-        step-known (full e new k) l = absurd (omega arith)
 
-        pub step-full : {r : ℕ} → Entered t n rows count i m (d + 1) rows' chains' r → count ≤ r → r ≡ 400
-            → 400 < length (reached (words_from t 0 n))
-        step-full (known h e q c) l f = absurd (omega arith)
-        step-full (added room new a c) l f = absurd (omega arith)
-        step-full (full e new k) l f = walk-full e new
+        pub step-full : Entered t n rows count i m (d + 1) rows' chains' None → Full t n
+        step-full (full e new k) = walk-full e new
 
-        pub step_added : {r : ℕ} → Entered t n rows count i m (d + 1) rows' chains' r → count ≤ r → ¬ (r ≡ 400)
+        pub step_added : {r : ℕ} → Entered t n rows count i m (d + 1) rows' chains' (Some r) → count ≤ r
             → Walking t n shared rows' chains' (set links link r) (count + 1) i (d + 1) r
-        step_added (known h e q c) l f = absurd (omega arith)
-        step_added (added room new a c) l f = walk-added room new a c
-        step_added (full e new k) l f = absurd (f refl)
-
-pub entered-low : {t : List ℕ} {n : ℕ} {rows rows' : List (List ℕ)} {count i m d r : ℕ} {chains' : List ℕ} → count ≤ 400
-    → Entered t n rows count i m d rows' chains' r → r ≤ 400
-entered-low few (known h e q c) = omega arith
-entered-low few (added room new a c) = omega arith
-entered-low few (full e new k) = omega arith
+        step_added (known h e q c) l = absurd (omega arith)
+        step_added (added room new a c) l = walk-added room new a c

@@ -3,7 +3,6 @@
 use Prim.Native.Nat.{ℕ, zero, suc, ◌+◌, ◌≤◌, ◌<◌}
 use mathlib.Core.Path.{◌≡◌, refl, sym, ap, ap₂, ◌∙◌}
 use mathlib.Core.List.{List, [], ◌++◌, map, map-map, flat_map}
-use native.Mathlib.Decide.{ℕ_discrete}
 use native.Mathlib.Omega.{arith}
 use lib.ListN.{length, get_or, set, length-set}
 use lib.Seq.{get_or-set_same, get_or-set_other}
@@ -15,7 +14,6 @@ use Rattle.call.specs.declared.Refusal.TheVariants.{Output, CanonicalImage}
 use Rattle.call.specs.Table.{refused, value, unless}
 use Rattle.call.specs.Buffers.{written}
 use Rattle.voice.specs.Voice.{letter_count, states}
-use Rattle.checking.proofs.Columns.{column-at}
 use Rattle.graph.specs.Graph.{sink}
 use Rattle.graph.specs.Conditions.{place_count, many_places}
 use Rattle.image.specs.Image.{list_bytes, image_of}
@@ -23,14 +21,16 @@ use Rattle.canonical.specs.Nodes.{letter_of, rest_of, arcs_of, canonical_graph}
 use Rattle.canonical.specs.Canonical.{words_graph, words_image, outside_limits, outside_rows}
 use Rattle.sorting.specs.Slots.{words_from}
 use Rattle.sorting.proofs.SlotWords.{words-length}
-use Rattle.registering.specs.Register.{longest_of, Register}
-use Rattle.registering.specs.Numbering.{heights_in, Rows, PlacedIn}
+use Rattle.registering.specs.declared.Row.{Row}
+use Rattle.registering.specs.Register.{no_row, Register}
+use Rattle.registering.specs.Numbering.{heights_in, bare, Rows, PlacedIn}
 use Rattle.registering.specs.Arcs.{vertex_in, root_row, vertex_list}
 use Rattle.registering.specs.Image.{Put, letter_in, letters_from, lists_from, table_image, Lettered, Measured}
 use Rattle.registering.specs.Image.{Listed, Voiced, Drawn}
 use Rattle.registering.specs.Building.{build_rows, ImageAnswered}
+use Rattle.registering.proofs.Fields.{field-at}
 use Rattle.registering.proofs.Numbers.{numbers_are}
-use Rattle.registering.proofs.Placing.{entry-same}
+use Rattle.registering.proofs.Placing.{row-same}
 use Rattle.registering.proofs.Putting.{put_all}
 use Rattle.registering.proofs.Behind.{word-list, register_rows}
 use Rattle.registering.proofs.Limits.{limits-kept}
@@ -38,44 +38,42 @@ use Rattle.registering.proofs.Vertex.{Tables, measured, listed, lettered, letter
 
 -- ---- what each step asks
 
-module _ {v t : List ℕ} {n : ℕ} {shared : List ℕ} {rows : List (List ℕ)} {links : List ℕ} {count : ℕ}
+module _ {v t : List ℕ} {n : ℕ} {shared : List ℕ} {rows : List Row} {links : List ℕ} {count : ℕ}
     (d : Drawn v t n shared rows links count) where
   register : Register t n rows count
-  register = d.built.register d.few
+  register = d.built.register
 
   -- the register with the root's row behind those of the nodes
-  abbrev rooted : List (List ℕ)
+  abbrev rooted : List Row
   rooted = set rows 400 (root_row n)
 
-  root-at : get_or rooted 400 [] ≡ root_row n
-  root-at = get_or-set_same rows 400 (root_row n) [] (omega (arith, register.long))
+  root-at : get_or rooted 400 no_row ≡ root_row n
+  root-at = get_or-set_same rows 400 (root_row n) no_row (omega (arith, register.long))
 
-  node_at_lem : (r : ℕ) → ¬ (r ≡ 400) → get_or rooted r [] ≡ get_or rows r []
-  node_at_lem r h = get_or-set_other rows 400 r (root_row n) [] h
+  node_at_lem : (r : ℕ) → ¬ (r ≡ 400) → get_or rooted r no_row ≡ get_or rows r no_row
+  node_at_lem r h = get_or-set_other rows 400 r (root_row n) no_row h
 
   -- the nodes keep their heights
-  high : (r : ℕ) → r < count → get_or (heights_in rooted) r 0 ≡ longest_of (get_or rows r [])
-  high r h = column-at 3 r rooted ∙ ap longest_of (node_at_lem r (omega (arith, d.few)))
+  high : (r : ℕ) → r < count → get_or (heights_in rooted) r 0 ≡ (get_or rows r no_row).longest
+  high r h =
+      field-at (λ row. row.longest) r rooted no_row
+      ∙ ap (λ row. row.longest) (node_at_lem r (omega (arith, register.few)))
 
   pub drawn_rows : Rows rooted count
   drawn_rows =
       let g = register_rows d.buildable.words register in
       record {
-        few = d.few;
+        few = register.few;
         long = length-set rows 400 (root_row n) ∙ g.long;
-        wide = λ r h. elim (ℕ_discrete r 400) [
-          | yes e ↦ ap (λ k. length (get_or rooted k [])) e ∙ ap length root-at
-          | no e ↦ ap length (node_at_lem r e) ∙ g.wide r h
-        ];
-        low = λ r h. rw (high r h, sym (column-at 3 r rows)) (g.low r h);
+        low = λ r h. rw (high r h, sym (field-at (λ row. row.longest) r rows no_row)) (g.low r h);
       }
 
-  module _ {numbered : List (List ℕ)} (p : PlacedIn rooted numbered count [] count) where
-    entry : (r j : ℕ) → j < 4 → ¬ (r ≡ 400) → get_or (get_or numbered r []) j 0 ≡ get_or (get_or rows r []) j 0
-    entry r j h k = entry-same p.same r j h ∙ ap (λ row. get_or row j 0) (node_at_lem r k)
+  module _ {numbered : List Row} (p : PlacedIn rooted numbered count [] count) where
+    entry : (r : ℕ) → ¬ (r ≡ 400) → bare (get_or numbered r no_row) ≡ bare (get_or rows r no_row)
+    entry r k = row-same p.same r ∙ ap bare (node_at_lem r k)
 
-    root_entry : (j : ℕ) → j < 4 → get_or (get_or numbered 400 []) j 0 ≡ get_or (root_row n) j 0
-    root_entry j h = entry-same p.same 400 j h ∙ ap (λ row. get_or row j 0) root-at
+    root_entry : bare (get_or numbered 400 no_row) ≡ root_row n
+    root_entry = row-same p.same 400 ∙ ap bare root-at
 
     tables : Tables t n shared rows links numbered count
     tables = record {
@@ -83,19 +81,19 @@ module _ {v t : List ℕ} {n : ℕ} {shared : List ℕ} {rows : List (List ℕ)}
       some = d.some;
       alike = d.alike;
       register = register;
-      linked = d.built.links d.few;
-      numbers = numbers_are (heights_in rooted) register (d.built.nodes d.few) high p.placed;
+      linked = d.built.links;
+      numbers = numbers_are (heights_in rooted) register d.built.nodes high p.placed;
       root = record {
-        first = root_entry 0 (omega arith);
-        many = root_entry 1 (omega arith);
-        depth = root_entry 2 (omega arith);
+        first = ap (λ row. row.first) root_entry;
+        many = ap (λ row. row.many) root_entry;
+        depth = ap (λ row. row.depth) root_entry;
       };
       same = λ r h.
-          let k : ¬ (r ≡ 400) = omega (arith, d.few) in
+          let k : ¬ (r ≡ 400) = omega (arith, register.few) in
           record {
-            first = entry r 0 (omega arith) k;
-            many = entry r 1 (omega arith) k;
-            depth = entry r 2 (omega arith) k;
+            first = ap (λ row. row.first) (entry r k);
+            many = ap (λ row. row.many) (entry r k);
+            depth = ap (λ row. row.depth) (entry r k);
           };
     }
 
@@ -103,7 +101,7 @@ module _ {v t : List ℕ} {n : ℕ} {shared : List ℕ} {rows : List (List ℕ)}
         ≡ many_places (place_count v (words_graph v (words_from t 0 n)))
     drawn_limits =
         limits-kept v (word-list d.buildable.words d.buildable.letters d.some)
-        (omega (arith, tables.numbers.many, d.few))
+        (omega (arith, tables.numbers.many, register.few))
         (omega (arith, words-length t 0 n, d.buildable.words.few))
 
     pub drawn_measured : Measured shared numbered count

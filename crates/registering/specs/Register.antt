@@ -1,11 +1,12 @@
 -- The register of nodes over a table of words in dictionary order: marks of words, rows of numbers, chains of nodes
 -- with one letter, and links from a node to those that follow it. No public contract cites them. Assumes nothing.
 use Rattle.std.specs.Prelude.{ℕ, zero, suc, ◌+◌, ◌*◌, ◌%◌, ◌≤◌, ◌<◌, ◌≡◌, true, false, cond, List, [], ◌∷◌, length}
-use Rattle.std.specs.Prelude.{get_or, take, drop, set, eqb}
+use Rattle.std.specs.Prelude.{get_or, take, drop, set, eqb, Option, Some, None}
 use Rattle.canonical.specs.Dictionary.{words_in_order, longest}
 use Rattle.canonical.specs.Nodes.{Node, node, same_node, node_of, reached}
 use Rattle.canonical.specs.Groups.{begins, common}
 use Rattle.sorting.specs.Slots.{word_at, Holds, words_from}
+use Rattle.registering.specs.declared.Row.{Row}
 
 -- ---- the words
 
@@ -64,36 +65,28 @@ rests_from t d i (suc n) = drop d (word_at t i) ∷ rests_from t d (suc i) n
 unfoldable pub node_at : List ℕ → ℕ → ℕ → ℕ → Node
 node_at t i n d = node (get_or t (33 * i + d) 0) (rests_from t d i n)
 
--- A node's row: the first word that has its prefix, how many have it, its letters, the letters of its longest
--- continuation, its chain, and the mark of its continuations. The chain is the place, from 1, of the node of the same
--- letter that was registered last before it, or 0.
-abbrev pub first_of : List ℕ → ℕ
-first_of row = get_or row 0 0
+-- A node's row: the first word that has its prefix, how many have it, its letters, and the letters of its longest
+-- continuation. While nodes are registered, two fields more are its chain and the mark of its continuations. The chain
+-- is the place, from 1, of the node of the same letter that was registered last before it, or 0.
+abbrev pub chain_of : Row → ℕ
+chain_of row = row.chain_or_number
 
-abbrev pub many_of : List ℕ → ℕ
-many_of row = get_or row 1 0
+abbrev pub mark_of : Row → ℕ
+mark_of row = row.mark_or_place
 
-abbrev pub depth_of : List ℕ → ℕ
-depth_of row = get_or row 2 0
+-- the row of no node
+abbrev pub no_row : Row
+no_row = record { first = 0; many = 0; depth = 0; longest = 0; chain_or_number = 0; mark_or_place = 0 }
 
-abbrev pub longest_of : List ℕ → ℕ
-longest_of row = get_or row 3 0
-
-abbrev pub chain_of : List ℕ → ℕ
-chain_of row = get_or row 4 0
-
-abbrev pub mark_of : List ℕ → ℕ
-mark_of row = get_or row 5 0
-
-unfoldable pub row_node : List ℕ → List ℕ → Node
-row_node t row = node_at t (first_of row) (many_of row) (depth_of row)
+unfoldable pub row_node : List ℕ → Row → Node
+row_node t row = node_at t row.first row.many row.depth
 
 -- the node at place r
-abbrev pub node_in : List ℕ → List (List ℕ) → ℕ → Node
-node_in t rows r = row_node t (get_or rows r [])
+abbrev pub node_in : List ℕ → List Row → ℕ → Node
+node_in t rows r = row_node t (get_or rows r no_row)
 
 -- count nodes from place r on
-unfoldable pub registered : List ℕ → List (List ℕ) → ℕ → ℕ → List Node
+unfoldable pub registered : List ℕ → List Row → ℕ → ℕ → List Node
 registered t rows r zero = []
 registered t rows r (suc count) = node_in t rows r ∷ registered t rows (suc r) count
 
@@ -108,83 +101,85 @@ pub record Group (t : List ℕ) (N i n d most mark : ℕ) : Type 0 where
   pub marked : mark ≡ marks_of 0 (rests_from t d i n)
 
 -- a row is that of a group
-abbrev pub GroupRow : List ℕ → ℕ → List ℕ → Type 0
-GroupRow t n row = Group t n (first_of row) (many_of row) (depth_of row) (longest_of row) (mark_of row)
+abbrev pub GroupRow : List ℕ → ℕ → Row → Type 0
+GroupRow t n row = Group t n row.first row.many row.depth row.longest (mark_of row)
 
 -- count rows are filled; behind the 400 rows of nodes there is one for the root
-pub record Register (t : List ℕ) (n : ℕ) (rows : List (List ℕ)) (count : ℕ) : Type 0 where
+pub record Register (t : List ℕ) (n : ℕ) (rows : List Row) (count : ℕ) : Type 0 where
   pub few : count ≤ 400
   pub long : length rows ≡ 401
-  pub wide : (r : ℕ) → r < 401 → length (get_or rows r []) ≡ 6
-  pub groups : (r : ℕ) → r < count → GroupRow t n (get_or rows r [])
+  pub groups : (r : ℕ) → r < count → GroupRow t n (get_or rows r no_row)
 
 -- ---- chains
 
 -- the place, from 1, of the last node with letter a among the first count, or 0
-unfoldable pub last_alike : List ℕ → List (List ℕ) → ℕ → ℕ → ℕ
+unfoldable pub last_alike : List ℕ → List Row → ℕ → ℕ → ℕ
 last_alike t rows a zero = 0
 last_alike t rows a (suc r) =
     let earlier = last_alike t rows a r in
     cond (eqb a (node_in t rows r).letter) (suc r) earlier
 
-pub record Chained (t : List ℕ) (rows : List (List ℕ)) (table : List ℕ) (count : ℕ) : Type 0 where
+pub record Chained (t : List ℕ) (rows : List Row) (table : List ℕ) (count : ℕ) : Type 0 where
   pub long : length table ≡ 256
   pub heads : (a : ℕ) → a < 256 → get_or table a 0 ≡ last_alike t rows a count
-  pub chains : (r : ℕ) → r < count → chain_of (get_or rows r []) ≡ last_alike t rows (node_in t rows r).letter r
+  pub chains : (r : ℕ) → r < count → chain_of (get_or rows r no_row) ≡ last_alike t rows (node_in t rows r).letter r
 
 -- ---- links
 
 -- the node at a place is that of the first d letters of the word in slot i
-pub record Linked (t : List ℕ) (n : ℕ) (rows : List (List ℕ)) (count place i d : ℕ) : Type 0 where
+pub record Linked (t : List ℕ) (n : ℕ) (rows : List Row) (count place i d : ℕ) : Type 0 where
   pub inside : place < count
   pub node : node_in t rows place ≡ node_of (words_from t 0 n) (take d (word_at t i))
 
 -- Links 0 to 399 lead from the node at that place, where its first word goes on, to the node of a letter more; links
 -- from 400 on lead to the node of one letter more than the word in that slot shares with the word before it.
-pub record Links (t : List ℕ) (n : ℕ) (shared : List ℕ) (rows : List (List ℕ)) (links : List ℕ) (count : ℕ)
+pub record Links (t : List ℕ) (n : ℕ) (shared : List ℕ) (rows : List Row) (links : List ℕ) (count : ℕ)
     : Type 0 where
   pub long : length links ≡ 2400
-  pub down : (r : ℕ) → r < count → depth_of (get_or rows r []) < get_or t (33 * first_of (get_or rows r [])) 0
-      → Linked t n rows count (get_or links r 0) (first_of (get_or rows r [])) (depth_of (get_or rows r []) + 1)
-  pub across : (i r : ℕ) → r < count → first_of (get_or rows r []) < i
-      → i < first_of (get_or rows r []) + many_of (get_or rows r []) → get_or shared i 0 ≡ depth_of (get_or rows r [])
+  pub down : (r : ℕ) → r < count → (get_or rows r no_row).depth < get_or t (33 * (get_or rows r no_row).first) 0
+      → Linked t n rows count (get_or links r 0) (get_or rows r no_row).first ((get_or rows r no_row).depth + 1)
+  pub across : (i r : ℕ) → r < count → (get_or rows r no_row).first < i
+      → i < (get_or rows r no_row).first + (get_or rows r no_row).many
+      → get_or shared i 0 ≡ (get_or rows r no_row).depth
       → Linked t n rows count (get_or links (400 + i) 0) i (get_or shared i 0 + 1)
   pub root : (i : ℕ) → i < n → get_or shared i 0 ≡ 0 → Linked t n rows count (get_or links (400 + i) 0) i 1
 
 -- ---- what the walk through all prefixes leaves
 
--- the nodes that the words' prefixes reach are registered, in the order of their first prefixes, and linked; or there
--- are more than 400
-pub record Built (t : List ℕ) (n : ℕ) (shared : List ℕ) (rows : List (List ℕ)) (table : List ℕ) (count : ℕ)
+-- the words' prefixes reach more nodes than there is room for
+abbrev pub Full : List ℕ → ℕ → Type 0
+Full t n = 400 < length (reached (words_from t 0 n))
+
+-- the nodes that the words' prefixes reach are registered, in the order of their first prefixes, and linked
+pub record Built (t : List ℕ) (n : ℕ) (shared : List ℕ) (rows : List Row) (table : List ℕ) (count : ℕ)
     : Type 0 where
-  pub register : count ≤ 400 → Register t n rows count
-  pub nodes : count ≤ 400 → registered t rows 0 count ≡ reached (words_from t 0 n)
-  pub links : count ≤ 400 → Links t n shared rows table count
-  pub full : 400 < count → 400 < length (reached (words_from t 0 n))
+  pub register : Register t n rows count
+  pub nodes : registered t rows 0 count ≡ reached (words_from t 0 n)
+  pub links : Links t n shared rows table count
 
 -- ---- a node more
 
 -- no node among the first count is this one
-abbrev pub Unknown : List ℕ → List (List ℕ) → ℕ → Node → Type 0
+abbrev pub Unknown : List ℕ → List Row → ℕ → Node → Type 0
 Unknown t rows count a = (r : ℕ) → r < count → same_node (node_in t rows r) a ≡ false
 
 -- the row of a group of words was put behind count rows
-pub record Added (t : List ℕ) (n : ℕ) (rows : List (List ℕ)) (count i m d : ℕ) (rows' : List (List ℕ)) : Type 0 where
-  pub row : List ℕ
+pub record Added (t : List ℕ) (n : ℕ) (rows : List Row) (count i m d : ℕ) (rows' : List Row) : Type 0 where
+  pub row : Row
   pub put : rows' ≡ set rows count row
-  pub first : first_of row ≡ i
-  pub many : many_of row ≡ m
-  pub depth : depth_of row ≡ d
+  pub first : row.first ≡ i
+  pub many : row.many ≡ m
+  pub depth : row.depth ≡ d
   pub register : Register t n rows' (count + 1)
 
 -- The node of m words with d letters, the first in slot i, was looked for among count nodes: it stands at the place
 -- answered, and it was there already, or it was put there; or there is no room for it.
-pub data Entered (t : List ℕ) (n : ℕ) (rows : List (List ℕ)) (count i m d : ℕ) (rows' : List (List ℕ))
-    (chains' : List ℕ) : ℕ → Type 0 where
+pub data Entered (t : List ℕ) (n : ℕ) (rows : List Row) (count i m d : ℕ) (rows' : List Row)
+    (chains' : List ℕ) : Option ℕ → Type 0 where
   known : {r : ℕ} → r < count → rows' ≡ rows → node_in t rows r ≡ node_at t i m d → Chained t rows' chains' count
-      → Entered t n rows count i m d rows' chains' r
+      → Entered t n rows count i m d rows' chains' (Some r)
   added : count < 400 → Unknown t rows count (node_at t i m d) → Added t n rows count i m d rows'
       → Chained t rows' chains' (count + 1)
-      → Entered t n rows count i m d rows' chains' count
+      → Entered t n rows count i m d rows' chains' (Some count)
   full : count ≡ 400 → Unknown t rows count (node_at t i m d) → rows' ≡ rows
-      → Entered t n rows count i m d rows' chains' 400
+      → Entered t n rows count i m d rows' chains' None

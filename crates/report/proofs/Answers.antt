@@ -1,5 +1,5 @@
 -- What the calls answer that a list of hits is printed with: none of them refuses there. Assumes nothing.
-use Prim.Native.Nat.{ℕ, ◌-◌, ◌≤◌, ◌<◌}
+use Prim.Native.Nat.{ℕ, ◌≤◌, ◌<◌}
 use mathlib.Core.Path.{◌≡◌, ap, ◌∙◌}
 use mathlib.Core.Bool.{true}
 use mathlib.Core.List.{List, [], ◌∷◌, ◌++◌}
@@ -55,15 +55,15 @@ module _ {v x : List ℕ} {T : ℕ} {work : List ℕ} (r : AcceptedArguments v x
 
     -- the bytes written, from 0 on, are the word
     pub word-is : {size : ℕ} {out' : List ℕ} → value size ≡ code_to_word_answer v x code work out → out' ≡ code_to_word_out v x code work out
-        → take (size - 0) out' ≡ word_of_code v (graph_of x) code
+        → take size out' ≡ word_of_code v (graph_of x) code
     unfolding code_to_word_out written
     word-is {size} {out'} e f =
-        let s : size - 0 ≡ length (word_of_code v (graph_of x) code) = omega (arith, same-value (e ∙ word-answer)) in
+        let s : size ≡ length (word_of_code v (graph_of x) code) = same-value (e ∙ word-answer) in
         rw (f, word-answer, s) (take-append_seam (word_of_code v (graph_of x) code) _)
 
 -- a part of that length is there
-pub part-there : (n : ℕ) (l w : List ℕ) → take (n - 0) l ≡ w → n ≡ length w → n ≤ length l
-part-there n l w e s = omega (arith, length-take (n - 0) l, ap length e)
+pub part-there : (n : ℕ) (l w : List ℕ) → take n l ≡ w → n ≡ length w → n ≤ length l
+part-there n l w e s = omega (arith, length-take n l, ap length e)
 
 -- the line, with what the code has found for its parts
 pub line-is : (v x : List ℕ) (T : ℕ) (score : ℤ) (code : ℕ) {s m : ℤ} {w : List ℕ} → s ≡ score → m ≡ mean score T → w ≡ word_of_code v (graph_of x) code

@@ -5,10 +5,12 @@ use Prim.Native.Nat.{ℕ, zero, suc, ◌+◌, ◌*◌, ◌/◌, ◌^◌, ◌≤�
 use mathlib.Core.Path.{◌≡◌, refl, ap, ◌∙◌}
 use mathlib.Core.List.{List, [], ◌∷◌, ◌++◌, flat_map, append-nil}
 use mathlib.Core.Option.{none, some}
-use native.Mathlib.Nat.{zero-add}
+use native.Mathlib.Nat.{zero-add, add_assoc}
 use native.Mathlib.Numerals.{add-one}
 use native.Mathlib.Omega.{arith}
-use lib.ListN.{length, get_or, length-take, length-drop}
+use lib.ListN.{length, get_or, drop, length-take, length-drop}
+use lib.Seq.{get_or-take, get_or-drop}
+use Rattle.std.specs.Simd.{first_chunks}
 use borrow.Author.Tests.{le-leb}
 use Rattle.endian.specs.Lists.{from}
 use Rattle.endian.specs.Bytes.{u16, u16s}
@@ -22,7 +24,8 @@ use Rattle.lexicon.proofs.Readers.{part-successors}
 use Rattle.lexicon.proofs.Shape.{shape, arcs-next, arcs-below}
 use Rattle.report.specs.Arcs.{spaced, letter_text, vertex_line, arcs_printed, arcs_text}
 use Rattle.report.specs.Report.{decimal, refused_text}
-use Rattle.report.specs.Text.{TextPut}
+use Rattle.report.specs.Text.{TextPut, Written}
+use Rattle.report.specs.declared.Page.{Page}
 use Rattle.report.proofs.Digits.{labelled_short}
 use Rattle.report.proofs.Putting.{put-none, put-more}
 
@@ -44,33 +47,45 @@ spaced-more b i =
     rw (add-one i, numbers_more b 0 i, e)
     (flat_map_append (λ n. 32 ∷ decimal n) (u16s b 0 i) (n ∷ []) ∙ rw (append-nil (32 ∷ decimal n)))
 
+-- the number of a pair is the part's at twice its place
+pair_at : (i n : ℕ) (part : List ℕ) → i < n → u16 (get_or (first_chunks 2 n part) i []) 0 ≡ u16 part (2 * i)
+unfolding u16
+pair_at i zero part h = absurd (omega arith)
+pair_at zero (suc n) part h = rw (get_or-take 2 part 0 0 (omega arith), get_or-take 2 part 1 0 (omega arith)) refl
+pair_at (suc i) (suc n) part h =
+    let e : 2 * suc i ≡ 2 + 2 * i = omega arith in
+    rw (e, add_assoc 2 (2 * i) 1, ← get_or-drop 2 part (2 * i) 0, ← get_or-drop 2 part (2 * i + 1) 0)
+    (pair_at i n (drop 2 part) (omega arith))
+
+pub pair-number : (part : List ℕ) (i : ℕ) {pairs : List (List ℕ)} {n : ℕ}
+    → pairs ≡ first_chunks 2 (length part / 2) part → i < length part / 2 → n ≡ u16 (get_or pairs i []) 0 → n ≡ u16 part (2 * i)
+pair-number part i e h is = is ∙ rw e (pair_at i (length part / 2) part h)
+
 -- the first i numbers of a part are put
-pub record NumbersPut (part out₀ : List ℕ) (at : ℕ) (out : List ℕ) (end i : ℕ) : Type 0 where
+pub record NumbersPut {N : ℕ} (part : List ℕ) (page₀ page : Page N) (i : ℕ) : Type 0 where
   pub inside : i ≤ length part / 2
-  pub out_long : length out ≡ length out₀
-  pub few_bytes : end ≤ at + 11 * i
-  pub text : TextPut (spaced (u16s part 0 i)) at out₀ out end
+  pub few_bytes : page.length ≤ page₀.length + 11 * i
+  pub text : Written (spaced (u16s part 0 i)) page₀ page
 
-module _ {part out₀ : List ℕ} {at : ℕ} where
-  pub numbers-start : NumbersPut part out₀ at out₀ at 0
+module _ {N : ℕ} {part : List ℕ} {page₀ : Page N} where
+  pub numbers-start : NumbersPut part page₀ page₀ 0
   unfolding u16s spaced flat_map
-  numbers-start = record { inside = omega arith; out_long = refl; few_bytes = omega arith; text = put-none at out₀ }
+  numbers-start = record { inside = omega arith; few_bytes = omega arith; text = put-none page₀.length page₀.text }
 
-  pub numbers-next : {out out' : List ℕ} {end end' i n : ℕ} → at ≤ length out₀ → NumbersPut part out₀ at out end i
-      → i < length part / 2 → n ≡ u16 part (2 * i) → n < 2 ^ 32 → length out' ≡ length out
-      → TextPut ((32 ∷ []) ++ decimal n) end out out' end'
-      → NumbersPut part out₀ at out' end' (i + 1)
-  numbers-next {out} {out'} {end} {end'} {i} {n} room p h e f o q =
-      let one : TextPut (32 ∷ decimal (u16 part (2 * i))) end out out' end' = rw e at q in
+  pub numbers-next : {page page' : Page N} {i n : ℕ} → page₀.length ≤ length page₀.text → NumbersPut part page₀ page i
+      → i < length part / 2 → n ≡ u16 part (2 * i) → n < 2 ^ 32
+      → Written ((32 ∷ []) ++ decimal n) page page'
+      → NumbersPut part page₀ page' (i + 1)
+  numbers-next {page} {page'} {i} {n} room p h e f q =
+      let one : Written (32 ∷ decimal (u16 part (2 * i))) page page' = rw e at q in
       record {
         inside = omega arith;
-        out_long = o ∙ p.out_long;
         few_bytes = omega (arith, p.few_bytes, q.ends, labelled_short (32 ∷ []) n f);
         text = rw (spaced-more part i) (put-more room p.text one);
       }
 
-  pub numbers_end : {out : List ℕ} {end i : ℕ} → NumbersPut part out₀ at out end i → length part / 2 ≤ i
-      → TextPut (spaced (u16s part 0 (length part / 2))) at out₀ out end × (end ≤ at + 6 * length part)
+  pub numbers_end : {page : Page N} {i : ℕ} → NumbersPut part page₀ page i → length part / 2 ≤ i
+      → Written (spaced (u16s part 0 (length part / 2))) page₀ page × (page.length ≤ page₀.length + 6 * length part)
   numbers_end {i = i} p h =
       let e : i ≡ length part / 2 = omega (arith, p.inside) in
       (rw e at p.text, omega (arith, p.few_bytes))
@@ -112,35 +127,33 @@ module _ (x : List ℕ) (w : lexicon_verdict 256 x ≡ well_formed) {u : ℕ} (h
 -- ---- line after line
 
 -- the lines of the vertices below u are put
-pub record VerticesPut (x out₀ out : List ℕ) (end u : ℕ) : Type 0 where
+pub record VerticesPut {N : ℕ} (x : List ℕ) (page₀ page : Page N) (u : ℕ) : Type 0 where
   pub inside : u ≤ sink_of x
-  pub out_long : length out ≡ length out₀
-  pub few_bytes : end ≤ 11 * u + 6 * arcs_at x u
-  pub text : TextPut (flat_map (vertex_line x) (from 0 u)) 0 out₀ out end
+  pub few_bytes : page.length ≤ page₀.length + 11 * u + 6 * arcs_at x u
+  pub text : Written (flat_map (vertex_line x) (from 0 u)) page₀ page
 
-module _ {x out₀ : List ℕ} where
-  pub vertices-start : VerticesPut x out₀ out₀ 0 0
+module _ {N : ℕ} {x : List ℕ} {page₀ : Page N} where
+  pub vertices-start : VerticesPut x page₀ page₀ 0
   unfolding from flat_map
-  vertices-start = record { inside = omega arith; out_long = refl; few_bytes = omega arith; text = put-none 0 out₀ }
+  vertices-start = record { inside = omega arith; few_bytes = omega arith; text = put-none page₀.length page₀.text }
 
-  module _ (w : lexicon_verdict 256 x ≡ well_formed) {out : List ℕ} {end u : ℕ} (p : VerticesPut x out₀ out end u)
+  module _ (w : lexicon_verdict 256 x ≡ well_formed) {page : Page N} {u : ℕ} (p : VerticesPut x page₀ page u)
       (h : u ≤ node_count x) where
     -- the next line has room
-    pub line-room : 60000 ≤ length out₀ → end + 23 + 12 * arc_count x u ≤ length out
+    pub line-room : page₀.length ≡ 0 → page.length + 23 + 12 * arc_count x u ≤ 60000
     unfolding sink_of
     line-room r =
         let s = shape 256 x w in
-        omega (arith, p.few_bytes, p.out_long, arcs-next x u, s.few, s.small {u = suc u} (omega arith))
+        omega (arith, r, p.few_bytes, arcs-next x u, s.few, s.small {u = suc u} (omega arith))
 
-    pub vertices-next : {out' : List ℕ} {end' : ℕ} → length out' ≡ length out
-        → TextPut (vertex_line x u) end out out' end'
-        → end' ≤ end + 23 + 12 * arc_count x u → VerticesPut x out₀ out' end' (u + 1)
+    pub vertices-next : {page' : Page N} → page₀.length ≤ length page₀.text
+        → Written (vertex_line x u) page page'
+        → page'.length ≤ page.length + 23 + 12 * arc_count x u → VerticesPut x page₀ page' (u + 1)
     unfolding sink_of flat_map from
-    vertices-next o q k = record {
+    vertices-next room q k = record {
       inside = omega arith;
-      out_long = o ∙ p.out_long;
       few_bytes = rw (add-one u) (omega (arith, p.few_bytes, arcs-next x u));
-      text = rw more (put-more (omega arith) p.text q);
+      text = rw more (put-more room p.text q);
     }
       where
         more : flat_map (vertex_line x) (from 0 (u + 1)) ≡ flat_map (vertex_line x) (from 0 u) ++ vertex_line x u
@@ -148,8 +161,8 @@ module _ {x out₀ : List ℕ} where
             rw (from-add 0 u 1, zero-add u)
             (flat_map_append (vertex_line x) (from 0 u) (u ∷ []) ∙ rw (append-nil (vertex_line x u)))
 
-  pub vertices-end : {out : List ℕ} {end u : ℕ} → VerticesPut x out₀ out end u → node_count x < u
-      → TextPut (flat_map (vertex_line x) (from 0 (sink_of x))) 0 out₀ out end
+  pub vertices-end : {page : Page N} {u : ℕ} → VerticesPut x page₀ page u → node_count x < u
+      → Written (flat_map (vertex_line x) (from 0 (sink_of x))) page₀ page
   unfolding sink_of
   vertices-end {u = u} p h = let e : u ≡ suc (node_count x) = omega (arith, p.inside) in rw e at p.text
 

@@ -1,38 +1,57 @@
 -- The parts of the input: cut off at its end, each part is the definition's. Assumes nothing.
-use Prim.Native.Nat.{ℕ, ◌+◌, ◌-◌, ◌<◌}
-use mathlib.Core.Path.{◌≡◌, sym, ap, ◌∙◌}
-use mathlib.Core.List.{List, []}
+use Prim.Native.Nat.{ℕ, ◌+◌, ◌≤◌, ◌<◌, min}
+use mathlib.Core.Path.{◌≡◌, refl, sym, ap, ◌∙◌}
+use mathlib.Core.List.{List, [], ◌∷◌}
+use native.Mathlib.Decide.{dec_le}
 use native.Mathlib.Omega.{arith}
-use lib.ListN.{length, take, drop, get_or, length-drop, drop_of_length-le, get_or-eq_default}
-use lib.Seq.{take_all, take-nil}
+use lib.ListN.{length, take, drop, get_or, drop_of_length-le}
+use lib.Seq.{take_all, take-nil, drop-drop}
 use Rattle.endian.specs.Bytes.{u16}
 use Rattle.report.specs.Report.{image_in, after_image}
 
--- from n to the end
-pub to_end : (n : ℕ) (b : List ℕ) → take (length b - n) (drop n b) ≡ drop n b
-to_end n b = take_all (length b - n) (drop n b) (omega (arith, length-drop n b))
-
-pub first-missing : (b : List ℕ) → length b ≡ 0 → 0 ≡ get_or b 0 0
-first-missing b h = sym (get_or-eq_default b 0 {n = 0} (omega arith))
-
--- s is the length that is read
-module _ (b : List ℕ) where
-  pub image-none : length b < 2 → image_in b ≡ []
+-- without a whole length there is nothing
+module _ (b : List ℕ) (h : length b < 2) where
+  pub image-none : [] ≡ image_in b
   unfolding image_in
-  image-none h = ap (take (u16 b 0)) (drop_of_length-le b {i = 2} (omega arith)) ∙ take-nil (u16 b 0)
+  image-none = sym (ap (take (u16 b 0)) (drop_of_length-le b {i = 2} (omega arith)) ∙ take-nil (u16 b 0))
 
-  pub image-short : {s : ℕ} → s ≡ u16 b 0 → length b < 2 + s → take (length b - 2) (drop 2 b) ≡ image_in b
-  unfolding image_in
-  image-short e h = to_end 2 b ∙ sym (take_all (u16 b 0) (drop 2 b) (omega (arith, length-drop 2 b)))
-
-  pub image-whole : {s : ℕ} → s ≡ u16 b 0 → take (2 + s - 2) (drop 2 b) ≡ image_in b
-  unfolding image_in
-  image-whole {s} e = let q : 2 + s - 2 ≡ u16 b 0 = omega arith in rw q
-
-  pub after_none : {s : ℕ} → s ≡ u16 b 0 → length b < 2 + s → after_image b ≡ []
+  pub after_none : [] ≡ after_image b
   unfolding after_image
-  after_none e h = drop_of_length-le b {i = 2 + u16 b 0} (omega arith)
+  after_none = sym (drop_of_length-le b {i = 2 + u16 b 0} (omega arith))
 
-  pub after-rest : {s : ℕ} → s ≡ u16 b 0 → take (length b - (2 + s)) (drop (2 + s) b) ≡ after_image b
+first_two : (b : List ℕ) → 2 ≤ length b → u16 (get_or (take 2 b) 0 0 ∷ get_or (take 2 b) 1 0 ∷ []) 0 ≡ u16 b 0
+unfolding u16
+first_two [] h = absurd (omega arith)
+first_two (x ∷ []) h = absurd (omega arith)
+first_two (x ∷ y ∷ b) h = refl
+
+-- as many as there are
+module _ (n : ℕ) (l : List ℕ) where
+  take-most : take (min n (length l)) l ≡ take n l
+  take-most = go (dec_le n (length l))
+    where
+      go : Dec (n ≤ length l) → take (min n (length l)) l ≡ take n l
+      go (yes h) = let e : min n (length l) ≡ n = omega arith in rw e
+      go (no h) = take_all (min n (length l)) l (omega arith) ∙ sym (take_all n l (omega arith))
+
+  drop-most : drop (min n (length l)) l ≡ drop n l
+  drop-most = go (dec_le n (length l))
+    where
+      go : Dec (n ≤ length l) → drop (min n (length l)) l ≡ drop n l
+      go (yes h) = let e : min n (length l) ≡ n = omega arith in rw e
+      go (no h) = drop_of_length-le l {i = min n (length l)} (omega arith) ∙ sym (drop_of_length-le l {i = n} (omega arith))
+
+-- the two bytes of the length, and what follows them; s is the length that is read
+module _ (b pair rest : List ℕ) {s n : ℕ} (two : pair ≡ take 2 b) (behind : rest ≡ drop 2 b)
+    (long : length rest + 2 ≡ length b) (read : s ≡ u16 (get_or pair 0 0 ∷ get_or pair 1 0 ∷ []) 0)
+    (most : n ≡ min s (length rest)) where
+  size : s ≡ u16 b 0
+  size = read ∙ rw two (first_two b (omega arith))
+
+  pub image-cut : take n rest ≡ image_in b
+  unfolding image_in
+  image-cut = rw (most, take-most s rest, size, behind)
+
+  pub after-cut : drop n rest ≡ after_image b
   unfolding after_image
-  after-rest {s} e = to_end (2 + s) b ∙ rw e
+  after-cut = rw (most, drop-most s rest, size, behind) (drop-drop (u16 b 0) 2 b)

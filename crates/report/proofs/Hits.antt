@@ -27,7 +27,8 @@ use Rattle.ranking.specs.Hits.{Hit, hit, hits_at, hits_read}
 use Rattle.ranking.proofs.Rounding.{mean-range}
 use Rattle.codes.proofs.Words.{word_short}
 use Rattle.report.specs.Lines.{AcceptedArguments, HoldsHits}
-use Rattle.report.specs.Text.{TextPut}
+use Rattle.report.specs.Text.{Written}
+use Rattle.report.specs.declared.Page.{Page}
 use Rattle.report.specs.Report.{hit_line}
 use Rattle.report.proofs.Putting.{put-none, put-more}
 use Rattle.report.proofs.Digits.{decimal-short, signed_short}
@@ -102,12 +103,12 @@ line-short v x T h ok below small =
 -- ---- line after line
 
 -- the lines of the first i hits are put
-pub record Lined (v x : List ℕ) (T : ℕ) (list : List ℕ) (k : ℕ) (work₀ out₀ : List ℕ) (at : ℕ) (work out : List ℕ) (end i : ℕ) : Type 0 where
+pub record Lined {N : ℕ} (v x : List ℕ) (T : ℕ) (list : List ℕ) (k : ℕ) (work₀ : List ℕ) (page₀ : Page N)
+    (work : List ℕ) (page : Page N) (i : ℕ) : Type 0 where
   pub inside : i ≤ k
   pub work_long : length work ≡ length work₀
-  pub out_long : length out ≡ length out₀
-  pub few_bytes : end ≤ at + 68 * i
-  pub lines : TextPut (flat_map (hit_line v (graph_of x) T) (hits_read list i)) at out₀ out end
+  pub few_bytes : page.length ≤ page₀.length + 68 * i
+  pub lines : Written (flat_map (hit_line v (graph_of x) T) (hits_read list i)) page₀ page
 
 -- each of them names a word
 pub hit-named : {x list : List ℕ} {k : ℕ} → HoldsHits x list k → (i : ℕ) → i < k
@@ -117,31 +118,35 @@ hit-named {list = list} {k} l i h =
     let e : 0 + 8 * i ≡ 8 * i = omega arith in
     l.named (one_at list (8 * i)) (rw e at (hit_in list 0 i k h))
 
-module _ {v x : List ℕ} {T : ℕ} {list : List ℕ} {k : ℕ} {work₀ out₀ : List ℕ} {at : ℕ} where
-  pub lines_start : Lined v x T list k work₀ out₀ at work₀ out₀ at 0
+module _ {N : ℕ} {v x : List ℕ} {T : ℕ} {list : List ℕ} {k : ℕ} {work₀ : List ℕ} {page₀ : Page N} where
+  pub lines_start : Lined v x T list k work₀ page₀ work₀ page₀ 0
   unfolding hits_read hits_at flat_map
-  lines_start = record { inside = omega arith; work_long = refl; out_long = refl; few_bytes = omega arith; lines = put-none at out₀ }
+  lines_start = record {
+    inside = omega arith;
+    work_long = refl;
+    few_bytes = omega arith;
+    lines = put-none page₀.length page₀.text;
+  }
 
-  module _ {work out : List ℕ} {end i : ℕ} (r : AcceptedArguments v x T work₀) (l : HoldsHits x list k)
-      (room : at ≤ length out₀) (p : Lined v x T list k work₀ out₀ at work out end i) where
+  module _ {work : List ℕ} {page : Page N} {i : ℕ} (r : AcceptedArguments v x T work₀) (l : HoldsHits x list k)
+      (room : page₀.length ≤ length page₀.text) (p : Lined v x T list k work₀ page₀ work page i) where
     pub still_accepted : AcceptedArguments v x T work
     still_accepted =
         record { images = r.images; some_frames = r.some_frames; few_frames = r.few_frames; space = omega (arith, r.space, p.work_long) }
 
-    pub lines_next : {work' out' : List ℕ} {end' : ℕ} {score : ℤ} {code : ℕ} → i < k → score ≡ i32 list (8 * i) → code ≡ u32 list (8 * i + 4)
-        → length work' ≡ length work → length out' ≡ length out
-        → TextPut (hit_line v (graph_of x) T (hit score code)) end out out' end'
-        → Lined v x T list k work₀ out₀ at work' out' end' (i + 1)
-    lines_next {out' = out'} {end'} h s c w o q =
-        let one : TextPut (hit_line v (graph_of x) T (one_at list (8 * i))) end out out' end' = rw (s, c) at q in
+    pub lines_next : {work' : List ℕ} {page' : Page N} {score : ℤ} {code : ℕ} → i < k → score ≡ i32 list (8 * i)
+        → code ≡ u32 list (8 * i + 4) → length work' ≡ length work
+        → Written (hit_line v (graph_of x) T (hit score code)) page page'
+        → Lined v x T list k work₀ page₀ work' page' (i + 1)
+    lines_next {page' = page'} h s c w q =
+        let one : Written (hit_line v (graph_of x) T (one_at list (8 * i))) page page' = rw (s, c) at q in
         let short = line-short v x T (one_at list (8 * i)) r.images (hit-named l i h) (i32-range list (8 * i)) in
         record {
           inside = omega arith;
           work_long = w ∙ p.work_long;
-          out_long = o ∙ p.out_long;
           few_bytes = omega (arith, p.few_bytes, one.ends);
           lines = rw (lines_more (hit_line v (graph_of x) T) list i) (put-more room p.lines one);
         }
 
-    pub lines_end : k ≤ i → TextPut (flat_map (hit_line v (graph_of x) T) (hits_read list k)) at out₀ out end
+    pub lines_end : k ≤ i → Written (flat_map (hit_line v (graph_of x) T) (hits_read list k)) page₀ page
     lines_end h = let e : i ≡ k = omega (arith, p.inside) in rw e at p.lines

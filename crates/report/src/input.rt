@@ -3,51 +3,36 @@ ghost use Rattle.std.specs.Prelude.{◌≡◌, drop};
 ghost use Rattle.endian.specs.Bytes.{u8};
 ghost use Rattle.report.specs.Report.{image_in, after_image};
 
-use endian::u16_at;
+use endian::u16_of;
 
-// An image after its length; missing bytes leave it short.
-pub(crate) fn image(input: &[u8]) -> &[u8]
-    ensures { result.now ≡ image_in input.now }
+// An image after its length, and what follows it. Missing bytes leave the image short.
+pub(crate) fn cut_image(input: &[u8]) -> (&[u8], &[u8])
+    ensures image { result.0.now ≡ image_in input.now }
+    ensures rest { result.1.now ≡ after_image input.now }
 {
-    let len = input.len();
-    if len < 2 {
-        return &input[0..0];
-    }
-    let size = u16_at(input, 0) as usize;
-    let end = 2 + size;
-    if len < end {
-        return &input[2..];
-    }
-    &input[2..end]
-}
-
-// What follows an image.
-pub(crate) fn after_image(input: &[u8]) -> &[u8]
-    ensures { result.now ≡ after_image input.now }
-{
-    let start = 2 + (u16_at(input, 0) as usize);
-    if input.len() < start {
-        return &input[0..0];
-    }
-    &input[start..]
+    let Some((&[lo, hi], rest)) = input.split_first_chunk::<2>() else {
+        return (&[], &[]);
+    };
+    let size = u16_of(lo, hi) as usize;
+    rest.split_at(size.min(rest.len()))
 }
 
 // n is the first byte after the images; a missing n is 0.
 pub(crate) fn count(rest: &[u8]) -> u32
     ensures { result ≡ u8 rest.now 0 }
 {
-    if rest.len() == 0 {
-        return 0;
+    match rest.first() {
+        Some(n) => u32::from(*n),
+        None => 0,
     }
-    rest[0] as u32
 }
 
 // The frames follow n.
 pub(crate) fn frames(rest: &[u8]) -> &[u8]
     ensures { result.now ≡ drop 1 rest.now }
 {
-    if rest.len() == 0 {
-        return &rest[0..0];
+    match rest.split_first() {
+        Some((_, frames)) => frames,
+        None => &[],
     }
-    &rest[1..]
 }

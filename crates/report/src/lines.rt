@@ -3,63 +3,63 @@ ghost use Rattle.std.specs.Prelude.{◌≡◌, ◌+◌, ◌*◌, ◌≤◌, ◌<
 ghost use mathlib.Core.List.{flat_map};
 ghost use Rattle.endian.specs.Bytes.{i32, u32};
 ghost use Rattle.graph.specs.Graph.{graph_of, word_count};
-ghost use Rattle.ranking.specs.Hits.{hit, hits_read};
+ghost use Rattle.ranking.specs.Hits as spec;
+ghost use Rattle.ranking.specs.Hits.{hits_read};
 ghost use Rattle.report.specs.Lines.{AcceptedArguments, HoldsHits};
-ghost use Rattle.report.specs.Text.{TextPut};
+ghost use Rattle.report.specs.Text.{Written};
 ghost use Rattle.report.specs.Report.{hit_line};
 
-use crate::text::put_hit_line;
-use call::Answer;
+use crate::Page;
 use codes::code_to_word;
 use endian::{i32_of, u32_of};
-use ranking::{MeanScore, mean};
+use ranking::mean;
 
-// A hit is i32 score, u32 code.
-fn score_at(list: &[u8], at: usize) -> i32
-    requires { at + 4 ≤ length list.now }
-    ensures { result ≡ i32 list.now at }
-{
-    i32_of(list[at], list[at + 1], list[at + 2], list[at + 3])
+// A word that was heard, by its code, and its score.
+#[derive(Clone, Copy)]
+struct Hit {
+    score: i32,
+    code: u32,
 }
 
-fn code_at(list: &[u8], at: usize) -> u32
-    requires { at + 4 ≤ length list.now }
-    ensures { result ≡ u32 list.now at }
+// The hit at an offset: i32 score, u32 code.
+fn hit_at(list: &[u8], at: usize) -> Hit
+    requires { at + 8 ≤ length list.now }
+    ensures score { result.score ≡ i32 list.now at }
+    ensures code { result.code ≡ u32 list.now (at + 4) }
 {
-    u32_of(list[at], list[at + 1], list[at + 2], list[at + 3])
+    let next = at + 4;
+    Hit {
+        score: i32_of(list[at], list[at + 1], list[at + 2], list[at + 3]),
+        code: u32_of(list[next], list[next + 1], list[next + 2], list[next + 3]),
+    }
 }
 
-// The line of one hit; what is ready here is never refused.
+// Puts the line of one hit; what is ready here is never refused.
 fn put_hit(
     voice: &[u8],
     lexicon: &[u8],
     frames: u32,
-    code: u32,
-    score: i32,
+    hit: Hit,
     work: &mut [u8],
-    out: &mut [u8],
-    at: usize,
-) -> usize
+    page: &mut Page<640>,
+)
     requires accepted_arguments { AcceptedArguments voice.now lexicon.now frames work.old }
-    requires code_bound { code < word_count (graph_of lexicon.now) }
-    requires at_in_bounds { at + 68 ≤ length out.old }
-    ensures { TextPut (hit_line voice.now (graph_of lexicon.now) frames (hit score code)) at
-        out.old out.new result }
+    requires code_bound { hit.code < word_count (graph_of lexicon.now) }
+    requires in_bounds { page.old.length + 68 ≤ 640 }
+    ensures { Written
+        (hit_line voice.now (graph_of lexicon.now) frames (spec.hit hit.score hit.code)) page.old page.new }
 {
     let mut word = [0u8; 32];
-    let spelled = code_to_word(voice, lexicon, code, work, &mut word);
-    let Answer::Value(size) = spelled else {
-        return at;
+    let Ok(size) = code_to_word(voice, lexicon, hit.code, work, &mut word) else {
+        unreachable!();
     };
-    let averaged = mean(score, frames);
-    let MeanScore::Value(average) = averaged else {
-        return at;
+    let Ok(average) = mean(hit.score, frames) else {
+        unreachable!();
     };
-    let end = size as usize;
-    put_hit_line(code, score, average, &word[0..end], out, at)
+    page.put_hit_line(hit.code, hit.score, average, &word[..size as usize]);
 }
 
-// The lines of k hits, in their order.
+// Puts the lines of k hits, in their order.
 pub(crate) fn put_lines(
     voice: &[u8],
     lexicon: &[u8],
@@ -67,24 +67,15 @@ pub(crate) fn put_lines(
     list: &[u8],
     k: u32,
     work: &mut [u8],
-    out: &mut [u8],
-    at: usize,
-) -> usize
+    page: &mut Page<640>,
+)
     requires accepted_arguments { AcceptedArguments voice.now lexicon.now frames work.old }
     requires holds_hits { HoldsHits lexicon.now list.now k }
-    requires k_in_bounds { at + 68 * k ≤ length out.old }
-    ensures { TextPut
-        (flat_map (hit_line voice.now (graph_of lexicon.now) frames)
-        (hits_read list.now k)) at
-        out.old out.new result }
+    requires k_in_bounds { page.old.length + 68 * k ≤ 640 }
+    ensures { Written
+        (flat_map (hit_line voice.now (graph_of lexicon.now) frames) (hits_read list.now k)) page.old page.new }
 {
-    let mut end = at;
-    let mut i = 0;
-    while i < (k as usize) {
-        let score = score_at(list, 8 * i);
-        let code = code_at(list, 8 * i + 4);
-        end = put_hit(voice, lexicon, frames, code, score, work, out, end);
-        i += 1;
+    for i in 0..k as usize {
+        put_hit(voice, lexicon, frames, hit_at(list, 8 * i), work, page);
     }
-    end
 }

@@ -6,84 +6,69 @@ ghost use Rattle.endian.specs.Bytes.{u16s};
 ghost use Rattle.voice.specs.Fields.{well_formed};
 ghost use Rattle.lexicon.specs.Lexicon.{node_count, sink_of, arc_count, lexicon_verdict};
 ghost use Rattle.report.specs.Arcs.{spaced, letter_text, vertex_line, arcs_text};
-ghost use Rattle.report.specs.Text.{TextPut};
+ghost use Rattle.report.specs.Text.{Written};
 
-use crate::text::{put_byte, put_decimal, put_labelled, put_refusal};
-use call::Refusal;
-use endian::u16_at;
+use crate::Page;
+use endian::{number_of, u16_at};
 use lexicon::{judge, successors};
-use voice::Verdict;
 
-// The numbers that a part of the image holds, each behind a space.
-fn put_numbers(part: &[u8], out: &mut [u8], at: usize) -> usize
-    requires { at + 6 * length part.now ≤ length out.old }
-    ensures text_put { TextPut (spaced (u16s part.now 0 (length part.now / 2))) at
-        out.old out.new result }
-    ensures upper_bound { result ≤ at + 6 * length part.now }
+// Puts the numbers that a part of the image holds, each behind a space.
+fn put_numbers(part: &[u8], page: &mut Page<60000>)
+    requires { page.old.length + 6 * length part.now ≤ 60000 }
+    ensures text { Written (spaced (u16s part.now 0 (length part.now / 2))) page.old page.new }
+    ensures upper_bound { page.new.length ≤ page.old.length + 6 * length part.now }
 {
-    let count = part.len() / 2;
-    let mut end = at;
-    let mut i = 0;
-    while i < count {
-        end = put_labelled(b" ", u16_at(part, 2 * i) as u32, out, end);
-        i += 1;
+    let (pairs, _) = part.as_chunks::<2>();
+    for &pair in pairs {
+        page.put_labelled(b" ", number_of(pair));
     }
-    end
 }
 
-// A node's letter index behind a space.
-fn put_letter(lexicon: &[u8], vertex: usize, out: &mut [u8], at: usize) -> usize
-    requires { (2 + vertex ≤ length lexicon.now) × (at + 11 ≤ length out.old) }
-    ensures text_put { TextPut (letter_text lexicon.now vertex) at out.old out.new result }
-    ensures upper_bound { result ≤ at + 11 }
+// Puts a node's letter index behind a space.
+fn put_letter(lexicon: &[u8], vertex: usize, page: &mut Page<60000>)
+    requires { (2 + vertex ≤ length lexicon.now) × (page.old.length + 11 ≤ 60000) }
+    ensures text { Written (letter_text lexicon.now vertex) page.old page.new }
+    ensures upper_bound { page.new.length ≤ page.old.length + 11 }
 {
-    if vertex == 0 {
-        return at;
+    if vertex != 0 {
+        page.put_labelled(b" ", lexicon[1 + vertex]);
     }
-    put_labelled(b" ", lexicon[1 + vertex] as u32, out, at)
 }
 
-// The line of a vertex.
-fn put_vertex(lexicon: &[u8], vertex: usize, out: &mut [u8], at: usize) -> usize
+// Puts the line of a vertex.
+fn put_vertex(lexicon: &[u8], vertex: usize, page: &mut Page<60000>)
     requires lexicon_value { lexicon_verdict 256 lexicon.now ≡ well_formed }
     requires vertex_bound { vertex ≤ node_count lexicon.now }
-    requires vertex_in_bounds { at + 23 + 12 * arc_count lexicon.now vertex ≤ length out.old }
-    ensures text_put { TextPut (vertex_line lexicon.now vertex) at out.old out.new result }
-    ensures upper_bound { result ≤ at + 23 + 12 * arc_count lexicon.now vertex }
+    requires in_bounds { page.old.length + 23 + 12 * arc_count lexicon.now vertex ≤ 60000 }
+    ensures text { Written (vertex_line lexicon.now vertex) page.old page.new }
+    ensures upper_bound { page.new.length ≤ page.old.length + 23 + 12 * arc_count lexicon.now vertex }
 {
-    let part = successors(lexicon, vertex);
-    let mut end = put_decimal(vertex as u32, out, at);
-    end = put_letter(lexicon, vertex, out, end);
-    end = put_byte(58, out, end);
-    end = put_numbers(part, out, end);
-    put_byte(10, out, end)
+    page.put_number(vertex as u32);
+    put_letter(lexicon, vertex, page);
+    page.put_byte(58);
+    put_numbers(successors(lexicon, vertex), page);
+    page.put_byte(10);
 }
 
-// The lines of all vertices below the sink; a lexicon has at most 401 of them, and 9,204 bytes up to the reserve.
-fn put_vertices(lexicon: &[u8], out: &mut [u8]) -> usize
+// Puts the lines of all vertices below the sink; a lexicon has at most 401 of them, and 9,204 bytes up to the reserve.
+fn put_vertices(lexicon: &[u8], page: &mut Page<60000>)
     requires lexicon_value { lexicon_verdict 256 lexicon.now ≡ well_formed }
-    requires in_bounds { 60000 ≤ length out.old }
-    ensures { TextPut (flat_map (vertex_line lexicon.now) (from 0 (sink_of lexicon.now))) 0
-        out.old out.new result }
+    requires nothing_yet { page.old.length ≡ 0 }
+    ensures { Written (flat_map (vertex_line lexicon.now) (from 0 (sink_of lexicon.now))) page.old page.new }
 {
     let nodes = u16_at(lexicon, 0) as usize;
-    let mut end = 0;
-    let mut vertex = 0;
-    while vertex <= nodes {
-        end = put_vertex(lexicon, vertex, out, end);
-        vertex += 1;
+    for vertex in 0..nodes + 1 {
+        put_vertex(lexicon, vertex, page);
     }
-    end
 }
 
-// The lines, or the one line of a refusal.
-pub(crate) fn put_arcs(lexicon: &[u8], out: &mut [u8]) -> usize
-    requires { 60000 ≤ length out.old }
-    ensures { TextPut (arcs_text lexicon.now) 0 out.old out.new result }
+// Puts the lines, or the one line of a refusal.
+pub(crate) fn put_arcs(lexicon: &[u8], page: &mut Page<60000>)
+    requires { page.old.length ≡ 0 }
+    ensures { Written (arcs_text lexicon.now) page.old page.new }
 {
     match judge(lexicon, 256) {
-        Verdict::WellFormed => put_vertices(lexicon, out),
-        Verdict::WrongLength => put_refusal(Refusal::LexiconLength.number() as u32, out, 0),
-        Verdict::OutOfRange => put_refusal(Refusal::LexiconRange.number() as u32, out, 0),
+        Ok(()) => put_vertices(lexicon, page),
+        Err(refusal) => page.put_refusal(refusal),
     }
 }

@@ -1,7 +1,7 @@
 -- The call: it answers as checking does where that refuses, and else by its own rows; then the hits are found. Assumes
 -- nothing.
 use Prim.Native.Nat.{ℕ, ◌*◌, ◌≤◌}
-use mathlib.Core.Path.{◌≡◌, sym, ap, ◌∙◌}
+use mathlib.Core.Path.{◌≡◌, refl, sym, ap, ◌∙◌}
 use mathlib.Core.List.{List, [], ◌∷◌, ◌++◌, append_assoc}
 use native.Mathlib.Omega.{arith}
 use native.Mathlib.Nat.{mul-le-mul}
@@ -22,7 +22,8 @@ use Rattle.graph.specs.Graph.{graph_of, word_count}
 use Rattle.graph.specs.Conditions.{place_count}
 use Rattle.graph.specs.Checking.{Accepted, first_rows, check_answer}
 use Rattle.graph.proofs.Accepted.{Passed, passed, accepted, places-limit}
-use Rattle.checking.specs.Tables.{Vertices}
+use Rattle.checking.specs.declared.Vertex.{Vertex}
+use Rattle.checking.specs.Tables.{Vertices, list_field, paths_field}
 use Rattle.checking.proofs.Tables.{entry}
 use Rattle.checking.proofs.Columns.{column-at}
 use Rattle.decoder.specs.Decoding.{AcceptedFrames, frame_rows, hits, decode_rows}
@@ -52,7 +53,7 @@ part-zeroed m b w ys zs e k h long z =
 -- ---- after checking
 
 -- no row applies, and the work space and the table are as checking leaves them
-pub record Called (v x frames : List ℕ) (n : ℕ) (vertices : List (List ℕ)) (work : List ℕ) : Type 0 where
+pub record Called (v x frames : List ℕ) (n : ℕ) (vertices : List Vertex) (work : List ℕ) : Type 0 where
   pub images : Accepted v x
   pub accepted : AcceptedFrames v frames
   pub one : 1 ≤ n
@@ -78,13 +79,13 @@ module _ (v x work : List ℕ) where
         (refused-before (first_rows v x work) (call_rows v frames n out) (word_count (graph_of x)) _ (sym c ∙ e))
 
     -- past checking, its own rows decide
-    pub call-judged : {W : ℕ} {a : Answer ℕ} → Passed v x work W → a ≡ unless (call_rows v frames n out) 0
+    pub call-judged : {W : ℕ} {a : Answer (Unit {0})} → Passed v x work W → a ≡ unless (call_rows v frames n out) tt
         → search_answer v x frames n work out ≡ a
     unfolding search_answer
     call-judged p c = rw rows_so (unless-past (first_rows v x work) (call_rows v frames n out) _ p.rows) ∙ sym c
 
     -- the hits where it answers a value, and the tokens as they were after a refusal
-    pub found_some : (t : List ℕ) {l : List ℕ} {k : ℕ} → l ≡ held 8 (hits v (graph_of x) frames n)
+    pub found_some : (t : List ℕ) {l : List ℕ} {k : Unit {0}} → l ≡ held 8 (hits v (graph_of x) frames n)
         → search_answer v x frames n work out ≡ value k
         → l ≡ search_tokens v x frames n work out t
     unfolding search_tokens found
@@ -95,13 +96,13 @@ module _ (v x work : List ℕ) where
     unfolding search_tokens found
     found_none e = rw e
 
-    pub call-clear : {W k : ℕ} {t : List (List ℕ)} {b : List ℕ} {a : Answer ℕ} → Passed v x work W → Vertices x t
-        → b ≡ cleared work
-        → a ≡ unless (call_rows v frames n out) 0 → a ≡ value k → Called v x frames n t b
+    pub call-clear : {W : ℕ} {k : Unit {0}} {t : List Vertex} {b : List ℕ} {a : Answer (Unit {0})} → Passed v x work W
+        → Vertices x t → b ≡ cleared work
+        → a ≡ unless (call_rows v frames n out) tt → a ≡ value k → Called v x frames n t b
     unfolding call_rows bad_count
     call-clear {k = k} p o z c e =
         let q = none-parts (frame_rows v frames) (on Count (bad_count n) ∷ on Output (ltb (length out) (8 * n)) ∷ [])
-        (value-passed {A = ℕ} (call_rows v frames n out) 0 k (sym c ∙ e)).0 in
+        (value-passed {A = Unit {0}} (call_rows v frames n out) tt k (sym c ∙ e)).0 in
         let s = none-says (on Count (bad_count n) ∷ on Output (ltb (length out) (8 * n)) ∷ []) q.1 in
         let l = bounds 1 8 n (not-false _ s.0) in
         record {
@@ -116,8 +117,8 @@ module _ (v x work : List ℕ) where
 
 -- ---- the store
 
-module _ {v x frames : List ℕ} {n : ℕ} {t : List (List ℕ)} {w : List ℕ} (c : Called v x frames n t w)
-    {t' : List (List ℕ)} {r : ℕ} (s : SlotsPut v x n t t' r) where
+module _ {v x frames : List ℕ} {n : ℕ} {t : List Vertex} {w : List ℕ} (c : Called v x frames n t w)
+    {t' : List Vertex} {r : ℕ} (s : SlotsPut v x n t t' r) where
   -- it lies in the work space
   pub store_few : 8 * r ≤ 64000
   store_few =
@@ -135,8 +136,8 @@ module _ {v x frames : List ℕ} {n : ℕ} {t : List (List ℕ)} {w : List ℕ} 
     ready = record {
       accepted = c.images;
       rows = s.rows;
-      arcs = λ {u} h. s.arcs u ∙ sym (column-at 0 u t) ∙ entry c.table.tables.located (omega arith);
-      paths = λ {u} h. s.paths u ∙ sym (column-at 1 u t) ∙ entry c.table.tables.counted (omega arith);
+      arcs = λ {u} h. s.arcs u ∙ sym (column-at list_field refl u t) ∙ entry c.table.tables.located (omega arith);
+      paths = λ {u} h. s.paths u ∙ sym (column-at paths_field refl u t) ∙ entry c.table.tables.counted (omega arith);
       first = s.first;
       sink = s.sink;
     };

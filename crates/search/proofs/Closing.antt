@@ -2,7 +2,8 @@
 -- And the list of hits while the tokens of each node's last state are offered to it. Assumes nothing.
 use Prim.Native.Nat.{ℕ, suc, ◌+◌, ◌-◌, ◌*◌, ◌≤◌, ◌<◌}
 use mathlib.Core.Path.{◌≡◌, refl, sym, ap, ◌∙◌}
-use mathlib.Core.Bool.{Bool, true, false, ◌||◌, true≢false}
+use mathlib.Core.Bool.{Bool, true, false, cond, ◌||◌}
+use Rattle.std.proofs.Common.{Some, None}
 use mathlib.Core.List.Memᴰ.{head as here}
 use mathlib.Core.List.{List, [], ◌∷◌, ◌++◌, map, append-nil, Memᴰ}
 use mathlib.Core.List.Memᴰ.{append_right as in_right}
@@ -12,7 +13,7 @@ use borrow.Author.Tests.{ne_eqb}
 use lib.Dec.{eqb}
 use lib.IntN.{pos}
 use Rattle.endian.specs.Bytes.{u16}
-use Rattle.endian.specs.Lists.{sum, has}
+use Rattle.endian.specs.Lists.{has}
 use Rattle.endian.proofs.Integers.{size-sum}
 use Rattle.endian.proofs.Lists.{mem-has}
 use Rattle.endian.proofs.Search.{has-mem}
@@ -21,9 +22,10 @@ use Rattle.lexicon.specs.Lexicon.{node_count, sink_of, successors}
 use Rattle.graph.specs.Graph.{graph_of, sink, path_count, increment}
 use Rattle.graph.proofs.Sound.{Sound}
 use Rattle.graph.proofs.Accepted.{AcceptedImages, accepted, sound-images, words-limit}
-use Rattle.graph.proofs.Codes.{path_count-sink, path_count-below, arc-count}
+use Rattle.graph.proofs.Codes.{arc-count}
+use Rattle.checking.specs.declared.Vertex.{Vertex}
 use Rattle.checking.specs.Tables.{WellFormed}
-use Rattle.checking.proofs.Arcs.{sound_of, ArcNext, arc-next, arcs-done}
+use Rattle.checking.proofs.Arcs.{ArcNext, arc-next, arcs-done}
 use Rattle.checking.proofs.Increments.{CountsPassed, counts_start, split-here, increment-here, counts-below}
 use Rattle.checking.proofs.Increments.{counts-next}
 use Rattle.checking.proofs.Reached.{count_within_words}
@@ -40,7 +42,7 @@ use Rattle.storing.proofs.Lending.{take-slots}
 use Rattle.storing.proofs.Held.{Moves}
 use Rattle.storing.proofs.Kept.{offered-best, offer_ready}
 use Rattle.storing.proofs.PassingOn.{LastPlace, last-place}
-use Rattle.search.specs.Running.{Arcs, LastArc, Ending, Ended}
+use Rattle.search.specs.Running.{Arcs, last_arc, Ending, Ended}
 
 -- ---- the arc to the sink
 
@@ -59,7 +61,7 @@ has_more a (z ∷ l) y h n = go (eqb a z) h (has_more a l y)
     go true e ih = e
     go false e ih = ih e n
 
-module _ {x : List ℕ} {vertices : List (List ℕ)} (a : Arcs x vertices) {w : ℕ} (h : w ≤ node_count x) where
+module _ {x : List ℕ} {vertices : List Vertex} (a : Arcs x vertices) {w : ℕ} (h : w ≤ node_count x) where
   formed : WellFormed x
   formed = a.formed
 
@@ -70,10 +72,6 @@ module _ {x : List ℕ} {vertices : List (List ℕ)} (a : Arcs x vertices) {w : 
   pub count-entry : {s : ℕ} → s ≤ sink_of x → paths_in vertices s ≡ path_count (graph_of x) s
   count-entry {s} l = a.paths l
 
-  pub count-own : paths_in vertices w ≡ path_count (graph_of x) w
-  unfolding sink_of
-  count-own = count-entry (omega arith)
-
   pub ahead-start : EndAhead x w (arcs_in vertices w + 2) (arcs_in vertices w + 2 + 2 * u16 x (arcs_in vertices w)) 0
   unfolding has counts_start
   ahead-start = record { counts = counts_start formed h (a.begin h); none_yet = refl }
@@ -83,16 +81,13 @@ module _ {x : List ℕ} {vertices : List (List ℕ)} (a : Arcs x vertices) {w : 
       pub ahead-arc : ArcNext x w at stop p.counts.later
       ahead-arc = arc-next p.counts.arcs l
 
-      pub ahead-here : u16 x at ≡ sink_of x → LastArc (graph_of x) w total
-      unfolding sink sink_of
+      pub ahead-here : u16 x at ≡ sink_of x → Some total ≡ last_arc (graph_of x) w
+      unfolding sink sink_of last_arc
       ahead-here e =
           let member : Memᴰ (u16 x at) (successors x w) =
           rw (split-here formed h p.counts ahead-arc) (in_right p.counts.earlier (here refl)) in
           let m : Memᴰ (suc (node_count x)) (successors x w) = rw e at member in
-          record {
-            there = λ t. rw e at (increment-here formed h p.counts ahead-arc);
-            none = λ f. absurd (true≢false (sym (mem-has m) ∙ f));
-          }
+          rw (mem-has m) (ap Some (rw e at (increment-here formed h p.counts ahead-arc)))
 
       pub ahead_below : total + path_count (graph_of x) (u16 x at) ≤ path_count (graph_of x) w
       ahead_below = counts-below formed h p.counts ahead-arc
@@ -105,21 +100,17 @@ module _ {x : List ℕ} {vertices : List (List ℕ)} (a : Arcs x vertices) {w : 
         none_yet = has_more (sink_of x) p.counts.earlier (u16 x at) p.none_yet (λ e. n (sym e));
       }
 
-    pub ahead_done : stop ≤ at → LastArc (graph_of x) w total
-    unfolding sink sink_of
+    pub ahead_done : stop ≤ at → None ≡ last_arc (graph_of x) w
+    unfolding sink sink_of last_arc
     ahead_done l =
         let e : successors x w ≡ p.counts.earlier =
         p.counts.split ∙ rw (arcs-done p.counts.arcs l) (append-nil p.counts.earlier) in
         let f : has (suc (node_count x)) (successors x w) ≡ false = rw e p.none_yet in
-        record {
-          there = λ t. absurd (true≢false (sym t ∙ f));
-          none = λ f. p.counts.total_is ∙ ap (λ l. sum (map (path_count (graph_of x)) l)) (sym e)
-              ∙ sym (path_count-below (sound_of formed) below);
-        }
+        rw f refl
 
 -- ---- a node's arcs
 
-module _ {v x : List ℕ} {n : ℕ} {vertices : List (List ℕ)} (r : VertexTable v x n vertices) where
+module _ {v x : List ℕ} {n : ℕ} {vertices : List Vertex} (r : VertexTable v x n vertices) where
   pub images : AcceptedImages v x
   images = accepted r.accepted
 
@@ -146,7 +137,7 @@ pub level-down : (d : ℕ) → down_of d ≡ lift + d
 unfolding down_of
 level-down d = omega arith
 
-module _ {x : List ℕ} {n : ℕ} {vertices : List (List ℕ)} {w : ℕ} {b list : List ℕ}
+module _ {x : List ℕ} {n : ℕ} {vertices : List Vertex} {w : ℕ} {b list : List ℕ}
     (e : Ending x n vertices w b list) where
   abbrev v : List ℕ
   v = e.v
@@ -164,30 +155,23 @@ module _ {x : List ℕ} {n : ℕ} {vertices : List (List ℕ)} {w : ℕ} {b list
   abbrev last-tokens : List Hit
   last-tokens = e.P w (last_state v (graph_of x) w)
 
-  own : paths_in vertices w ≡ path_count (graph_of x) w
-  own = count-own (arcs-of e.ready) e.high
-
-  pub end_none : {d : ℕ} → LastArc (graph_of x) w d → d ≡ paths_in vertices w → has (sink (graph_of x)) (successors x w)
-      ≡ false
-  end_none {d} a q = go (has (sink (graph_of x)) (successors x w)) refl
+  pub end_none : None ≡ last_arc (graph_of x) w → has (sink (graph_of x)) (successors x w) ≡ false
+  unfolding last_arc
+  end_none a = go (has (sink (graph_of x)) (successors x w)) a
     where
-      go : (t : Bool) → has (sink (graph_of x)) (successors x w) ≡ t → has (sink (graph_of x)) (successors x w) ≡ false
-      go false p = p
-      go true p = absurd (omega (
-        arith,
-        a.there p,
-        own,
-        arc-count graph-ok under (has-mem (successors x w) p),
-        path_count-sink graph-ok,
-      ))
+      go : (t : Bool) → None ≡ cond t (Some (increment (graph_of x) w (sink (graph_of x)))) None → t ≡ false
+      go false p = refl
+      go true p = cc
 
-  pub end-there : {d : ℕ} → LastArc (graph_of x) w d → ¬ (d ≡ paths_in vertices w)
-      → has (sink (graph_of x)) (successors x w) ≡ true
-  end-there {d} a q = go (has (sink (graph_of x)) (successors x w)) refl
+  pub end-there : {d : ℕ} → Some d ≡ last_arc (graph_of x) w
+      → (has (sink (graph_of x)) (successors x w) ≡ true) × (d ≡ increment (graph_of x) w (sink (graph_of x)))
+  unfolding last_arc
+  end-there {d} a = go (has (sink (graph_of x)) (successors x w)) a
     where
-      go : (t : Bool) → has (sink (graph_of x)) (successors x w) ≡ t → has (sink (graph_of x)) (successors x w) ≡ true
-      go true p = p
-      go false p = absurd (q (a.none p ∙ sym own))
+      go : (t : Bool) → Some d ≡ cond t (Some (increment (graph_of x) w (sink (graph_of x)))) None
+          → (t ≡ true) × (d ≡ increment (graph_of x) w (sink (graph_of x)))
+      go true p = (refl, cc)
+      go false p = cc
 
   pub end-nothing : has (sink (graph_of x)) (successors x w) ≡ false → Ended e list
   unfolding ending

@@ -1,4 +1,5 @@
 pub mod Told
+pub mod Listed
 pub mod Sums
 pub mod Running
 pub mod Closing

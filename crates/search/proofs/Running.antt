@@ -24,6 +24,7 @@ use Rattle.lexicon.specs.Lexicon.{node_count}
 use Rattle.graph.specs.Graph.{graph_of, sink, word_count}
 use Rattle.graph.proofs.Sound.{Sound, sound}
 use Rattle.graph.proofs.Accepted.{accepted}
+use Rattle.checking.specs.declared.Vertex.{Vertex}
 use Rattle.ranking.specs.Hits.{Hit, hit}
 use Rattle.decoder.specs.Score.{bias, frame_limit, raised, number_of, possible}
 use Rattle.decoder.specs.Decoding.{AcceptedFrames, frame_rows}
@@ -32,8 +33,10 @@ use Rattle.passing.specs.Tokens.{Store, best_tokens, tokens, initial_score}
 use Rattle.passing.specs.InPlace.{pass_node, pass_down, pass_root}
 use Rattle.passing.proofs.InPlace.{first_frame, next_frame}
 use Rattle.passing.proofs.Bounds.{token_bounded}
+use Rattle.storing.specs.declared.Moves.{Moves}
+use Rattle.storing.specs.declared.Letter.{Letter}
 use Rattle.storing.specs.Slots.{slots}
-use Rattle.storing.specs.Gains.{LinkTable, RowsRoom, Gained, MoveGains, KnownSymbol}
+use Rattle.storing.specs.Gains.{LinkTable, GainsRoom, Gained, MoveGains, KnownSymbol}
 use Rattle.storing.specs.Places.{NodesRead, EmissionsPut}
 use Rattle.storing.specs.Stored.{VertexTable, NodeEmissions, StoreRoom, Bound, Stored, Within, source, PassingOn}
 use Rattle.storing.specs.Stored.{passed_on, PassedOn, Turn, turned, TurnDone}
@@ -82,7 +85,7 @@ module _ (v frames : List ℕ) (h : AcceptedFrames v frames) where
       go (y ∷ l) e (suc i) k = go l (or-none (leb (symbol_count v) y) (any (λ k. leb (symbol_count v) k) l) e).1 i
           (omega arith)
 
-module _ {v x frames : List ℕ} {n : ℕ} {vertices : List (List ℕ)} {b : List ℕ} (r : Run v x frames n vertices b) where
+module _ {v x frames : List ℕ} {n : ℕ} {vertices : List Vertex} {b : List ℕ} (r : Run v x frames n vertices b) where
   pub sound-run : Sound (graph_of x)
   sound-run = sound (letter_count v) x (accepted r.ready.accepted).lexicon
 
@@ -150,7 +153,7 @@ pub record TurnsLeft (v x frames : List ℕ) (n t m : ℕ) (b₀ b : List ℕ) :
   pub low : m ≤ node_count x
   pub long : length b ≡ length b₀
 
-module _ {v x frames : List ℕ} {n : ℕ} {vertices : List (List ℕ)} {b₀ : List ℕ} (r : Run v x frames n vertices b₀)
+module _ {v x frames : List ℕ} {n : ℕ} {vertices : List Vertex} {b₀ : List ℕ} (r : Run v x frames n vertices b₀)
     (t : ℕ) where
   pub turns-start : {m : ℕ} → m ≡ node_count x → StoredAt v x frames n t b₀ → TurnsLeft v x frames n t m b₀ b₀
   unfolding sink
@@ -175,7 +178,7 @@ module _ {v x frames : List ℕ} {n : ℕ} {vertices : List (List ℕ)} {b₀ : 
   one-turn zero Q h = absurd (omega arith)
   one-turn (suc m) Q h = let e : suc m - 1 ≡ m = omega arith in rw e
 
-  module _ (h : suc t < length frames) {gains : List (List ℕ)} (moves : MoveGains v x (get_or frames (suc t) 0) gains)
+  module _ (h : suc t < length frames) {gains : List Moves} (moves : MoveGains v x (get_or frames (suc t) 0) gains)
       (emissions : NodeEmissions v x (get_or frames (suc t) 0) vertices) {links : List ℕ}
       (linked : LinkTable v (letter_count v) links) {m : ℕ} {b : List ℕ} (k : 1 ≤ m)
       (d : TurnsLeft v x frames n t m b₀ b) where
@@ -220,7 +223,7 @@ module _ {v x frames : List ℕ} {n : ℕ} {vertices : List (List ℕ)} {b₀ : 
 
 -- ---- one frame
 
-module _ {v x : List ℕ} {t n nodes : ℕ} {vertices gains : List (List ℕ)} {links b₀ : List ℕ}
+module _ {v x : List ℕ} {t n nodes : ℕ} {vertices : List Vertex} {gains : List Moves} {links b₀ : List ℕ}
     (f : Frame v x t n nodes vertices gains links b₀) where
   -- the first: the root's token enters
   module _ (z : t ≡ 0) where
@@ -265,21 +268,22 @@ module _ {v x : List ℕ} {t n nodes : ℕ} {vertices gains : List (List ℕ)} {
 
 -- ---- all frames
 
-pub run_with : {v x frames : List ℕ} {n : ℕ} {vertices vertices' : List (List ℕ)} {b b' : List ℕ}
+pub run_with : {v x frames : List ℕ} {n : ℕ} {vertices vertices' : List Vertex} {b b' : List ℕ}
     → VertexTable v x n vertices' → length b' ≡ length b → Run v x frames n vertices b → Run v x frames n vertices' b'
 run_with t e r = record { ready = t; roomy = roomy-same e r.roomy; accepted = r.accepted }
 
 -- after the first t frames: what the places hold and the tables of the last of them, or an empty store
-pub record FramesDone (v x frames : List ℕ) (t : ℕ) (c : Numbers) (letters gains vertices : List (List ℕ))
-    (b : List ℕ) : Type 0 where
+pub record FramesDone (v x frames : List ℕ) (t : ℕ) (c : Numbers) (letters : List Letter) (gains : List Moves)
+    (vertices : List Vertex) (b : List ℕ) : Type 0 where
   pub table : VertexTable v x c.n vertices
-  pub room : RowsRoom 8 gains
+  pub room : GainsRoom gains
   pub empty : t ≡ 0 → Empty b
   pub stored : 0 < t → StoredAt v x frames c.n (t - 1) b
   pub tables : 0 < t → FrameTables v x (get_or frames (t - 1) 0) c letters gains vertices
 
-module _ {v x frames : List ℕ} {c : Numbers} {letters gains vertices : List (List ℕ)} {b : List ℕ} where
-  pub frames-start : VertexTable v x c.n vertices → RowsRoom 8 gains → Empty b
+module _ {v x frames : List ℕ} {c : Numbers} {letters : List Letter} {gains : List Moves}
+    {vertices : List Vertex} {b : List ℕ} where
+  pub frames-start : VertexTable v x c.n vertices → GainsRoom gains → Empty b
       → FramesDone v x frames 0 c letters gains vertices b
   frames-start t r e = record {
     table = t;
@@ -290,8 +294,8 @@ module _ {v x frames : List ℕ} {c : Numbers} {letters gains vertices : List (L
   }
 
   -- the next one, once its tables are made
-  unfoldable pub frame_of : {t : ℕ} {gains' vertices' : List (List ℕ)} {links : List ℕ} → AcceptedFrames v frames
-      → StoreRoom v x c.n b → t < length frames → CallNumbers v x c letters → LinkTable v (letter_count v) links
+  unfoldable pub frame_of : {t : ℕ} {gains' : List Moves} {vertices' : List Vertex} {links : List ℕ}
+      → AcceptedFrames v frames → StoreRoom v x c.n b → t < length frames → CallNumbers v x c letters → LinkTable v (letter_count v) links
       → FramesDone v x frames t c letters gains vertices b → FrameTables v x (get_or frames t 0) c letters gains'
       vertices'
       → Frame v x t c.n c.nodes vertices' gains' links b
@@ -326,12 +330,13 @@ module _ {v x frames : List ℕ} {c : Numbers} {letters gains vertices : List (L
       rw e (d.stored (omega (arith, frame_count v frames a)))
 
 -- what is read for the emissions
-pub nodes-read : {v x : List ℕ} {c : Numbers} {letters vertices : List (List ℕ)} → CallNumbers v x c letters
-    → VertexTable v x c.n vertices → NodesRead x c.nodes
+pub nodes-read : {v x : List ℕ} {c : Numbers} {letters : List Letter} {vertices : List Vertex}
+    → CallNumbers v x c letters → VertexTable v x c.n vertices → NodesRead x c.nodes
 nodes-read c t = record { formed = lexicon-formed t; all = c.nodes; letter = letter-few t }
 
 -- the tables of a frame, once its emissions are put
-pub tables-put : {v x : List ℕ} {k : ℕ} {c : Numbers} {letters gains vertices vertices' : List (List ℕ)}
+pub tables-put : {v x : List ℕ} {k : ℕ} {c : Numbers} {letters : List Letter} {gains : List Moves}
+    {vertices vertices' : List Vertex}
     → CallNumbers v x c letters → VertexTable v x c.n vertices → Gained v k letters c.used gains
     → EmissionsPut x gains vertices vertices' → FrameTables v x k c letters gains vertices'
 tables-put c t g p = record {

@@ -25,12 +25,6 @@ bytes-before x c {k} h e =
     let b : c ≤ c = omega arith in
     omega (arith, mul-le-mul {n₂ = k} {m₂ = c} a b, leb-true (k * c) 65536 e)
 
-pub next_fits : {i n : ℕ} → i < n → Fits w64 n → Fits w64 (i + 1)
-next_fits h f = omega arith
-
-pub next_less : {i n : ℕ} → i < n → n - (i + 1) < n - i
-next_less h = omega arith
-
 -- the next entry of a list of arcs
 pub arc-fits : (at : ℕ) {stop : ℕ} → at + 2 ≤ stop → stop ≤ 9204 → Fits w64 (at + 2)
 arc-fits at h f = omega arith
@@ -38,15 +32,12 @@ arc-fits at h f = omega arith
 pub arc_less : {at stop : ℕ} → at < stop → stop - (at + 2) < stop - at
 arc_less h = omega arith
 
--- a list of k arcs at an offset of the image: where it begins, what follows its count, the count, its bytes, its end
+-- a list of k arcs at an offset of the image: where it begins, what follows its count, its bytes, its end
 pub list-fits : (at k : ℕ) → at + 2 + 2 * k ≤ 9204 → Fits w64 at
 list-fits at k h = omega arith
 
 pub arcs_fit : (at k : ℕ) → at + 2 + 2 * k ≤ 9204 → Fits w64 (at + 2)
 arcs_fit at k h = omega arith
-
-pub count_fits : (at k : ℕ) → at + 2 + 2 * k ≤ 9204 → Fits w64 k
-count_fits at k h = omega arith
 
 pub bytes_fit : (at k : ℕ) → at + 2 + 2 * k ≤ 9204 → Fits w64 (2 * k)
 bytes_fit at k h = omega arith
@@ -82,13 +73,6 @@ counts_fit total e h f = omega arith
 pub code_fits : (increment p : ℕ) → increment + p < 4294967296 → Fits w32 (increment + p)
 code_fits increment p h = omega arith
 
--- a row of gains has eight entries: four of loops, then that of the first state, which is entered, and three of steps
-pub low-entry : {s : ℕ} → s < 4 → 0 + s < 8
-low-entry h = omega arith
-
-pub high-entry : {s : ℕ} → s < 4 → 4 + s < 8
-high-entry h = omega arith
-
 -- a place's bytes end within 64 bits, and so do its first slot, its first byte and its length
 pub slot-fits : (k n : ℕ) → Fits w64 (8 * k + 8 * n) → Fits w64 k
 slot-fits k n f = omega arith
@@ -103,10 +87,6 @@ size_fits k n f = omega arith
 pub room-kept : (n : ℕ) {old long : ℕ} → 8 * 0 + 8 * n ≤ old → long ≡ old → 8 * n ≤ long
 room-kept n h e = omega arith
 
--- the last slot of a place
-pub last-there : (k : ℕ) {n long : ℕ} → 0 < n → 8 * k + 8 * n ≤ long → 8 * (k + n - 1) + 8 ≤ long
-last-there k h f = omega arith
-
 -- an order of equal numbers
 pub less_by : {a b c d : ℕ} → a ≡ c → b ≡ d → a < b → c < d
 less_by e f h = omega arith
@@ -120,9 +100,6 @@ letter-fits l h = omega arith
 
 pub letter-within : {l : ℕ} → l < 64 → l ≤ 64
 letter-within h = omega arith
-
-pub state-fits : {s : ℕ} → s < 4 → Fits w64 (s + 1)
-state-fits h = omega arith
 
 -- an offset before a length that fits, and one of two bytes there
 pub below-fits : (x : ℕ) {long : ℕ} → x < long → Fits w64 long → Fits w64 x

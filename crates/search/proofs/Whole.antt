@@ -12,6 +12,7 @@ use Rattle.endian.specs.Bytes.{u16, u32}
 use Rattle.endian.proofs.Lists.{get_d_copies}
 use Rattle.lexicon.specs.Lexicon.{node_count}
 use Rattle.graph.specs.Graph.{graph_of}
+use Rattle.checking.specs.declared.Vertex.{Vertex}
 use Rattle.ranking.specs.Hits.{Hit}
 use Rattle.decoder.specs.Score.{reach}
 use Rattle.decoder.specs.Decoding.{row, hits}
@@ -56,7 +57,7 @@ ends-start v x frames n m e = rw e (record {
   long = refl;
 })
 
-module _ {v x frames : List ℕ} {n : ℕ} {vertices : List (List ℕ)} {b : List ℕ} (r : Run v x frames n vertices b)
+module _ {v x frames : List ℕ} {n : ℕ} {vertices : List Vertex} {b : List ℕ} (r : Run v x frames n vertices b)
     (h : StoredAt v x frames n (length frames - 1) b) where
   pub last-bound : {u s : ℕ} {i : Hit} → Place v (graph_of x) u s
       → Memᴰ i (tokens v (graph_of x) frames n (length frames - 1) u s)

@@ -8,12 +8,12 @@ use Rattle.ranking.specs.Hits.{Hit}
 use Rattle.decoder.specs.Decoding.{hits, decode_rows}
 use Rattle.storing.specs.Held.{held}
 
--- 0, or the first refusal that applies to decoding
-unfoldable pub search_answer : List ℕ → List ℕ → List ℕ → ℕ → List ℕ → List ℕ → Answer ℕ
-search_answer v x frames n work out = unless (decode_rows v x frames n work out) 0
+-- nothing, or the first refusal that applies to decoding
+unfoldable pub search_answer : List ℕ → List ℕ → List ℕ → ℕ → List ℕ → List ℕ → Answer (Unit {0})
+search_answer v x frames n work out = unless (decode_rows v x frames n work out) tt
 
 -- the hits, best first, in eight slots, with no token after them; after a refusal the tokens t as they were
-unfoldable pub found : Answer ℕ → List Hit → List ℕ → List ℕ
+unfoldable pub found : Answer (Unit {0}) → List Hit → List ℕ → List ℕ
 found (value _) l t = held 8 l
 found (refused _) l t = t
 

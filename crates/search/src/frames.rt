@@ -1,14 +1,16 @@
 // Frame by frame: the root's token enters at the first, and at each later one every node takes its turn, from the last
 // to the first. A contract that begins with ((f : ..) → ..) speaks of what is known before the call by the record f.
 ghost use Rattle.std.specs.Prelude.{◌-◌, ◌<◌, length, get_or};
-ghost use Rattle.storing.specs.Gains.{RowsRoom, KnownSymbol};
+ghost use Rattle.storing.specs.Gains.{GainsRoom, KnownSymbol};
 ghost use Rattle.storing.specs.Stored.{VertexTable};
 ghost use Rattle.search.specs.Running.{Empty, Run, StoredAt, CallNumbers, FrameTables, Frame};
 
 use crate::gains::{frame_gains, put_emissions};
 use crate::letters::{letter_table, link_table, symbols_at};
 use crate::turns::{enter_nodes, take_turn};
+use checking::Vertex;
 use endian::u16_at;
+use storing::{Letter, Moves};
 
 // The numbers of a call: hits wanted, nodes, the offset of the section Symbols, and letters in use.
 #[derive(Clone, Copy)]
@@ -27,13 +29,13 @@ fn frame_tables(
     frames: &[u8],
     t: usize,
     numbers: Numbers,
-    letters: &[[u32; 10]; 64],
-    gains: &mut [[u32; 8]; 64],
-    vertices: &mut [[u32; 4]; 402],
+    letters: &[Letter; 64],
+    gains: &mut [Moves; 64],
+    vertices: &mut [Vertex; 402],
 )
     requires t_in_bounds { (t < length frames.now) × KnownSymbol voice.now (get_or frames.now t 0) }
     requires call_numbers { CallNumbers voice.now lexicon.now numbers letters.now }
-    requires vertex_table { VertexTable voice.now lexicon.now numbers.n vertices.old × RowsRoom 8 gains.old
+    requires vertex_table { VertexTable voice.now lexicon.now numbers.n vertices.old × GainsRoom gains.old
         × (0 < t → FrameTables voice.now lexicon.now (get_or frames.now (t - 1) 0) numbers letters.now gains.old
         vertices.old) }
     ensures { FrameTables voice.now lexicon.now (get_or frames.now t 0) numbers
@@ -63,8 +65,8 @@ fn frame(
     lexicon: &[u8],
     t: usize,
     numbers: Numbers,
-    vertices: &[[u32; 4]; 402],
-    gains: &[[u32; 8]; 64],
+    vertices: &[Vertex; 402],
+    gains: &[Moves; 64],
     links: &[u32; 64],
     store: &mut [u8],
 )
@@ -79,10 +81,8 @@ fn frame(
         enter_nodes(lexicon, n, vertices, store);
         return;
     }
-    let mut node = numbers.nodes;
-    while 0 < node {
+    for node in (1..=numbers.nodes).rev() {
         take_turn(voice, lexicon, n, vertices, gains, links, node, store);
-        node -= 1;
     }
 }
 
@@ -92,7 +92,7 @@ pub(crate) fn all_frames(
     lexicon: &[u8],
     frames: &[u8],
     n: usize,
-    vertices: &mut [[u32; 4]; 402],
+    vertices: &mut [Vertex; 402],
     store: &mut [u8],
 )
     requires run { Run voice.now lexicon.now frames.now n vertices.old store.old }
@@ -101,23 +101,21 @@ pub(crate) fn all_frames(
         (length frames.now - 1) store.new }
     ensures vertex_table { VertexTable voice.now lexicon.now n vertices.new }
 {
-    let mut letters = [[0u32; 10]; 64];
+    let mut letters = [Letter::BLANK; 64];
     let used = letter_table(voice, lexicon, &mut letters);
     let links = link_table(voice);
     let nodes = u16_at(lexicon, 0) as usize;
     let numbers = Numbers {
-        n: n,
-        nodes: nodes,
+        n,
+        nodes,
         symbols: symbols_at(voice),
-        used: used,
+        used,
     };
-    let mut gains = [[0u32; 8]; 64];
-    let mut t = 0;
-    while t < frames.len() {
+    let mut gains = [Moves::BLANK; 64];
+    for t in 0..frames.len() {
         frame_tables(
             voice, lexicon, frames, t, numbers, &letters, &mut gains, vertices,
         );
         frame(voice, lexicon, t, numbers, vertices, &gains, &links, store);
-        t += 1;
     }
 }

@@ -8,7 +8,7 @@ ghost use Rattle.voice.specs.Voice.{voice_verdict};
 ghost use Rattle.search.specs.Calling.{call_rows};
 
 use crate::letters::symbols_at;
-use call::{Answer, Refusal, inside};
+use call::{Refusal, inside};
 use ranking::FRAMES;
 
 // The most frames of a call (row 11).
@@ -25,29 +25,22 @@ fn has_bad_frames(symbols: u8, frames: &[u8]) -> bool
     if !inside(frames.len(), 1, LONGEST) {
         return true;
     }
-    let mut i = 0;
-    while i < frames.len() {
-        if symbols <= frames[i] {
-            return true;
-        }
-        i += 1;
-    }
-    false
+    frames.iter().any(|symbol| symbols <= *symbol)
 }
 
-// The first row that applies, or 0.
-pub(crate) fn judge_call(voice: &[u8], frames: &[u8], n: u32, out: &[u8]) -> Answer
+// The first row that applies, if one does.
+pub(crate) fn judge_call(voice: &[u8], frames: &[u8], n: u32, out: &[u8]) -> Result<(), Refusal>
     requires { voice_verdict voice.now ≡ well_formed }
-    ensures { answer_of result ≡ unless (call_rows voice.now frames.now n out.now) 0 }
+    ensures { answer_of result ≡ unless (call_rows voice.now frames.now n out.now) tt }
 {
     if has_bad_frames(voice[symbols_at(voice)], frames) {
-        return Answer::Refused(Refusal::Frames);
+        return Err(Refusal::Frames);
     }
     if !inside(n as usize, 1, HITS) {
-        return Answer::Refused(Refusal::Count);
+        return Err(Refusal::Count);
     }
     if out.len() < 8 * (n as usize) {
-        return Answer::Refused(Refusal::Output);
+        return Err(Refusal::Output);
     }
-    Answer::Value(0)
+    Ok(())
 }

@@ -10,21 +10,14 @@ ghost use Rattle.voice.specs.Voice.{voice_verdict};
 ghost use Rattle.lexicon.specs.Lexicon.{node_count, lexicon_verdict};
 ghost use Rattle.checking.specs.Tables.{WellFormed, FewLetters};
 ghost use Rattle.storing.specs.Gains.{letter_pairs, pair_score, StoredPairs, LettersMarked, AtLetter, LetterRow};
-ghost use Rattle.storing.specs.Gains.{RowsRoom, LinkTable, NodeLetters, StatePut, letter_in};
+ghost use Rattle.storing.specs.Gains.{StatesRoom, LettersRoom, LinkTable, NodeLetters, StatePut, letter_in};
 
 use decoder::score::{STORED_IMPOSSIBLE, Score};
 use endian::{i16_of, u16_at};
+use storing::{Letter, Moves};
 
-// Columns: of the loop of state s, LOOP + s; of the step into it, STEP + s; then the letter's index and first state.
-pub(crate) const LOOP: usize = 0;
-
-pub(crate) const STEP: usize = 4;
-
-pub(crate) const INDEX: usize = 8;
-
-pub(crate) const FIRST_STATE: usize = 9;
-
-// The score of a state's loop (0) or of the step out of it (1), from its letter's pairs.
+// The score of a state's loop (0) or of the step out of it (1), from its letter's pairs: a place in a pair, as the
+// pairs are arrays, and no kind.
 fn move_score(pairs: [[i16; 2]; 4], state: usize, which: usize) -> Score
     requires state_bound { (state < 4) × (which < 2) }
     requires stored_pairs { StoredPairs pairs }
@@ -105,11 +98,9 @@ pub(crate) fn link_table(voice: &[u8]) -> [u32; 64]
     let mut links = [0; 64];
     let at = links_at(voice);
     let letters = voice[0] as usize;
-    let mut letter = 0;
-    while letter < letters {
+    for letter in 0..letters {
         let link = Score::from_stored(link_score(voice, at, letter));
         links[letter] = link.0;
-        letter += 1;
     }
     links
 }
@@ -121,53 +112,48 @@ fn mark_letters(lexicon: &[u8], marks: &mut [bool; 64])
     ensures { LettersMarked lexicon.now (node_count lexicon.now) marks.new }
 {
     let nodes = u16_at(lexicon, 0) as usize;
-    let mut node = 0;
-    while node < nodes {
-        // of node + 1: nodes have the numbers from 1 on
-        let letter = lexicon[2 + node] as usize;
-        marks[letter] = true;
-        node += 1;
+    // of node 1, which is the first, and of those after it
+    for letter in &lexicon[2..2 + nodes] {
+        marks[*letter as usize] = true;
     }
 }
 
 // Puts one state's scores: of its loop, and of the step from the state before it.
-fn state_scores(pairs: [[i16; 2]; 4], s: usize, row: &mut [u32; 10])
-    requires s_bound { (s < 4) × (8 ≤ length row.old) }
+fn state_scores(pairs: [[i16; 2]; 4], s: usize, row: &mut Moves)
+    requires s_bound { (s < 4) × StatesRoom row.old }
     requires stored_pairs { StoredPairs pairs }
     ensures { StatePut row.old s (pair_score pairs s 0) (pair_score pairs (s - 1) 1)
         row.new }
 {
     let stay = move_score(pairs, s, 0);
-    row[LOOP + s] = stay.0;
+    row.loops[s] = stay.0;
     if 0 < s {
         let step = move_score(pairs, s - 1, 1);
-        row[STEP + s] = step.0;
+        row.steps[s] = step.0;
     }
 }
 
 // Puts the row of one letter, whose states begin with number `first`. It is made in its place, since a row that is
 // returned would be copied. What the row holds for states that the letter does not have is never read.
-fn letter_row(voice: &[u8], letter: usize, first: u16, row: &mut [u32; 10])
-    requires { AtLetter voice.now letter first × (10 ≤ length row.old) }
+fn letter_row(voice: &[u8], letter: usize, first: u16, row: &mut Letter)
+    requires { AtLetter voice.now letter first × StatesRoom row.old.moves }
     ensures { LetterRow voice.now row.new × (letter_in row.new ≡ letter) }
 {
     let states = voice[2 + 2 * letter] as usize;
     let pairs = letter_pairs(voice, first as usize, states);
-    row[INDEX] = letter as u32;
-    row[FIRST_STATE] = first as u32;
-    let mut s = 0;
-    while s < states {
-        state_scores(pairs, s, row);
-        s += 1;
+    row.index = letter as u32;
+    row.first_state = first as u32;
+    for s in 0..states {
+        state_scores(pairs, s, &mut row.moves);
     }
 }
 
 // Fills the table with the letters in use, in rising order; answers how many.
-pub(crate) fn letter_table(voice: &[u8], lexicon: &[u8], letters: &mut [[u32; 10]; 64]) -> usize
+pub(crate) fn letter_table(voice: &[u8], lexicon: &[u8], letters: &mut [Letter; 64]) -> usize
     requires voice_value { (voice_verdict voice.now ≡ well_formed)
         × (lexicon_verdict (letter_count voice.now) lexicon.now
         ≡ well_formed) }
-    requires rows_room { RowsRoom 10 letters.old }
+    requires rows_room { LettersRoom letters.old }
     ensures { NodeLetters voice.now lexicon.now result letters.new }
 {
     let mut marks = [false; 64];
@@ -175,14 +161,12 @@ pub(crate) fn letter_table(voice: &[u8], lexicon: &[u8], letters: &mut [[u32; 10
     let count = voice[0] as usize;
     let mut used = 0;
     let mut first: u16 = 0;
-    let mut letter = 0;
-    while letter < count {
+    for letter in 0..count {
         if marks[letter] {
             letter_row(voice, letter, first, &mut letters[used]);
             used += 1;
         }
         first += voice[2 + 2 * letter] as u16;
-        letter += 1;
     }
     used
 }

@@ -5,7 +5,7 @@ ghost use Rattle.voice.specs.Voice.{letter_count, voice_verdict};
 ghost use Rattle.lexicon.specs.Lexicon.{lexicon_verdict};
 ghost use Rattle.storing.specs.Places.{VertexRows, SlotsPut};
 
-use checking::{EMISSION, FIRST_SLOT};
+use checking::Vertex;
 use decoder::score::Score;
 use endian::u16_at;
 
@@ -16,7 +16,7 @@ pub(crate) fn find_slots(
     voice: &[u8],
     lexicon: &[u8],
     n: usize,
-    vertices: &mut [[u32; 4]; 402],
+    vertices: &mut [Vertex; 402],
 ) -> usize
     requires voice_value { (voice_verdict voice.now ≡ well_formed)
         × (lexicon_verdict (letter_count voice.now) lexicon.now ≡ well_formed) }
@@ -24,18 +24,16 @@ pub(crate) fn find_slots(
     ensures { SlotsPut voice.now lexicon.now n vertices.old
         vertices.new result }
 {
-    let nodes = u16_at(lexicon, 0) as usize;
+    let sink = u16_at(lexicon, 0) as usize + 1;
     let mut slot = 0;
-    let mut node = 1;
-    while node <= nodes {
+    for node in 1..sink {
         let letter = lexicon[1 + node] as usize;
-        vertices[node][FIRST_SLOT] = slot as u32;
+        vertices[node].first_slot = slot as u32;
         slot += n * (voice[2 + 2 * letter] as usize);
-        node += 1;
     }
-    vertices[node][FIRST_SLOT] = slot as u32;
+    vertices[sink].first_slot = slot as u32;
     // so that no token is passed on to it
     let none = Score::IMPOSSIBLE;
-    vertices[node][EMISSION] = none.0;
+    vertices[sink].emission = none.0;
     slot
 }

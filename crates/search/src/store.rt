@@ -1,33 +1,34 @@
 // The list of a place: n slots, the best token first, with no token after the last. A part of the store is lent for it.
-ghost use Rattle.std.specs.Prelude.{◌≡◌, ◌++◌, ◌+◌, ◌-◌, ◌*◌, ◌≤◌, length, replicate};
+ghost use Rattle.std.specs.Prelude.{◌≡◌, ◌++◌, ◌+◌, ◌-◌, ◌*◌, ◌≤◌, ◌<◌, length, replicate, MatchOption};
 ghost use Rattle.decoder.specs.Token.{code_part};
 ghost use Rattle.storing.specs.Slots.{slots, position, push, enter, offered, shifted, PlaceRoom, Movable, Falling};
-ghost use Rattle.storing.specs.Slots.{Offer};
+ghost use Rattle.storing.specs.Slots.{Offer, Changed};
 
 use crate::tokens::{moved, put_token, token_at};
 use decoder::token::Token;
 
-// A candidate enters a list at the first position whose token it outranks; n: nowhere, since none is outranked, or one
-// of its code stands before.
-fn position(part: &[u8], n: usize, token: Token) -> usize
+// A candidate enters a list at the first position whose token it outranks; nowhere if none is outranked, or one of its
+// code stands before.
+fn position(part: &[u8], n: usize, token: Token) -> Option<usize>
     requires { 8 * n ≤ length part.now }
-    ensures { result ≡ position token.0 (slots n 0 part.now) }
+    ensures { MatchOption result (position token.0 (slots n 0 part.now) ≡ n) (λ k. (k < n)
+        × (position token.0 (slots n 0 part.now) ≡ k)) }
 {
     let mut k = 0;
-    let at = loop {
+    // a loop that breaks with the position: a form that docs/SPECIFICATION.md names
+    loop {
         if k == n {
-            break n;
+            break None;
         }
         let held = token_at(part, k);
         if token.outranks(held) {
-            break k;
+            break Some(k);
         }
         if held.has_code_of(token) {
-            break n;
+            break None;
         }
         k += 1;
-    };
-    at
+    }
 }
 
 // Puts a token into a slot and carries those from there on down by one, up to one of its code or an empty slot; the
@@ -37,9 +38,8 @@ fn push_down(part: &mut [u8], n: usize, from: usize, token: Token)
     ensures { slots n 0 part.new ≡ slots from 0 part.old ++ push token.0
         (code_part token.0) (slots (n - from) from part.old) }
 {
-    let mut at = from;
     let mut carry = token;
-    while at < n {
+    for at in from..n {
         let next = token_at(part, at);
         put_token(part, at, carry);
         if next.is_none() {
@@ -49,7 +49,6 @@ fn push_down(part: &mut [u8], n: usize, from: usize, token: Token)
             return;
         }
         carry = next;
-        at += 1;
     }
 }
 
@@ -58,8 +57,9 @@ pub(crate) fn insert(part: &mut [u8], n: usize, token: Token)
     requires { 8 * n ≤ length part.old }
     ensures { slots n 0 part.new ≡ enter token.0 (slots n 0 part.old) }
 {
-    let at = position(part, n, token);
-    push_down(part, n, at, token);
+    if let Some(at) = position(part, n, token) {
+        push_down(part, n, at, token);
+    }
 }
 
 // The tokens of a place of the store, moved, are candidates for a list, the best first. Once the last of n outranks
@@ -69,8 +69,7 @@ pub(crate) fn offer(list: &mut [u8], n: usize, store: &[u8], from: usize, up: u6
     ensures { slots n 0 list.new ≡ offered up down (slots n from store.now)
         (slots n 0 list.old) }
 {
-    let mut i = 0;
-    while i < n {
+    for i in 0..n {
         let token = token_at(store, from + i);
         if token.is_none() {
             return;
@@ -81,8 +80,17 @@ pub(crate) fn offer(list: &mut [u8], n: usize, store: &[u8], from: usize, up: u6
             return;
         }
         insert(list, n, candidate);
-        i += 1;
     }
+}
+
+// The tokens of an earlier place of the store, moved, are candidates for the place that begins with slot `slot`. They
+// need no copy, since only this place changes.
+pub(crate) fn offer_from(store: &mut [u8], n: usize, from: usize, slot: usize, up: u64, down: u64)
+    requires { (from + n ≤ slot) × Offer n slot up down (slots n from store.old) store.old }
+    ensures { Changed slot n (offered up down (slots n from store.old) (slots n slot store.old)) store.old store.new }
+{
+    let (before, rest) = store.split_at_mut(8 * slot);
+    offer(&mut rest[..8 * n], n, before, from, up, down);
 }
 
 // All tokens of a place move alike, as in a loop, so that they stay in their order.
@@ -91,26 +99,12 @@ pub(crate) fn shift(part: &mut [u8], n: usize, up: u64, down: u64)
     requires movable { Movable up down (slots n 0 part.old) }
     ensures { slots n 0 part.new ≡ shifted up down (slots n 0 part.old) }
 {
-    let mut k = 0;
-    while k < n {
+    for k in 0..n {
         let token = token_at(part, k);
         if token.is_none() {
             return;
         }
         put_token(part, k, moved(token, up, down));
-        k += 1;
-    }
-}
-
-// Empties a place.
-pub(crate) fn clear_place(part: &mut [u8], n: usize)
-    requires { 8 * n ≤ length part.old }
-    ensures { slots n 0 part.new ≡ replicate n 0 }
-{
-    let mut k = 0;
-    while k < n {
-        put_token(part, k, Token::NONE);
-        k += 1;
     }
 }
 
@@ -121,13 +115,11 @@ pub(crate) fn copy_place(part: &[u8], n: usize, tokens: &mut [u64; 8])
     requires tokens_value { tokens.old ≡ replicate 8 0 }
     ensures { tokens.new ≡ slots n 0 part.now ++ replicate (8 - n) 0 }
 {
-    let mut k = 0;
-    while k < n {
+    for k in 0..n {
         let token = token_at(part, k);
         if token.is_none() {
             return;
         }
         tokens[k] = token.0;
-        k += 1;
     }
 }

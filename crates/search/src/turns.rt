@@ -12,14 +12,15 @@ ghost use Rattle.storing.specs.Stored.{Stored, PassingOn, PassedOn, Turn, TurnDo
 ghost use Rattle.storing.specs.Carrying.{Staying, Arc, Own, Renewing, Renewal, stayed, over_one, renewed_one};
 ghost use Rattle.storing.specs.Carrying.{renewed_all, renewal};
 
-use crate::letters::{LOOP, STEP};
-use crate::parts::offer_from;
-use crate::store::{clear_place, insert, shift};
+use crate::store::{insert, offer_from, shift};
 use crate::tokens::token_at;
-use checking::{ARCS_AT, EMISSION, FIRST_SLOT, PATHS};
+use call::zero;
+use checking::Vertex;
 use decoder::score::{BIAS, Score};
 use decoder::token::{LIFT, Token, UNIT};
-use endian::u16_of;
+use endian::{number_of, u16_of};
+use lexicon::list_at;
+use storing::Moves;
 
 // The number at an offset inside the image.
 fn number_at(lexicon: &[u8], at: usize) -> usize
@@ -33,7 +34,7 @@ fn number_at(lexicon: &[u8], at: usize) -> usize
 // is left, and the emission of the one that is entered is added.
 fn pass_over(
     n: usize,
-    vertices: &[[u32; 4]; 402],
+    vertices: &[Vertex; 402],
     link: Score,
     from: usize,
     t: usize,
@@ -46,13 +47,13 @@ fn pass_over(
         → Stored a.passing_on.v (graph_of a.x) n (over_one a) store.new }
     ensures store_unchanged { slots n from store.new ≡ slots n from store.old }
 {
-    let emission = Score(vertices[t][EMISSION]);
+    let emission = Score(vertices[t].emission);
     // impossible at this frame; always so at the sink, which has no letter
     if emission.is_impossible() {
         return;
     }
     let up = (link.0 + emission.0 - BIAS) as u64 * UNIT;
-    let slot = vertices[t][FIRST_SLOT] as usize;
+    let slot = vertices[t].first_slot as usize;
     offer_from(store, n, from, slot, up, down);
 }
 
@@ -61,7 +62,7 @@ fn pass_over(
 fn pass_on(
     lexicon: &[u8],
     n: usize,
-    vertices: &[[u32; 4]; 402],
+    vertices: &[Vertex; 402],
     links: &[u32; 64],
     letter: usize,
     node: usize,
@@ -81,48 +82,45 @@ fn pass_on(
     if link.is_impossible() {
         return;
     }
-    let start = vertices[node][ARCS_AT] as usize;
+    let start = vertices[node].arcs_at as usize;
     let stop = start + 2 + 2 * number_at(lexicon, start);
     let mut at = start + 2;
     let mut down = LIFT;
+    // a `for` over the pairs of `list_at`, or over pairs that nothing tests, takes a tenth more instructions a call
     while at < stop {
         let t = number_at(lexicon, at);
         pass_over(n, vertices, link, from, t, down, store);
-        down += vertices[t][PATHS] as u64;
+        down += vertices[t].paths as u64;
         at += 2;
     }
 }
 
 // The root's token enters node t over the arc of that increment: its score is the emission alone.
-fn enter_node(n: usize, vertices: &[[u32; 4]; 402], t: usize, increment: u32, store: &mut [u8])
+fn enter_node(n: usize, vertices: &[Vertex; 402], t: usize, increment: u32, store: &mut [u8])
     requires { Arc n vertices.now bias true 0 t (lift + increment) store.old }
     ensures { (a : Arc n vertices.now bias true 0 t (lift + increment) store.old)
         → Stored a.passing_on.v (graph_of a.x) n (over_one a) store.new }
 {
-    let score = Score(vertices[t][EMISSION]);
+    let score = Score(vertices[t].emission);
     if score.is_impossible() {
         return;
     }
-    let start = 8 * (vertices[t][FIRST_SLOT] as usize);
+    let start = 8 * (vertices[t].first_slot as usize);
     let end = start + 8 * n;
     insert(&mut store[start..end], n, Token::of(score, increment));
 }
 
 // The root's token enters the first state of each node that the root leads to.
-pub(crate) fn enter_nodes(lexicon: &[u8], n: usize, vertices: &[[u32; 4]; 402], store: &mut [u8])
+pub(crate) fn enter_nodes(lexicon: &[u8], n: usize, vertices: &[Vertex; 402], store: &mut [u8])
     requires { PassingOn lexicon.now n vertices.now bias 0 true 0 store.old }
     ensures { (t : PassingOn lexicon.now n vertices.now bias 0 true 0
         store.old) → PassedOn t store.new }
 {
-    let start = vertices[0][ARCS_AT] as usize;
-    let stop = start + 2 + 2 * number_at(lexicon, start);
-    let mut at = start + 2;
     let mut increment = 0;
-    while at < stop {
-        let t = number_at(lexicon, at);
+    for &pair in list_at(lexicon, vertices[0].arcs_at as usize) {
+        let t = number_of(pair) as usize;
         enter_node(n, vertices, t, increment, store);
-        increment += vertices[t][PATHS];
-        at += 2;
+        increment += vertices[t].paths;
     }
 }
 
@@ -133,7 +131,7 @@ fn stay(place: &mut [u8], n: usize, score: Score)
         ≡ held n (stayed t) }
 {
     if score.is_impossible() {
-        clear_place(place, n);
+        zero(place);
         return;
     }
     shift(place, n, score.0 as u64 * UNIT, LIFT);
@@ -141,7 +139,7 @@ fn stay(place: &mut [u8], n: usize, score: Score)
 
 // Renews state s in a node's part of the store: by its loop, and by the step from the state before, whose tokens are
 // still old. The row has the gains of the node's letter at this frame.
-fn renew_state(part: &mut [u8], n: usize, s: usize, row: &[u32; 8])
+fn renew_state(part: &mut [u8], n: usize, s: usize, row: &Moves)
     requires { Renewing n (suc s) row.now part.old }
     ensures { (t : Renewing n (suc s) row.now part.old)
         → Own n t.S (renewed_one t t.node) part.new }
@@ -149,11 +147,11 @@ fn renew_state(part: &mut [u8], n: usize, s: usize, row: &[u32; 8])
     let slot = n * s;
     let start = 8 * slot;
     let end = start + 8 * n;
-    stay(&mut part[start..end], n, Score(row[LOOP + s]));
+    stay(&mut part[start..end], n, Score(row.loops[s]));
     if s == 0 {
         return;
     }
-    let score = Score(row[STEP + s]);
+    let score = Score(row.steps[s]);
     if score.is_impossible() {
         return;
     }
@@ -161,20 +159,18 @@ fn renew_state(part: &mut [u8], n: usize, s: usize, row: &[u32; 8])
 }
 
 // Renews the states in a node's part of the store, from the last to the first.
-fn renew(part: &mut [u8], n: usize, states: usize, row: &[u32; 8])
+fn renew(part: &mut [u8], n: usize, states: usize, row: &Moves)
     requires { Renewing n states row.now part.old }
     ensures { (t : Renewing n states row.now part.old)
         → Own n t.S (renewed_all t t.node) part.new }
 {
-    let mut s = states;
-    while s > 0 {
-        s -= 1;
+    for s in (0..states).rev() {
         renew_state(part, n, s, row);
     }
 }
 
 // Renews a node's states: its part of the store, which begins with slot `first`, is lent to `renew`.
-fn renew_node(store: &mut [u8], n: usize, first: usize, states: usize, row: &[u32; 8])
+fn renew_node(store: &mut [u8], n: usize, first: usize, states: usize, row: &Moves)
     requires { Renewal n first states row.now store.old }
     ensures { (t : Renewal n first states row.now store.old)
         → Stored t.v (graph_of t.x) n (renewal t) store.new }
@@ -190,8 +186,8 @@ pub(crate) fn take_turn(
     voice: &[u8],
     lexicon: &[u8],
     n: usize,
-    vertices: &[[u32; 4]; 402],
-    gains: &[[u32; 8]; 64],
+    vertices: &[Vertex; 402],
+    gains: &[Moves; 64],
     links: &[u32; 64],
     node: usize,
     store: &mut [u8],
@@ -202,9 +198,9 @@ pub(crate) fn take_turn(
 {
     let letter = lexicon[1 + node] as usize;
     // the place of its last state ends where the next vertex's begins
-    let last = vertices[node + 1][FIRST_SLOT] as usize - n;
+    let last = vertices[node + 1].first_slot as usize - n;
     pass_on(lexicon, n, vertices, links, letter, node, last, store);
     let states = voice[2 + 2 * letter] as usize;
-    let first = vertices[node][FIRST_SLOT] as usize;
+    let first = vertices[node].first_slot as usize;
     renew_node(store, n, first, states, &gains[letter]);
 }

@@ -1,53 +1,28 @@
--- Two rows of letters, compared from a place on: what the test of order says there, by the letters at the place.
--- Assumes nothing.
-use Prim.Native.Nat.{ℕ, suc, ◌+◌, ◌≤◌, ◌<◌}
-use mathlib.Core.Path.{◌≡◌, refl, sym, ap}
-use mathlib.Core.Bool.{Bool, true, false, ◌||◌, ◌&&◌}
-use mathlib.Core.List.{List, [], ◌∷◌}
-use native.Mathlib.Numerals.{add-one}
-use native.Mathlib.Omega.{arith}
-use lib.ListN.{length, get_or, drop, drop_of_length-le, length-drop}
-use lib.Seq.{drop-cons}
-use lib.Dec.{ltb}
+-- Two words compared letter by letter: what the order says of them by their first letters, or where one ends. Assumes
+-- nothing.
+use Rattle.std.proofs.Common.{◌≡◌, ℕ, ◌+◌, List, [], ◌∷◌, Bool, true, false, ◌||◌, length, refl, sym, ◌∙◌, ltb, arith}
+use mathlib.Core.Logic.{◌⊎◌, inl, inr}
 use borrow.Author.Tests.{eq-eqb, ne_eqb, lt-ltb, le-ltb}
 use Rattle.canonical.specs.Dictionary.{precedes}
 
-module _ (a b : List ℕ) (i : ℕ) where
-  pub precedes-next : i < length a → i < length b → get_or a i 0 ≡ get_or b i 0
-      → precedes (drop i a) (drop i b) ≡ precedes (drop (i + 1) a) (drop (i + 1) b)
-  unfolding precedes
-  precedes-next h k e =
-      rw (
-        add-one,
-        drop-cons a i 0 h,
-        drop-cons b i 0 k,
-        eq-eqb (get_or a i 0) (get_or b i 0) e,
-        le-ltb (get_or a i 0) (get_or b i 0) (omega arith),
-      )
+or_false : (t : Bool) → t || false ≡ t
+or_false true = refl
+or_false false = refl
 
-  pub precedes_differs : i < length a → i < length b → (get_or a i 0 ≡ get_or b i 0 → ⊥)
-      → precedes (drop i a) (drop i b) ≡ ltb (get_or a i 0) (get_or b i 0)
+module _ {x y : ℕ} {xs ys a b : List ℕ} {w : Bool} (p : a ≡ x ∷ xs) (q : b ≡ y ∷ ys) (e : precedes a b ≡ w) where
+  pub first_differs : (x ≡ y → ⊥) → ltb x y ≡ w
   unfolding precedes
-  precedes_differs h k n =
-      rw (drop-cons a i 0 h, drop-cons b i 0 k, ne_eqb (get_or a i 0) (get_or b i 0) n) (go (ltb (get_or a i 0)
-      (get_or b i 0)))
-    where
-      go : (t : Bool) → t || false && precedes (drop (suc i) a) (drop (suc i) b) ≡ t
-      go true = refl
-      go false = refl
+  first_differs n = sym (or_false (ltb x y)) ∙ rw (p, q, ne_eqb x y n) at e
 
-  pub precedes-none : length b ≤ i → precedes (drop i a) (drop i b) ≡ false
+  pub first_same : x ≡ y → precedes xs ys ≡ w
   unfolding precedes
-  precedes-none k = rw (drop_of_length-le b k) (go (drop i a))
-    where
-      go : (l : List ℕ) → precedes l [] ≡ false
-      go [] = refl
-      go (x ∷ l) = refl
+  first_same h = rw (p, q, h, eq-eqb y y refl, le-ltb y y (omega arith)) at e
 
-  pub precedes-ends : length a ≤ i → i ≤ length b → precedes (drop i a) (drop i b) ≡ ltb i (length b)
-  unfolding precedes
-  precedes-ends h k = rw (drop_of_length-le a h) (go (drop i b) refl)
-    where
-      go : (l : List ℕ) → drop i b ≡ l → precedes [] l ≡ ltb i (length b)
-      go [] e = sym (le-ltb i (length b) (omega (arith, length-drop i b, ap length e)))
-      go (x ∷ l) e = sym (lt-ltb i (length b) (omega (arith, length-drop i b, ap length e)))
+pub one_ends : (m n : ℕ) (xs ys : List ℕ) → (xs ≡ []) ⊎ (ys ≡ []) → m + length ys ≡ n + length xs
+    → ltb m n ≡ precedes xs ys
+unfolding precedes
+one_ends m n [] [] e h = le-ltb m n (omega arith)
+one_ends m n [] (y ∷ ys) e h = lt-ltb m n (omega arith)
+one_ends m n (x ∷ xs) [] e h = le-ltb m n (omega arith)
+one_ends m n (x ∷ xs) (y ∷ ys) (inl e) h = cc
+one_ends m n (x ∷ xs) (y ∷ ys) (inr e) h = cc

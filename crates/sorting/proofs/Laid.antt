@@ -111,14 +111,14 @@ module _ (t r : List ℕ) (n k : ℕ) (h : k < n) (s : Rising t r 0 n) where
 
 -- ---- laid out
 
-pub laid-few : {t r v : List ℕ} {q k q' : ℕ} → LaidWord t r q k q' v → q' ≤ q + 1
-laid-few (known l f) = omega arith
-laid-few (over f l) = omega arith
-laid-few (laid f l c x) = omega arith
+pub laid_few : {t r v : List ℕ} {q k q' : ℕ} → LaidWord t r q k q' v → q' ≤ q + 1
+laid_few (known l f) = omega arith
+laid_few (over f l) = omega arith
+laid_few (laid f l x) = omega arith
 
-pub laid-start : (t r : List ℕ) → LaidOut t r 0 0 t
+pub laid_start : (t r : List ℕ) → LaidOut t r 0 0 t
 unfolding row_words words_in_order words_from
-laid-start t r = record {
+laid_start t r = record {
   long = refl;
   far = λ b h. refl;
   many = refl;
@@ -170,7 +170,7 @@ module _ {t r u : List ℕ} {n k q : ℕ} (g : Gathered t r n) (o : LaidOut t r 
       words = λ a. absurd (omega arith);
       padded = λ a. absurd (omega arith);
     }
-    laid_next {v} (laid {slot} f l c x) =
+    laid_next {v} (laid f l x) =
         let e = row_new t r n k h s (new f) in
         record {
           long = x.long ∙ o.long;
@@ -190,7 +190,7 @@ module _ {t r u : List ℕ} {n k q : ℕ} (g : Gathered t r n) (o : LaidOut t r 
         below p a b d = x.below (33 * p + b) (omega arith)
 
         filled : (b : ℕ) → b < 33 → get_or v (33 * q + b) 0 ≡ get_or u (33 * number_at r k + b) 0
-        filled b d = x.filled b d ∙ c.same b d
+        filled b d = x.copied b d
 
         holds : q + 1 ≤ 2000 → Holds v (q + 1)
         holds a p d = elim (ℕ_discrete p q) [

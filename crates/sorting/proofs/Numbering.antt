@@ -13,24 +13,12 @@ use native.Mathlib.Omega.{arith}
 use lib.ListN.{length}
 use Rattle.canonical.specs.Dictionary.{words_in_order}
 use Rattle.sorting.specs.Slots.{word_at, Slot, Padded, words_from}
-use Rattle.endian.specs.Rows.{number_at, NumberPut}
+use Rattle.endian.specs.Rows.{number_at}
 use Rattle.sorting.specs.Rows.{word_of, Ordered, row_words}
 use Rattle.sorting.specs.Rows.{Gathered, LaidOut, Numbered, Dictionary}
 use Rattle.canonical.proofs.Sorting.{order_same}
 use Rattle.sorting.proofs.SlotWords.{words-split, one_word}
 use Rattle.sorting.proofs.Laid.{row_out}
-
-pub numbered-start : (r : List ℕ) → Numbered r 0 r
-numbered-start r = record { long = refl; numbers = λ p h. absurd (omega arith) }
-
-pub numbered_more : {r u v : List ℕ} {k : ℕ} → Numbered r k u → NumberPut u k (2001 + k) v → Numbered r (k + 1) v
-numbered_more {r} {u} {v} {k} n x = record {
-  long = x.long ∙ n.long;
-  numbers = λ p h. elim (ℕ_discrete p k) [
-    | yes e ↦ ap (number_at v) e ∙ x.here ∙ ap (λ j. 2001 + j) (sym e)
-    | no d ↦ x.others p d ∙ n.numbers p (omega arith)
-  ];
-}
 
 row_in : (t r : List ℕ) (k p : ℕ) → p < k → In (word_of t r p) (row_words t r k)
 unfolding row_words

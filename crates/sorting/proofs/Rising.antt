@@ -1,40 +1,44 @@
 -- Slot numbers merged by the words in their slots. While two runs are merged, what was taken rises and nothing left
 -- stands before it; so the whole rises, and it has the numbers of both. Assumes nothing.
-use Prim.Native.Nat.{ℕ, ◌+◌, ◌-◌, ◌≤◌, ◌<◌}
-use mathlib.Core.Path.{◌≡◌, refl, sym, ap, ap₂, ◌∙◌}
+use Prim.Native.Nat.{ℕ, ◌+◌, ◌*◌, ◌-◌, ◌≤◌, ◌<◌}
+use mathlib.Core.Path.{◌≡◌, sym, ap, ap₂, ◌∙◌}
 use mathlib.Core.Logic.{◌⊎◌, inl, inr, ⊎_elim}
 use mathlib.Core.Bool.{false, true≢false}
 use mathlib.Core.List.{List}
 use native.Mathlib.Nat.{zero-add}
-use native.Mathlib.Decide.{ℕ_discrete, dec_lt}
+use native.Mathlib.Decide.{ℕ_discrete}
 use native.Mathlib.Omega.{arith}
-use lib.ListN.{length}
+use lib.ListN.{length, get_or}
+use Rattle.std.specs.List.{CopiedTo, SameBelow, SameFrom}
+use Rattle.endian.specs.Bytes.{u16}
 use Rattle.canonical.specs.Dictionary.{precedes}
 use Rattle.sorting.specs.Slots.{word_at}
 use Rattle.endian.specs.Rows.{number_at, NumberPut}
-use Rattle.sorting.specs.Rows.{word_of, Rising, Somewhere, Taken, first, second, Merged, Back}
+use Rattle.sorting.specs.Rows.{word_of, Rising, Somewhere, Taken, first, second, Back}
 use Rattle.canonical.proofs.Order.{Before, before-trans, before-asym, before-total, not-before}
 
 -- ---- numbers brought back
 
-pub back_start : (r : List ℕ) (lo : ℕ) → Back r lo lo r
-back_start r lo = record { long = refl; back = λ p a b. absurd (omega arith); others = λ p a. refl }
-
-pub back_more : {r u v : List ℕ} {lo k : ℕ} → lo ≤ k → k < 4000 → Back r lo k u
-    → NumberPut u k (number_at u (4000 + k)) v → Back r lo (k + 1) v
-back_more {r} {u} {v} {lo} {k} l h b x = record {
-  long = x.long ∙ b.long;
-  back = λ p a c. elim (ℕ_discrete p k) [
-    | yes e ↦ ap (number_at v) e ∙ x.here ∙ b.others (4000 + k) (inr (omega arith))
-        ∙ ap (λ j. number_at r (4000 + j)) (sym e)
-    | no n ↦ x.others p n ∙ b.back p a (omega arith)
-  ];
-  others = λ p o. x.others p (off p o) ∙ b.others p (⊎_elim inl (λ a. inr (omega arith)) o);
+pub back_copied : {r u : List ℕ} {lo hi : ℕ} → lo ≤ hi → length u ≡ length r
+    → CopiedTo r u (8000 + 2 * lo) (2 * lo) (8000 + 2 * hi - (8000 + 2 * lo)) → SameBelow r u (2 * lo)
+    → SameFrom r u (2 * lo + (8000 + 2 * hi - (8000 + 2 * lo))) → Back r lo hi u
+unfolding number_at u16
+back_copied {r} {u} {lo} {hi} le e at below from = record {
+  long = e;
+  back = λ p a b. ap₂ (λ x y. x + 256 * y) (byte p (2 * p) (2 * (4000 + p)) a b (omega arith) (omega arith) (omega arith))
+      (byte p (2 * p + 1) (2 * (4000 + p) + 1) a b (omega arith) (omega arith) (omega arith));
+  others = λ p o. ap₂ (λ x y. x + 256 * y) (same p (2 * p) o (omega arith) (omega arith))
+      (same p (2 * p + 1) o (omega arith) (omega arith));
 }
   where
-    off : (p : ℕ) → (p < lo) ⊎ (k + 1 ≤ p) → ¬ (p ≡ k)
-    off p (inl a) e = omega arith
-    off p (inr a) e = omega arith
+    byte : (p x y : ℕ) → lo ≤ p → p < hi → 2 * p ≤ x → x < 2 * p + 2 → y ≡ x + 8000 → get_or u x 0 ≡ get_or r y 0
+    byte p x y a b h k e =
+        let f : 8000 + 2 * lo + (x - 2 * lo) ≡ y = omega arith in
+        at x 0 (omega arith) (omega arith) ∙ ap (λ j. get_or r j 0) f
+
+    same : (p x : ℕ) → (p < lo) ⊎ (hi ≤ p) → 2 * p ≤ x → x < 2 * p + 2 → get_or u x 0 ≡ get_or r x 0
+    same p x (inl a) h k = below x 0 (omega arith)
+    same p x (inr a) h k = from x 0 (omega arith)
 
 -- ---- not before
 
@@ -65,24 +69,6 @@ pub record Merging (t r : List ℕ) (lo mid hi i k : ℕ) (u : List ℕ) : Type 
   pub after : (p q : ℕ) → lo ≤ p → p < k → Left mid hi i k q → precedes (word_of t r q) (word_of t u (4000 + p)) ≡ false
   pub from : (p : ℕ) → lo ≤ p → p < k → Somewhere r 0 lo hi (number_at u (4000 + p))
   pub all : (q : ℕ) → Gone lo mid i k q → Somewhere u 4000 lo k (number_at r q)
-
-pub merging_start : (t r : List ℕ) (lo mid hi : ℕ) → lo ≤ mid → mid ≤ hi → Merging t r lo mid hi lo lo r
-merging_start t r lo mid hi a b = record {
-  long = refl;
-  low = omega arith;
-  top = a;
-  left = omega arith;
-  right = omega arith;
-  kept = λ p h. refl;
-  rise = λ p q x y z. absurd (omega arith);
-  after = λ p q x y z. absurd (omega arith);
-  from = λ p x y. absurd (omega arith);
-  all = λ q g. absurd (never q g);
-}
-  where
-    never : (q : ℕ) → Gone lo mid lo lo q → ⊥
-    never q (inl g) = omega (arith, g.0, g.1)
-    never q (inr g) = omega (arith, g.0, g.1)
 
 -- place s is taken next
 merging_more : {t r u v : List ℕ} {lo mid hi i k : ℕ} (s j : ℕ) → hi ≤ 4000 → k < hi → Merging t r lo mid hi i k u
@@ -217,20 +203,4 @@ merging_next {t} {r} {u} {v} {lo} {mid} {hi} {i} {k} lm mh small inside ra rb m 
     gone q (inr a) = let a0 = a.0 in let a1 = a.1 in let l = m.left in elim (ℕ_discrete q (k + mid - i)) [
       | yes e ↦ inl e
       | no n ↦ inr (inr (a0, omega arith))
-    ]
-
-pub merging_end : {t r u : List ℕ} {lo mid hi i k : ℕ} → k ≡ hi → Merging t r lo mid hi i k u → Merged t r lo hi u
-merging_end {t} {r} {u} {lo} {mid} {hi} {i} {k} e m = record {
-  long = m.long;
-  kept = m.kept;
-  rise = λ p q a b c. m.rise p q a b (omega arith);
-  from = λ p a b. m.from p a (omega arith);
-  all = λ q a b. let w = m.all q (taken q a b) in let h = w.high in
-      record { place = w.place; low = w.low; high = omega arith; number = w.number };
-}
-  where
-    taken : (q : ℕ) → lo ≤ q → q < hi → Gone lo mid i k q
-    taken q a b = let x = m.top in let y = m.right in elim (dec_lt q i) [
-      | yes h ↦ inl (a, h)
-      | no n ↦ inr (omega arith, omega arith)
     ]

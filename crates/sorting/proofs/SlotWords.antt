@@ -1,5 +1,4 @@
--- Words in slots, by place: the words of a table one by one, the part of a table that is a word, slots written byte by
--- byte, and slots with the same bytes, which hold the same word. Assumes nothing.
+-- Words in slots, by place: the words of a table one by one, the part of a table that is a word, and slots with the same bytes, which hold the same word. Assumes nothing.
 use Prim.Native.Nat.{ℕ, zero, suc, ◌+◌, ◌*◌, ◌-◌, ◌≤◌, ◌<◌}
 use mathlib.Core.Path.{◌≡◌, refl, sym, ap, ap₂, ◌∙◌}
 use mathlib.Core.Logic.{⊎_elim}
@@ -9,11 +8,10 @@ use mathlib.Core.List.Memᴰ.{not-nil}
 use mathlib.Core.List.{Memᴰ as In}
 use native.Mathlib.Nat.{add-zero, add_assoc}
 use native.Mathlib.Numerals.{add-one}
-use native.Mathlib.Decide.{ℕ_discrete}
 use native.Mathlib.Omega.{arith}
-use lib.ListN.{length, get_or, take, drop, set, length-set, length-take, length-drop}
-use lib.Seq.{get_or-set_same, get_or-set_other, get_or-take, get_or-drop, ext_get_or}
-use Rattle.sorting.specs.Slots.{word_at, Slot, Padded, words_from, Filled, Copied}
+use lib.ListN.{length, get_or, take, drop, length-take, length-drop}
+use lib.Seq.{get_or-take, get_or-drop, ext_get_or}
+use Rattle.sorting.specs.Slots.{word_at, Slot, Padded, words_from}
 
 -- ---- the words of a table, by place
 
@@ -94,42 +92,6 @@ unfolding word_at
 word-part t i =
     let e : 33 * i + 1 + get_or t (33 * i) 0 - (33 * i + 1) ≡ get_or t (33 * i) 0 = omega arith in
     ap (λ k. take k (drop (33 * i + 1) t)) e
-
--- ---- a slot, byte by byte
-
-pub filled-start : (t : List ℕ) (at : ℕ) (slot : List ℕ) → Filled t at slot 0 t
-filled-start t at slot = record {
-  long = refl;
-  below = λ k h. refl;
-  filled = λ b h. absurd (omega arith);
-  above = λ k h. refl;
-}
-
-pub filled_more : {t : List ℕ} {at : ℕ} {slot : List ℕ} {n : ℕ} {u : List ℕ} → Filled t at slot n u → at + n < length t
-    → Filled t at slot (n + 1) (set u (at + n) (get_or slot n 0))
-filled_more {t} {at} {slot} {n} {u} f h = record {
-  long = length-set u (at + n) (get_or slot n 0) ∙ f.long;
-  below = λ k p. get_or-set_other u (at + n) k (get_or slot n 0) 0 (omega arith) ∙ f.below k p;
-  filled = λ b p. elim (ℕ_discrete b n) [
-    | yes e ↦ ap (λ j. get_or (set u (at + n) (get_or slot n 0)) (at + j) 0) e
-        ∙ get_or-set_same u (at + n) (get_or slot n 0) 0 (omega (arith, f.long))
-        ∙ ap (λ j. get_or slot j 0) (sym e)
-    | no e ↦ get_or-set_other u (at + n) (at + b) (get_or slot n 0) 0 (omega arith) ∙ f.filled b (omega arith)
-  ];
-  above = λ k p. get_or-set_other u (at + n) k (get_or slot n 0) 0 (omega arith) ∙ f.above k (omega arith);
-}
-
-pub copied_more : {t : List ℕ} {at n : ℕ} {slot : List ℕ} → Copied t at n slot → n < 33
-    → Copied t at (n + 1) (set slot n (get_or t (at + n) 0))
-copied_more {t} {at} {n} {slot} c h = record {
-  long = length-set slot n (get_or t (at + n) 0) ∙ c.long;
-  same = λ b p. elim (ℕ_discrete b n) [
-    | yes e ↦ ap (λ j. get_or (set slot n (get_or t (at + n) 0)) j 0) e
-        ∙ get_or-set_same slot n (get_or t (at + n) 0) 0 (omega (arith, c.long))
-        ∙ ap (λ j. get_or t (at + j) 0) (sym e)
-    | no e ↦ get_or-set_other slot n b (get_or t (at + n) 0) 0 e ∙ c.same b (omega arith)
-  ];
-}
 
 -- ---- slots with the same bytes hold the same word
 

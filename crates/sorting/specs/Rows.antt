@@ -4,7 +4,7 @@ use Rattle.std.specs.Prelude.{ℕ, zero, suc, ◌+◌, ◌*◌, ◌-◌, ◌≤�
 use Rattle.std.specs.Prelude.{length, get_or}
 use Rattle.endian.specs.Rows.{number_at, NumberPut}
 use Rattle.canonical.specs.Dictionary.{precedes, words_in_order}
-use Rattle.sorting.specs.Slots.{word_at, Slot, Holds, Padded, words_from, Filled, Copied}
+use Rattle.sorting.specs.Slots.{word_at, Slot, Holds, Padded, words_from, SlotCopied}
 
 -- the word that the number at place k names
 abbrev pub word_of : List ℕ → List ℕ → ℕ → List ℕ
@@ -74,7 +74,7 @@ New t r k = 1 ≤ k → precedes (word_of t r (k - 1)) (word_of t r k) ≡ true
 pub data LaidWord (t r : List ℕ) (q k : ℕ) : ℕ → List ℕ → Type 0 where
   known : 1 ≤ k → precedes (word_of t r (k - 1)) (word_of t r k) ≡ false → LaidWord t r q k q t
   over : New t r k → 2000 ≤ q → LaidWord t r q k (q + 1) t
-  laid : {slot u : List ℕ} → New t r k → q < 2000 → Copied t (33 * number_at r k) 33 slot → Filled t (33 * q) slot 33 u
+  laid : {u : List ℕ} → New t r k → q < 2000 → SlotCopied t (33 * number_at r k) (33 * q) u
       → LaidWord t r q k (q + 1) u
 
 -- the words of the first k places, q different ones, stand from slot 0 on in dictionary order, if they are at most

@@ -23,14 +23,9 @@ unfoldable pub words_from : List ℕ → ℕ → ℕ → List (List ℕ)
 words_from t i zero = []
 words_from t i (suc n) = word_at t i ∷ words_from t (suc i) n
 
--- the first n bytes of a slot stand at an offset, and the others are as they were
-pub record Filled (t : List ℕ) (at : ℕ) (slot : List ℕ) (n : ℕ) (u : List ℕ) : Type 0 where
+-- the bytes of a slot stand at an offset as they stood at another, and the others are as they were
+pub record SlotCopied (t : List ℕ) (from to : ℕ) (u : List ℕ) : Type 0 where
   pub long : length u ≡ length t
-  pub below : (k : ℕ) → k < at → get_or u k 0 ≡ get_or t k 0
-  pub filled : (b : ℕ) → b < n → get_or u (at + b) 0 ≡ get_or slot b 0
-  pub above : (k : ℕ) → at + n ≤ k → get_or u k 0 ≡ get_or t k 0
-
--- n bytes from an offset on
-pub record Copied (t : List ℕ) (at n : ℕ) (slot : List ℕ) : Type 0 where
-  pub long : length slot ≡ 33
-  pub same : (b : ℕ) → b < n → get_or slot b 0 ≡ get_or t (at + b) 0
+  pub below : (k : ℕ) → k < to → get_or u k 0 ≡ get_or t k 0
+  pub copied : (b : ℕ) → b < 33 → get_or u (to + b) 0 ≡ get_or t (from + b) 0
+  pub above : (k : ℕ) → to + 33 ≤ k → get_or u k 0 ≡ get_or t k 0

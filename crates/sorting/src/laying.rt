@@ -6,7 +6,7 @@ ghost use Rattle.sorting.specs.Rows.{Gathered, Rising, LaidWord, LaidOut, Number
 
 use crate::ordering::{sort, stands_before};
 use crate::rows::{number, put_number};
-use crate::slots::{copied, fill};
+use crate::slots::copy_slot;
 
 // Lays the word of place k out behind q words, if it is not the one before it, and answers how many words there are.
 fn lay_word(words: &mut [u8], rows: &[u8], q: usize, k: usize) -> usize
@@ -24,8 +24,7 @@ fn lay_word(words: &mut [u8], rows: &[u8], q: usize, k: usize) -> usize
         return q + 1;
     }
     let s = number(rows, k);
-    let slot = copied(words, s);
-    fill(words, q, &slot);
+    copy_slot(words, s, q);
     q + 1
 }
 
@@ -37,10 +36,8 @@ pub(crate) fn lay_out(words: &mut [u8], rows: &[u8], n: usize) -> usize
     ensures { LaidOut words.old rows.now n result words.new }
 {
     let mut q = 0;
-    let mut k = 0;
-    while k < n {
+    for k in 0..n {
         q = lay_word(words, rows, q, k);
-        k += 1;
     }
     q
 }
@@ -50,10 +47,8 @@ fn number_slots(rows: &mut [u8], n: usize)
     requires { (n ≤ 4000) × (16000 ≤ length rows.old) }
     ensures { Numbered rows.old n rows.new }
 {
-    let mut k = 0;
-    while k < n {
+    for k in 0..n {
         put_number(rows, k, 2001 + k);
-        k += 1;
     }
 }
 

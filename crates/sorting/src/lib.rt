@@ -7,7 +7,7 @@ ghost use Rattle.sorting.specs.Listing.{word_table_answer, word_table_work, word
 
 use crate::gathering::collect;
 use crate::table::{put_table, zero_part};
-use call::{Answer, FURTHER_SPACE, Refusal, WORK_SPACE, clear};
+use call::{FURTHER_SPACE, Refusal, WORK_SPACE, clear};
 
 mod gathering;
 mod laying;
@@ -22,7 +22,12 @@ const ROWS: usize = 16000;
 
 // Writes the words of a lexicon in dictionary order, each in a slot of 33 bytes, to the start of the further work
 // space, and answers how many there are.
-pub fn word_table(voice: &[u8], lexicon: &[u8], work: &mut [u8], further: &mut [u8]) -> Answer
+pub fn word_table(
+    voice: &[u8],
+    lexicon: &[u8],
+    work: &mut [u8],
+    further: &mut [u8],
+) -> Result<u32, Refusal>
     ensures result_value { answer_of result
         ≡ word_table_answer voice.now lexicon.now work.old further.old }
     ensures work_after { work.new ≡ word_table_work work.old further.old }
@@ -30,15 +35,17 @@ pub fn word_table(voice: &[u8], lexicon: &[u8], work: &mut [u8], further: &mut [
         ≡ word_table_further voice.now lexicon.now work.old further.old }
 {
     if work.len() < WORK_SPACE {
-        return Answer::Refused(Refusal::WorkSpace);
+        return Err(Refusal::WorkSpace);
     }
     if further.len() < FURTHER_SPACE {
-        return Answer::Refused(Refusal::WorkSpace);
+        return Err(Refusal::WorkSpace);
     }
-    let gathered = collect(voice, lexicon, work, further);
-    let Answer::Value(n) = gathered else {
-        zero_part(further, 0, FURTHER_SPACE);
-        return gathered;
+    let n = match collect(voice, lexicon, work, further) {
+        Ok(n) => n,
+        Err(refusal) => {
+            zero_part(further, 0, FURTHER_SPACE);
+            return Err(refusal);
+        }
     };
     let answer = put_table(further, &mut work[0..ROWS], n as usize);
     clear(work);

@@ -1,4 +1,5 @@
-// Slot numbers put into the dictionary order of the words in their slots, by merging.
+// Slot numbers put into the dictionary order of the words in their slots, by merging: the library's sorts ask for a
+// comparison of any two numbers, and these have to be numbers of slots that hold words.
 ghost use Rattle.std.specs.Prelude.{◌≡◌, ◌+◌, ◌*◌, ◌-◌, ◌≤◌, ◌<◌, length};
 ghost use Rattle.canonical.specs.Dictionary.{precedes};
 ghost use Rattle.sorting.specs.Slots.{Slot};
@@ -53,10 +54,8 @@ fn merge(words: &[u8], rows: &mut [u8], lo: usize, mid: usize, hi: usize)
     ensures { Merged words.now rows.old lo hi rows.new }
 {
     let mut i = lo;
-    let mut k = lo;
-    while k < hi {
+    for k in lo..hi {
         i = take_next(words, rows, mid, hi, i, k);
-        k += 1;
     }
 }
 

@@ -1,4 +1,5 @@
-// Rows of slot numbers, two bytes each.
+// Rows of slot numbers, two bytes each, which a crate that has such rows reads and writes by functions of its own: a
+// public function could not require that the place is inside.
 ghost use Rattle.std.specs.Prelude.{◌≡◌, ◌+◌, ◌*◌, ◌≤◌, ◌<◌, length};
 ghost use Rattle.endian.specs.Rows.{number_at, NumberPut};
 ghost use Rattle.sorting.specs.Rows.{Back};
@@ -19,8 +20,7 @@ pub(crate) fn put_number(rows: &mut [u8], k: usize, v: usize)
     ensures { NumberPut rows.old k v rows.new }
 {
     let at = 2 * k;
-    rows[at] = (v % 256) as u8;
-    rows[at + 1] = (v / 256) as u8;
+    rows[at..at + 2].copy_from_slice(&(v as u16).to_le_bytes());
 }
 
 // Writes the number of one place at another.
@@ -37,9 +37,5 @@ pub(crate) fn copy_back(rows: &mut [u8], lo: usize, hi: usize)
     requires { (lo ≤ hi) × (hi ≤ 4000) × (16000 ≤ length rows.old) }
     ensures { Back rows.old lo hi rows.new }
 {
-    let mut k = lo;
-    while k < hi {
-        copy_number(rows, 4000 + k, k);
-        k += 1;
-    }
+    rows.copy_within(8000 + 2 * lo..8000 + 2 * hi, 2 * lo);
 }

@@ -1,6 +1,6 @@
 // Words in slots of 33 bytes, each its length and then its letters.
 ghost use Rattle.std.specs.Prelude.{◌≡◌, ◌+◌, ◌*◌, ◌≤◌, length};
-ghost use Rattle.sorting.specs.Slots.{word_at, Slot, Filled, Copied};
+ghost use Rattle.sorting.specs.Slots.{word_at, Slot, SlotCopied};
 
 // The word in slot i.
 pub(crate) fn word<'a>(words: &'a [u8], i: usize) -> &'a [u8]
@@ -13,30 +13,14 @@ pub(crate) fn word<'a>(words: &'a [u8], i: usize) -> &'a [u8]
     &words[from..to]
 }
 
-// The bytes of slot i.
-pub(crate) fn copied(words: &[u8], i: usize) -> [u8; 33]
-    requires { 33 * i + 33 ≤ length words.now }
-    ensures { Copied words.now (33 * i) 33 result }
+// Copies the bytes of slot i to slot p, by way of an array: `copy_within` goes byte by byte, the last first.
+pub(crate) fn copy_slot(words: &mut [u8], i: usize, p: usize)
+    requires { (33 * i + 33 ≤ length words.old) × (33 * p + 33 ≤ length words.old) }
+    ensures { SlotCopied words.old (33 * i) (33 * p) words.new }
 {
     let from = 33 * i;
+    let to = 33 * p;
     let mut slot = [0; 33];
-    let mut b = 0;
-    while b < 33 {
-        slot[b] = words[from + b];
-        b += 1;
-    }
-    slot
-}
-
-// Writes the bytes of slot p.
-pub(crate) fn fill(words: &mut [u8], p: usize, slot: &[u8; 33])
-    requires { 33 * p + 33 ≤ length words.old }
-    ensures { Filled words.old (33 * p) slot.now 33 words.new }
-{
-    let from = 33 * p;
-    let mut b = 0;
-    while b < 33 {
-        words[from + b] = slot[b];
-        b += 1;
-    }
+    slot.copy_from_slice(&words[from..from + 33]);
+    words[to..to + 33].copy_from_slice(&slot);
 }

@@ -8,7 +8,7 @@ ghost use Rattle.sorting.specs.Slots.{Holds, words_from};
 ghost use Rattle.sorting.specs.Tabled.{Waiting, zeroed_part, Tabled};
 
 use crate::laying::in_order;
-use call::{Answer, FURTHER_SPACE, Refusal, zero};
+use call::{FURTHER_SPACE, Refusal, zero};
 
 // The most words of a list, and the most letters in all; refusal 17 above them.
 const WORDS: usize = 2000;
@@ -21,10 +21,8 @@ fn letter_total(words: &[u8], n: usize) -> usize
     ensures { result ≡ sum (map length (words_from words.now 0 n)) }
 {
     let mut total = 0;
-    let mut i = 0;
-    while i < n {
+    for i in 0..n {
         total += words[33 * i] as usize;
-        i += 1;
     }
     total
 }
@@ -34,10 +32,7 @@ fn is_long(words: &[u8], q: usize) -> bool
     requires { q ≤ 2000 → Holds words.now q }
     ensures { result ≡ ltb 2000 q || ltb 16000 (sum (map length (words_from words.now 0 q))) }
 {
-    if WORDS < q {
-        return true;
-    }
-    LETTERS < letter_total(words, q)
+    WORDS < q || LETTERS < letter_total(words, q)
 }
 
 // Makes a part zero. The ends are no constants here: a part with an end as large as the further work space's is slow to
@@ -50,7 +45,7 @@ pub(crate) fn zero_part(further: &mut [u8], from: usize, to: usize)
 }
 
 // Makes the table of n gathered words, each once, and answers how many there are.
-pub(crate) fn put_table(further: &mut [u8], rows: &mut [u8], n: usize) -> Answer
+pub(crate) fn put_table(further: &mut [u8], rows: &mut [u8], n: usize) -> Result<u32, Refusal>
     requires in_bounds { (16000 ≤ length rows.old) × (further_space ≤ length further.old) }
     requires waiting { Waiting further.old n }
     ensures { Tabled (words_in_order (words_from further.old 2001 n)) further.old (answer_of result)
@@ -59,8 +54,8 @@ pub(crate) fn put_table(further: &mut [u8], rows: &mut [u8], n: usize) -> Answer
     let q = in_order(further, rows, n);
     if is_long(further, q) {
         zero_part(further, 0, FURTHER_SPACE);
-        return Answer::Refused(Refusal::WordList);
+        return Err(Refusal::WordList);
     }
     zero_part(further, 33 * q, FURTHER_SPACE);
-    Answer::Value(q as u32)
+    Ok(q as u32)
 }

@@ -1,9 +1,9 @@
 -- The tables of a call and of a frame while they are filled: state by state, letter by letter; and what they say of the
 -- letters of nodes. Assumes nothing.
 use Prim.Native.Nat.{ℕ, suc, ◌+◌, ◌-◌, ◌*◌, ◌≤◌, ◌<◌}
-use mathlib.Core.Path.{◌≡◌, sym, ap, ◌∙◌}
+use mathlib.Core.Path.{◌≡◌, refl, sym, ap, ◌∙◌}
 use mathlib.Core.Bool.{Bool, true, false, false≢true}
-use mathlib.Core.List.{List, []}
+use mathlib.Core.List.{List}
 use native.Mathlib.Omega.{arith}
 use native.Mathlib.Decide.{ℕ_discrete}
 use native.Mathlib.Nat.{add-suc, suc-mul}
@@ -20,11 +20,14 @@ use Rattle.voice.proofs.Letters.{states-range}
 use Rattle.voice.proofs.Scores.{emission-there}
 use Rattle.lexicon.specs.Lexicon.{node_count, node_letter}
 use Rattle.decoder.specs.Score.{number_of, possible}
+use Rattle.storing.specs.declared.Moves.{Moves}
+use Rattle.storing.specs.declared.Letter.{Letter}
+use Rattle.storing.specs.Gains.{no_moves, no_letter, StatesRoom, LettersRoom, GainsRoom}
 use Rattle.storing.specs.Gains.{NearBias, number_sum, letter_pairs, pair_score, loop_number, step_number, loop_gain}
 use Rattle.storing.specs.Gains.{step_gain, LettersMarked, LetterEntries, letter_in, LetterRow, letter_at, HasRow}
-use Rattle.storing.specs.Gains.{NodeLetters, GainRow, RowsRoom, Gained, MoveGains, EntryGains, KnownSymbol}
+use Rattle.storing.specs.Gains.{NodeLetters, GainRow, Gained, MoveGains, EntryGains, KnownSymbol}
 use Rattle.storing.specs.Gains.{AtLetter, StatePut, FirstPut, link_number, LinkTable}
-use Rattle.storing.proofs.Gaining.{number_near, sum_both, letter-small, letter-few, state-there, loop-score}
+use Rattle.storing.proofs.Gaining.{number_near, sum_both, letter-small, state-there, loop-score}
 use Rattle.storing.proofs.Gaining.{step-score, LettersPassed, letters-start, letters_next}
 use Rattle.storing.proofs.Carrying.{emission-range}
 
@@ -68,81 +71,86 @@ links-next {v} {n} {links} {a} h e t = record {
 -- ---- the row of one letter
 
 -- the entries of its states below s are filled
-pub record Filling (v : List ℕ) (loop step : ℕ → ℕ → ℕ) (l s : ℕ) (row : List ℕ) : Type 0 where
-  pub long : 8 ≤ length row
-  pub loop_at : (r : ℕ) → r < s → get_or row r 0 ≡ loop l r
-  pub step_at : (r : ℕ) → suc r < s → get_or row (4 + suc r) 0 ≡ step l r
+pub record Filling (v : List ℕ) (loop step : ℕ → ℕ → ℕ) (l s : ℕ) (row : Moves) : Type 0 where
+  pub room : StatesRoom row
+  pub loop_at : (r : ℕ) → r < s → get_or row.loops r 0 ≡ loop l r
+  pub step_at : (r : ℕ) → suc r < s → get_or row.steps (suc r) 0 ≡ step l r
 
-pub fill_start : {v : List ℕ} {loop step : ℕ → ℕ → ℕ} {l : ℕ} {row : List ℕ} → 8 ≤ length row
+pub fill_start : {v : List ℕ} {loop step : ℕ → ℕ → ℕ} {l : ℕ} {row : Moves} → StatesRoom row
     → Filling v loop step l 0 row
-fill_start e = record { long = e; loop_at = λ r h. absurd (omega arith); step_at = λ r h. absurd (omega arith) }
+fill_start e = record { room = e; loop_at = λ r h. absurd (omega arith); step_at = λ r h. absurd (omega arith) }
 
 -- the next state's loop, and the step into it where it isn't the first
-pub fill-next : {v : List ℕ} {loop step : ℕ → ℕ → ℕ} {l s a b : ℕ} {row row' : List ℕ} → s < 4
-    → Filling v loop step l s row
+pub fill-next : {v : List ℕ} {loop step : ℕ → ℕ → ℕ} {l s a b : ℕ} {row row' : Moves} → Filling v loop step l s row
     → StatePut row s a b row' → a ≡ loop l s → ((p : ℕ) → s ≡ suc p → b ≡ step l p) → Filling v loop step l (s + 1) row'
-fill-next {v} {loop} {step} {l} {s} {a} {b} {row} {row'} h f e loop-is step_is = record {
-  long = omega (arith, e.long, f.long);
+fill-next {v} {loop} {step} {l} {s} {a} {b} {row} {row'} f e loop-is step_is = record {
+  room = e.room;
   loop_at = λ r k. loop_at r k (ℕ_discrete r s);
   step_at = λ r k. step_at r k (ℕ_discrete (suc r) s);
 }
   where
-    loop_at : (r : ℕ) → r < s + 1 → Dec (r ≡ s) → get_or row' r 0 ≡ loop l r
+    loop_at : (r : ℕ) → r < s + 1 → Dec (r ≡ s) → get_or row'.loops r 0 ≡ loop l r
     loop_at r k (yes d) = rw d (e.loop ∙ loop-is)
-    loop_at r k (no d) = e.others r d (λ q. omega arith) ∙ f.loop_at r (omega (arith, d))
+    loop_at r k (no d) = e.other_loops r d ∙ f.loop_at r (omega (arith, d))
 
-    step_at : (r : ℕ) → suc r < s + 1 → Dec (suc r ≡ s) → get_or row' (4 + suc r) 0 ≡ step l r
+    step_at : (r : ℕ) → suc r < s + 1 → Dec (suc r ≡ s) → get_or row'.steps (suc r) 0 ≡ step l r
     step_at r k (yes d) = rw d (e.step (omega arith) ∙ step_is r (sym d))
-    step_at r k (no d) = e.others (4 + suc r) (λ q. omega arith) (λ q. d (omega arith))
-        ∙ f.step_at r (omega (arith, d))
+    step_at r k (no d) = e.other_steps (suc r) d ∙ f.step_at r (omega (arith, d))
 
 -- after its states the letter is done
-pub fill_done : {v : List ℕ} {loop step : ℕ → ℕ → ℕ} {l s : ℕ} {row : List ℕ} → states v l ≤ s
+pub fill_done : {v : List ℕ} {loop step : ℕ → ℕ → ℕ} {l s : ℕ} {row : Moves} → states v l ≤ s
     → Filling v loop step l s row
     → LetterEntries v loop step l row
 fill_done h f = record { loop_at = λ r k. f.loop_at r (omega arith); step_at = λ r k. f.step_at r (omega arith) }
 
 -- what a state's stores leave
-module _ {row : List ℕ} {s : ℕ} (h : s < 4) (e : 8 ≤ length row) where
-  pub put-loop : {a a' b : ℕ} → s ≡ 0 → a' ≡ a → StatePut row s a b (set row s a')
+module _ {row : Moves} {s : ℕ} (h : s < 4) (e : StatesRoom row) where
+  pub put-loop : {a a' b : ℕ} → s ≡ 0 → a' ≡ a
+      → StatePut row s a b record { loops = set row.loops s a'; steps = row.steps }
   put-loop {a} {a'} z p = record {
-    long = length-set row s a';
-    loop = get_or-set_same row s a' 0 (omega arith) ∙ p;
+    room = record { loops = omega (arith, e.loops, length-set row.loops s a'); steps = e.steps };
+    loop = get_or-set_same row.loops s a' 0 (omega (arith, e.loops)) ∙ p;
     step = λ k. absurd (omega arith);
-    others = λ i d f. get_or-set_other row s i a' 0 d;
+    other_loops = λ i d. get_or-set_other row.loops s i a' 0 d;
+    other_steps = λ i d. refl;
   }
 
-  pub put_both : {a a' b b' : ℕ} → a' ≡ a → b' ≡ b → StatePut row s a b (set (set row s a') (4 + s) b')
+  pub put_both : {a a' b b' : ℕ} → a' ≡ a → b' ≡ b
+      → StatePut row s a b record { loops = set row.loops s a'; steps = set row.steps s b' }
   put_both {a} {a'} {b} {b'} p q = record {
-    long = length-set (set row s a') (4 + s) b' ∙ length-set row s a';
-    loop = get_or-set_other (set row s a') (4 + s) s b' 0 (λ q. omega arith) ∙ get_or-set_same row s a' 0 (omega arith) ∙ p;
-    step = λ k. get_or-set_same (set row s a') (4 + s) b' 0 (omega (arith, length-set row s a')) ∙ q;
-    others = λ i d f. get_or-set_other (set row s a') (4 + s) i b' 0 f ∙ get_or-set_other row s i a' 0 d;
+    room = record {
+      loops = omega (arith, e.loops, length-set row.loops s a');
+      steps = omega (arith, e.steps, length-set row.steps s b');
+    };
+    loop = get_or-set_same row.loops s a' 0 (omega (arith, e.loops)) ∙ p;
+    step = λ k. get_or-set_same row.steps s b' 0 (omega (arith, e.steps)) ∙ q;
+    other_loops = λ i d. get_or-set_other row.loops s i a' 0 d;
+    other_steps = λ i d. get_or-set_other row.steps s i b' 0 d;
   }
 
 -- the scores of the next state
-pub scores-next : {v : List ℕ} {l first s : ℕ} {pairs : List (List ℤ)} {row row' : List ℕ} → AtLetter v l first
+pub scores-next : {v : List ℕ} {l first s : ℕ} {pairs : List (List ℤ)} {row row' : Moves} → AtLetter v l first
     → s < states v l
     → pairs ≡ letter_pairs v first (states v l) → Filling v (loop_number v) (step_number v) l s row
     → StatePut row s (pair_score pairs s 0) (pair_score pairs (s - 1) 1) row'
     → Filling v (loop_number v) (step_number v) l (s + 1) row'
 scores-next {v} {l} {first} {s} {pairs} a h e f p =
-    fill-next (omega (arith, letter-few a)) f p (rw e (loop-score a s h))
+    fill-next f p (rw e (loop-score a s h))
     (λ r q. let z : s - 1 ≡ r = omega arith in rw (z, e) (step-score a r (omega arith)))
 
 -- ---- row by row
 
 -- the marked letters below this one have their rows, there is room for those that are left, and the first state of this
 -- one is known
-pub record Tabling (v : List ℕ) (marks : List Bool) (used first letter : ℕ) (letters : List (List ℕ)) : Type 0 where
+pub record Tabling (v : List ℕ) (marks : List Bool) (used first letter : ℕ) (letters : List Letter) : Type 0 where
   pub long : length letters ≡ 64
-  pub wide : {i : ℕ} → used ≤ i → i < 64 → 10 ≤ length (get_or letters i [])
+  pub wide : {i : ℕ} → used ≤ i → i < 64 → StatesRoom (get_or letters i no_letter).moves
   pub passed : LettersPassed v first letter
   pub few : used ≤ letter
-  pub row : (i : ℕ) → i < used → LetterRow v (get_or letters i [])
+  pub row : (i : ℕ) → i < used → LetterRow v (get_or letters i no_letter)
   pub all : (l : ℕ) → l < letter → get_or marks l false ≡ true → HasRow letters used l
 
-pub tabling_start : {v : List ℕ} {marks : List Bool} {letters : List (List ℕ)} → RowsRoom 10 letters
+pub tabling_start : {v : List ℕ} {marks : List Bool} {letters : List Letter} → LettersRoom letters
     → Tabling v marks 0 0 0 letters
 tabling_start {v} e = record {
   long = e.long;
@@ -153,26 +161,26 @@ tabling_start {v} e = record {
   all = λ l h. absurd (omega arith);
 }
 
-module _ {v : List ℕ} {marks : List Bool} {used first letter : ℕ} {letters : List (List ℕ)}
+module _ {v : List ℕ} {marks : List Bool} {used first letter : ℕ} {letters : List Letter}
     (a : AtLetter v letter first)
     (f : Tabling v marks used first letter letters) where
-  pub tabling_take : {row : List ℕ} → LetterRow v row → letter_in row ≡ letter
+  pub tabling_take : {row : Letter} → LetterRow v row → letter_in row ≡ letter
       → Tabling v marks (used + 1) (first + states v letter) (letter + 1) (set letters used row)
   tabling_take {row} r e = record {
     long = length-set letters used row ∙ f.long;
-    wide = λ {i} k h. rw (get_or-set_other letters used i row [] (λ q. omega arith)) (f.wide (omega arith) h);
+    wide = λ {i} k h. rw (get_or-set_other letters used i row no_letter (λ q. omega arith)) (f.wide (omega arith) h);
     passed = letters_next a f.passed;
     few = omega (arith, f.few);
     row = λ i k. rows i k (ℕ_discrete i used);
     all = λ l k m. all l k m (ℕ_discrete l letter);
   }
     where
-      here : get_or (set letters used row) used [] ≡ row
-      here = get_or-set_same letters used row [] (omega (arith, f.long, f.few, letter-small a))
+      here : get_or (set letters used row) used no_letter ≡ row
+      here = get_or-set_same letters used row no_letter (omega (arith, f.long, f.few, letter-small a))
 
-      rows : (i : ℕ) → i < used + 1 → Dec (i ≡ used) → LetterRow v (get_or (set letters used row) i [])
+      rows : (i : ℕ) → i < used + 1 → Dec (i ≡ used) → LetterRow v (get_or (set letters used row) i no_letter)
       rows i k (yes q) = rw (q, here) r
-      rows i k (no q) = rw (get_or-set_other letters used i row [] q) (f.row i (omega (arith, q)))
+      rows i k (no q) = rw (get_or-set_other letters used i row no_letter q) (f.row i (omega (arith, q)))
 
       all : (l : ℕ) → l < letter + 1 → get_or marks l false ≡ true → Dec (l ≡ letter) → HasRow (set letters used row)
           (used + 1) l
@@ -183,7 +191,7 @@ module _ {v : List ℕ} {marks : List Bool} {used first letter : ℕ} {letters :
           record {
             at = h.at;
             inside = omega arith;
-            same = ap letter_in (get_or-set_other letters used h.at row [] (λ z. omega arith)) ∙ h.same;
+            same = ap letter_in (get_or-set_other letters used h.at row no_letter (λ z. omega arith)) ∙ h.same;
           }
 
   pub tabling_skip : get_or marks letter false ≡ false → Tabling v marks used (first + states v letter)
@@ -201,7 +209,7 @@ module _ {v : List ℕ} {marks : List Bool} {used first letter : ℕ} {letters :
       all l k m (yes q) = absurd (false≢true (sym e ∙ ap (λ j. get_or marks j false) (sym q) ∙ m))
       all l k m (no q) = f.all l (omega (arith, q)) m
 
-pub tabling_done : {v x : List ℕ} {marks : List Bool} {used first letter : ℕ} {letters : List (List ℕ)}
+pub tabling_done : {v x : List ℕ} {marks : List Bool} {used first letter : ℕ} {letters : List Letter}
     → letter_count v ≤ 64
     → ((u : ℕ) → 1 ≤ u → u ≤ node_count x → node_letter x u < letter_count v)
     → letter_count v ≤ letter → LettersMarked x (node_count x) marks → Tabling v marks used first letter letters
@@ -211,11 +219,12 @@ tabling_done few known h m f = record {
   all = λ u l k. f.all _ (omega (arith, known u l k)) (m.marked u l k);
 }
 
-pub gained-start : {v : List ℕ} {k : ℕ} {scores gains : List (List ℕ)} → RowsRoom 8 gains → Gained v k scores 0 gains
+pub gained-start : {v : List ℕ} {k : ℕ} {scores : List Letter} {gains : List Moves} → GainsRoom gains
+    → Gained v k scores 0 gains
 gained-start e = record { room = e; row = λ i h. absurd (omega arith) }
 
-pub gained-next : {v : List ℕ} {k i : ℕ} {scores gains : List (List ℕ)} {row : List ℕ} → letter_at scores i < 64
-    → Gained v k scores i gains → 8 ≤ length row
+pub gained-next : {v : List ℕ} {k i : ℕ} {scores : List Letter} {gains : List Moves} {row : Moves}
+    → letter_at scores i < 64 → Gained v k scores i gains → StatesRoom row
     → GainRow v k (letter_at scores i) row → Gained v k scores (i + 1) (set gains (letter_at scores i) row)
 gained-next {v} {k} {i} {scores} {gains} {row} h d w p = record {
   room = record {
@@ -225,54 +234,56 @@ gained-next {v} {k} {i} {scores} {gains} {row} h d w p = record {
   row = λ j m. at j m (ℕ_discrete (letter_at scores j) (letter_at scores i));
 }
   where
-    wide : (l : ℕ) → l < 64 → Dec (l ≡ letter_at scores i) → 8 ≤ length (get_or (set gains (letter_at scores i) row) l [])
-    wide l m (yes e) = rw (e, get_or-set_same gains (letter_at scores i) row [] (omega (arith, d.room.long))) w
-    wide l m (no e) = rw (get_or-set_other gains (letter_at scores i) l row [] e) (d.room.wide m)
+    wide : (l : ℕ) → l < 64 → Dec (l ≡ letter_at scores i)
+        → StatesRoom (get_or (set gains (letter_at scores i) row) l no_moves)
+    wide l m (yes e) = rw (e, get_or-set_same gains (letter_at scores i) row no_moves (omega (arith, d.room.long))) w
+    wide l m (no e) = rw (get_or-set_other gains (letter_at scores i) l row no_moves e) (d.room.wide m)
 
     at : (j : ℕ) → j < i + 1 → Dec (letter_at scores j ≡ letter_at scores i)
-        → GainRow v k (letter_at scores j) (get_or (set gains (letter_at scores i) row) (letter_at scores j) [])
-    at j m (yes e) = rw (e, get_or-set_same gains (letter_at scores i) row [] (omega (arith, d.room.long))) p
-    at j m (no e) = rw (get_or-set_other gains (letter_at scores i) (letter_at scores j) row [] e)
+        → GainRow v k (letter_at scores j) (get_or (set gains (letter_at scores i) row) (letter_at scores j) no_moves)
+    at j m (yes e) = rw (e, get_or-set_same gains (letter_at scores i) row no_moves (omega (arith, d.room.long))) p
+    at j m (no e) = rw (get_or-set_other gains (letter_at scores i) (letter_at scores j) row no_moves e)
         (d.row j (before (ℕ_discrete j i)))
       where
         before : Dec (j ≡ i) → j < i
         before (yes q) = absurd (e (ap (λ m. letter_at scores m) q))
         before (no q) = omega (arith, q)
 
-pub gains_room : {v : List ℕ} {k n : ℕ} {scores gains : List (List ℕ)} → Gained v k scores n gains → RowsRoom 8 gains
+pub gains_room : {v : List ℕ} {k n : ℕ} {scores : List Letter} {gains : List Moves} → Gained v k scores n gains
+    → GainsRoom gains
 gains_room d = d.room
 
-pub gained-done : {v : List ℕ} {k n i : ℕ} {scores gains : List (List ℕ)} → n ≤ i → Gained v k scores i gains
-    → Gained v k scores n gains
+pub gained-done : {v : List ℕ} {k n i : ℕ} {scores : List Letter} {gains : List Moves} → n ≤ i
+    → Gained v k scores i gains → Gained v k scores n gains
 gained-done h d = record { room = d.room; row = λ j k. d.row j (omega arith) }
 
-pub letter-scored : {v row : List ℕ} {l first : ℕ} → AtLetter v l first → get_or row 8 0 ≡ l → get_or row 9 0 ≡ first
-    → LetterEntries v (loop_number v) (step_number v) l row → LetterRow v row
+pub letter-scored : {v : List ℕ} {row : Letter} {l first : ℕ} → AtLetter v l first → row.index ≡ l
+    → row.first_state ≡ first → LetterEntries v (loop_number v) (step_number v) l row.moves → LetterRow v row
 letter-scored {v} {row} {l} a e f d = record {
   letter = rw e a.letter;
   first = rw e (f ∙ a.begins);
   scores = rw e d;
 }
 
-pub row-letter : {v row : List ℕ} → voice_verdict v ≡ well_formed → LetterRow v row
-    → AtLetter v (get_or row 8 0) (get_or row 9 0)
+pub row-letter : {v : List ℕ} {row : Letter} → voice_verdict v ≡ well_formed → LetterRow v row
+    → AtLetter v row.index row.first_state
 row-letter w r = record { formed = w; letter = r.letter; begins = r.first }
 
 -- ---- one letter at a frame
 
-module _ {v : List ℕ} {l : ℕ} {scores : List ℕ} (e : LetterEntries v (loop_number v) (step_number v) l scores) where
-  pub loop_near : {s : ℕ} → s < states v l → NearBias (get_or scores s 0)
+module _ {v : List ℕ} {l : ℕ} {scores : Moves} (e : LetterEntries v (loop_number v) (step_number v) l scores) where
+  pub loop_near : {s : ℕ} → s < states v l → NearBias (get_or scores.loops s 0)
   unfolding loop_number loop_score
   loop_near {s} h = rw (e.loop_at s h) (number_near (loop_score v (first_state v l + s)) (i16-range v _))
 
-  pub step_near : {s p : ℕ} → s ≡ suc p → s < states v l → NearBias (get_or scores (4 + s) 0)
+  pub step_near : {s p : ℕ} → s ≡ suc p → s < states v l → NearBias (get_or scores.steps s 0)
   unfolding step_number step_score
   step_near {s} {p} q h = rw (q, e.step_at p (omega arith))
       (number_near (step_score v (first_state v l + p)) (i16-range v _))
 
   pub loop-gain : (k : ℕ) {s emitted : ℕ} → s < states v l
       → emitted ≡ number_of (possible (emission v (first_state v l + s) k))
-      → number_sum (get_or scores s 0) emitted ≡ loop_gain v k l s
+      → number_sum (get_or scores.loops s 0) emitted ≡ loop_gain v k l s
   unfolding loop_number loop_score loop_gain
   loop-gain k {s} h q = rw (e.loop_at s h, q)
       (sum_both (loop_score v (first_state v l + s)) (emission v (first_state v l + s) k) (i16-range v _)
@@ -280,18 +291,19 @@ module _ {v : List ℕ} {l : ℕ} {scores : List ℕ} (e : LetterEntries v (loop
 
   pub step-gain : (k : ℕ) {s emitted : ℕ} → suc s < states v l
       → emitted ≡ number_of (possible (emission v (first_state v l + suc s) k))
-      → number_sum (get_or scores (4 + suc s) 0) emitted ≡ step_gain v k l s
+      → number_sum (get_or scores.steps (suc s) 0) emitted ≡ step_gain v k l s
   unfolding step_number step_score step_gain
   step-gain k {s} h q = rw (e.step_at s h, q)
       (sum_both (step_score v (first_state v l + s)) (emission v (first_state v l + suc s) k) (i16-range v _)
       (emission-range v _ k))
 
   -- the gain of the first state's loop
-  pub first-gained : (k : ℕ) {first emitted b : ℕ} {row₀ row : List ℕ} → AtLetter v l first
-      → emitted ≡ number_of (possible (emission v (first + 0) k)) → 8 ≤ length row₀
-      → FirstPut (number_sum (get_or scores 0 0) emitted) b row₀ row → Filling v (loop_gain v k) (step_gain v k) l 1 row
-  first-gained k {first} {emitted} {b} {row₀} {row} a q w d = record {
-    long = omega (arith, d.long, w);
+  pub first-gained : (k : ℕ) {first emitted b : ℕ} {row : Moves} → AtLetter v l first
+      → emitted ≡ number_of (possible (emission v (first + 0) k))
+      → FirstPut (number_sum (get_or scores.loops 0 0) emitted) b row
+      → Filling v (loop_gain v k) (step_gain v k) l 1 row
+  first-gained k {first} {emitted} {b} {row} a q d = record {
+    room = d.room;
     loop_at = λ r h. at r h (ℕ_discrete r 0);
     step_at = λ r h. absurd (omega arith);
   }
@@ -299,19 +311,20 @@ module _ {v : List ℕ} {l : ℕ} {scores : List ℕ} (e : LetterEntries v (loop
       one : 1 ≤ states v l
       one = (states-range v a.formed a.letter).0
 
-      at : (r : ℕ) → r < 1 → Dec (r ≡ 0) → get_or row r 0 ≡ loop_gain v k l r
+      at : (r : ℕ) → r < 1 → Dec (r ≡ 0) → get_or row.loops r 0 ≡ loop_gain v k l r
       at r h (yes z) = rw z (d.loop ∙ loop-gain k {s = 0} one (rw a.begins at q))
       at r h (no z) = absurd (z (omega arith))
 
   -- the gains of the next state
-  pub next-gained : (k : ℕ) {first s p emitted : ℕ} {row row' : List ℕ} → AtLetter v l first → s ≡ suc p
+  pub next-gained : (k : ℕ) {first s p emitted : ℕ} {row row' : Moves} → AtLetter v l first → s ≡ suc p
       → s < states v l
       → emitted ≡ number_of (possible (emission v (first + s) k)) → Filling v (loop_gain v k) (step_gain v k) l s row
-      → StatePut row s (number_sum (get_or scores s 0) emitted) (number_sum (get_or scores (4 + s) 0) emitted) row'
+      → StatePut row s (number_sum (get_or scores.loops s 0) emitted) (number_sum (get_or scores.steps s 0) emitted)
+      row'
       → Filling v (loop_gain v k) (step_gain v k) l (s + 1) row'
   next-gained k {first} {s} {p} {emitted} a e h q f d =
       let i : emitted ≡ number_of (possible (emission v (first_state v l + s) k)) = rw a.begins at q in
-      fill-next (omega (arith, letter-few a)) f d (loop-gain k h i)
+      fill-next f d (loop-gain k h i)
       (λ r w. rw w (step-gain k {s = r} (omega arith) (rw w at i)))
 
 -- ---- where an emission stands
@@ -341,9 +354,10 @@ emission_near v place e = rw e (number_near (i16 v place) (i16-range v place))
 
 -- ---- the letters of nodes
 
-module _ {v x : List ℕ} {n : ℕ} {scores : List (List ℕ)} (t : NodeLetters v x n scores) {k : ℕ} {gains : List (List ℕ)}
+module _ {v x : List ℕ} {n : ℕ} {scores : List Letter} (t : NodeLetters v x n scores) {k : ℕ} {gains : List Moves}
     (g : Gained v k scores n gains) where
-  node_row : (u : ℕ) → 1 ≤ u → u ≤ node_count x → GainRow v k (node_letter x u) (get_or gains (node_letter x u) [])
+  node_row : (u : ℕ) → 1 ≤ u → u ≤ node_count x
+      → GainRow v k (node_letter x u) (get_or gains (node_letter x u) no_moves)
   node_row u l h = let a = t.all u l h in rw a.same at (g.row a.at a.inside)
 
   pub move_gains : MoveGains v x k gains

@@ -1,5 +1,5 @@
 -- A part of the store that is lent as a place and comes back, and a place that is copied: what their slots are. By the
--- bytes. And the turns of the loop that offers a place the tokens of an earlier one. Assumes nothing.
+-- bytes. And an earlier place, whose tokens are offered to such a part. Assumes nothing.
 use Prim.Native.Nat.{ℕ, suc, ◌+◌, ◌-◌, ◌*◌, ◌<◌, ◌≤◌}
 use mathlib.Core.Path.{◌≡◌, refl, sym, ap, ap₂, ◌∙◌}
 use mathlib.Core.Logic.{◌⊎◌, inl, inr, ⊎_elim}
@@ -9,10 +9,9 @@ use lib.ListN.{length, get_or, take, drop, replicate, length-take, length-drop}
 use lib.ListN.{replicate-append-replicate, get_or-append}
 use lib.Seq.{get_or-take, get_or-drop, get_or-append-add, length-take-le, take_all, drop-append_seam}
 use borrow.Rule.Slice.PartMut.{put_mid}
-use Rattle.storing.specs.Slots.{token_at, slots, Changed, enter, offered, PlaceRoom, MoveFits, Falling, Offer}
-use Rattle.storing.proofs.Slots.{u32_ext, slots_ext, length-slots, slots_cut, slots-step, slots_get}
-use Rattle.storing.proofs.Falling.{falling_enter, falling_drop, falling_none}
-use Rattle.storing.proofs.Moving.{from-holds, offered-ends, offered-goes, offered-done, offered-late}
+use Rattle.storing.specs.Slots.{token_at, slots, Changed, offered, PlaceRoom, Falling, Offer}
+use Rattle.storing.proofs.Slots.{u32_ext, slots_ext, length-slots, slots_cut, slots-step}
+use Rattle.storing.proofs.Falling.{falling_drop, falling_none}
 
 -- ---- a copy
 
@@ -113,56 +112,39 @@ changed-apart {b} {b'} c m j h =
 
 -- ---- tokens of an earlier place
 
--- before token i of it: what is left to offer makes the whole offer, and no other place has changed
-pub record FromLeft (n f k up down : ℕ) (b₀ : List ℕ) (i : ℕ) (b : List ℕ) : Type 0 where
-  pub few : i ≤ n
-  pub long : length b ≡ length b₀
-  pub target : Falling (slots n k b)
-  pub outside : (j : ℕ) → (j < k) ⊎ (k + n ≤ j) → token_at b j ≡ token_at b₀ j
-  pub left : offered up down (drop i (take n (slots n f b₀))) (slots n k b) ≡ offered up down (slots n f b₀) (slots n k b₀)
-
 pub take-slots : (n k : ℕ) (b : List ℕ) → take n (slots n k b) ≡ slots n k b
 take-slots n k b = take_all n (slots n k b) (omega (arith, length-slots n k b))
 
-module _ {n f k up down : ℕ} {b₀ : List ℕ} (below : f + n ≤ k) (o : Offer n k up down (slots n f b₀) b₀) where
-  pub from_start : FromLeft n f k up down b₀ 0 b₀
-  from_start = record {
-    few = omega arith;
-    long = refl;
-    target = o.target;
-    outside = λ j h. refl;
-    left = ap (λ l. offered up down l (slots n k b₀)) (take-slots n f b₀);
-  }
+module _ {n k up down : ℕ} (from : ℕ) {b : List ℕ} (below : from + n ≤ k) (o : Offer n k up down (slots n from b) b) where
+  -- it stands whole before the part lent for slot k
+  pub slots-before : slots n from (take (8 * k) b) ≡ slots n from b
+  slots-before = slots_ext n from from (take (8 * k) b) b (λ i h. token_ext _ _ (from + i) (from + i)
+      (λ m g. get_or-take (8 * k) b (8 * (from + i) + m) 0 (omega arith)))
 
-  module _ {i : ℕ} {b : List ℕ} (L : FromLeft n f k up down b₀ i b) where
-    -- the offer ends where nothing more enters
-    from-ends : offered up down (drop i (take n (slots n f b₀))) (slots n k b) ≡ slots n k b
-        → Changed k n (offered up down (slots n f b₀) (slots n k b₀)) b₀ b
-    from-ends e = record { inside = sym e ∙ L.left; outside = L.outside }
+  -- its tokens are candidates for that part
+  pub lent_offer : PlaceRoom n from (take (8 * k) b)
+      × Offer n 0 up down (slots n from (take (8 * k) b)) (take (8 * n) (drop (8 * k) b))
+  lent_offer = (
+    record {
+      one = o.room.one;
+      few = o.room.few;
+      room = simp length-take (omega (arith, below, o.room.room));
+    },
+    rw slots-before (record {
+      room = part_room o.room (8 * n) refl;
+      long = o.long;
+      fits = o.fits;
+      source = o.source;
+      target = rw (part-slots b k n (8 * n) refl) o.target;
+    }),
+  )
 
-    pub from-done : n ≤ i → Changed k n (offered up down (slots n f b₀) (slots n k b₀)) b₀ b
-    from-done h = from-ends (offered-done up down n i (slots n f b₀) (slots n k b) h)
-
-    module _ (h : i < n) {token : ℕ} (read : token ≡ token_at b (f + i)) where
-      -- the token that is read is still the one at the beginning
-      old : token ≡ get_or (slots n f b₀) i 0
-      old = read ∙ L.outside (f + i) (inl (omega arith)) ∙ sym (slots_get n f i b₀ 0 h)
-
-      pub from-none : token ≡ 0 → Changed k n (offered up down (slots n f b₀) (slots n k b₀)) b₀ b
-      from-none z = from-ends (offered-ends up down n i _ (slots n k b) h o.long (sym old ∙ z))
-
-      pub from-fits : ¬ (token ≡ 0) → MoveFits up down token
-      from-fits z = rw old (o.fits _ (from-holds n i _ h o.long) (λ e. z (old ∙ e)))
-
-      pub from-late : token + up - down < token_at b (k + n - 1) → Changed k n (offered up down (slots n f b₀) (slots n k b₀)) b₀ b
-      from-late l = from-ends (offered-late up down n i k (k + n - 1) _ b (omega arith) h o.long o.source L.target (rw old at l))
-
-      pub from_next : ¬ (token ≡ 0) → {b' : List ℕ} → length b' ≡ length b → Changed k n (enter (token + up - down) (slots n k b)) b b'
-          → FromLeft n f k up down b₀ (i + 1) b'
-      from_next z {b'} long c = record {
-        few = omega arith;
-        long = long ∙ L.long;
-        target = rw c.inside (falling_enter L.target (token + up - down));
-        outside = λ j g. c.outside j g ∙ L.outside j g;
-        left = rw (c.inside, old) (sym (offered-goes up down n i _ (slots n k b) h o.long (λ e. z (old ∙ e))) ∙ L.left);
-      }
+  -- what the part holds after it, the place holds, and no other has changed
+  pub lent_back : (part : List ℕ) → length part ≡ length (take (8 * n) (drop (8 * k) b))
+      → slots n 0 part ≡ offered up down (slots n from (take (8 * k) b)) (slots n 0 (take (8 * n) (drop (8 * k) b)))
+      → Changed k n (offered up down (slots n from b) (slots n k b)) b
+      (take (8 * k) b ++ (part ++ drop (8 * n) (drop (8 * k) b)))
+  lent_back part long e =
+      part-back b part k n (8 * n) _ refl o.room.room
+      (long ∙ simp (length-take, length-drop) (omega (arith, o.room.room)))
+      (rw (slots-before, part-slots b k n (8 * n) refl) at e)

@@ -2,7 +2,7 @@
 -- have the same number and all are below their count. And the table of vertices while its first slots, and at a frame
 -- its emissions, are filled, node by node. Assumes nothing.
 use mathlib.Core.Path.{◌≡◌, refl, sym, ap, ◌∙◌}
-use mathlib.Core.List.{List, [], map, map-append}
+use mathlib.Core.List.{List, map, map-append}
 use Prim.Native.Nat.{ℕ, zero, suc, ◌+◌, ◌-◌, ◌*◌, ◌≤◌, ◌<◌}
 use native.Mathlib.Nat.{add-zero, mul-zero, mul-one, mul-add, mul-le-mul}
 use native.Mathlib.Omega.{arith}
@@ -16,8 +16,12 @@ use Rattle.voice.specs.Voice.{states}
 use Rattle.lexicon.specs.Lexicon.{node_count, node_letter, sink_of}
 use Rattle.graph.specs.Graph.{Graph, graph_of, sink}
 use Rattle.graph.specs.Conditions.{place_count}
+use Rattle.checking.specs.declared.Vertex.{Vertex}
+use Rattle.checking.specs.Tables.{no_vertex, list_field, paths_field, slot_field, emission_field}
 use Rattle.checking.proofs.Arcs.{shape_of}
 use Rattle.checking.proofs.Counting.{Images, formed, node-read}
+use Rattle.storing.specs.declared.Moves.{Moves}
+use Rattle.storing.specs.Gains.{entry_in}
 use Rattle.storing.specs.Places.{first_place, first_slot, arcs_in, paths_in, first_in, emission_in, VertexRows}
 use Rattle.storing.specs.Places.{SlotsPut, NodesRead, EmissionsPut}
 
@@ -77,42 +81,46 @@ module _ (v : List ℕ) (g : Graph) where
 
 -- ---- the table
 
--- one number is put into the table: a, into column j of row w
-abbrev pub cell_put : List (List ℕ) → ℕ → ℕ → ℕ → List (List ℕ)
-cell_put t w j a = set t w (set (get_or t w []) j a)
+-- vertex w of the table has another first slot, or another emission
+abbrev pub slot_put : List Vertex → ℕ → ℕ → List Vertex
+slot_put t w a = set t w record {
+  arcs_at = arcs_in t w;
+  paths = paths_in t w;
+  first_slot = a;
+  emission = emission_in t w;
+}
 
-module _ (t : List (List ℕ)) (w j a : ℕ) (r : VertexRows t) (h : w < 402) where
-  own_row : {u : ℕ} → u ≡ w → get_or (cell_put t w j a) u [] ≡ set (get_or t w []) j a
-  own_row e = rw e (get_or-set_same t w (set (get_or t w []) j a) [] (omega (arith, r.long)))
+abbrev pub emission_put : List Vertex → ℕ → ℕ → List Vertex
+emission_put t w a = set t w record {
+  arcs_at = arcs_in t w;
+  paths = paths_in t w;
+  first_slot = first_in t w;
+  emission = a;
+}
 
-  other_row : {u : ℕ} → ¬ (u ≡ w) → get_or (cell_put t w j a) u [] ≡ get_or t u []
-  other_row {u} d = get_or-set_other t w u (set (get_or t w []) j a) [] d
+-- vertex w of the table is put
+module _ (t : List Vertex) (w : ℕ) (p : Vertex) (r : VertexRows t) where
+  pub rows-put : VertexRows (set t w p)
+  rows-put = record { long = length-set t w p ∙ r.long }
 
-  pub cell_here : j < 4 → get_or (get_or (cell_put t w j a) w []) j 0 ≡ a
-  cell_here k = rw (own_row refl) (get_or-set_same (get_or t w []) j a 0 (omega (arith, r.wide h)))
+  module _ (field : Vertex → ℕ) where
+    pub put-here : w < 402 → field (get_or (set t w p) w no_vertex) ≡ field p
+    put-here h = ap field (get_or-set_same t w p no_vertex (omega (arith, r.long)))
 
-  -- in another row
-  pub cell_apart : {u : ℕ} (i : ℕ) → ¬ (u ≡ w) → get_or (get_or (cell_put t w j a) u []) i 0 ≡ get_or (get_or t u []) i 0
-  cell_apart i d = rw (other_row d)
+    -- of another vertex
+    pub put-apart : {u : ℕ} → ¬ (u ≡ w) → field (get_or (set t w p) u no_vertex) ≡ field (get_or t u no_vertex)
+    put-apart {u} d = ap field (get_or-set_other t w u p no_vertex d)
 
-  -- in another column
-  pub cell_beside : (u : ℕ) {i : ℕ} → ¬ (i ≡ j) → get_or (get_or (cell_put t w j a) u []) i 0 ≡ get_or (get_or t u []) i 0
-  cell_beside u {i} d = elim (ℕ_discrete u w) [
-    | yes e ↦ rw (own_row e, e) (get_or-set_other (get_or t w []) j i a 0 d)
-    | no f ↦ cell_apart i f
-  ]
-
-  pub cell_rows : VertexRows (cell_put t w j a)
-  cell_rows = record {
-    long = length-set t w (set (get_or t w []) j a) ∙ r.long;
-    wide = λ {u} k. elim (ℕ_discrete u w) [
-      | yes e ↦ rw (own_row e) (length-set (get_or t w []) j a ∙ r.wide h)
-      | no f ↦ rw (other_row f) (r.wide k)
-    ];
-  }
+    -- another field
+    pub put-beside : w < 402 → (u : ℕ) → field p ≡ field (get_or t w no_vertex)
+        → field (get_or (set t w p) u no_vertex) ≡ field (get_or t u no_vertex)
+    put-beside h u e = elim (ℕ_discrete u w) [
+      | yes q ↦ rw q (put-here h ∙ e)
+      | no d ↦ put-apart d
+    ]
 
 -- the nodes below this one have their first slot, and its own is known; lists and path counts of the table t are kept
-pub record SlotsFound (v x : List ℕ) (n node slot : ℕ) (t t' : List (List ℕ)) : Type 0 where
+pub record SlotsFound (v x : List ℕ) (n node slot : ℕ) (t t' : List Vertex) : Type 0 where
   pub rows : VertexRows t'
   pub first : {u : ℕ} → 1 ≤ u → u < node → first_in t' u ≡ first_slot v (graph_of x) n u
   pub arcs : (u : ℕ) → arcs_in t' u ≡ arcs_in t u
@@ -122,7 +130,7 @@ pub record SlotsFound (v x : List ℕ) (n node slot : ℕ) (t t' : List (List �
   pub high : node ≤ sink_of x
   pub few : slot ≤ 32 * node
 
-pub slots-start : (v x : List ℕ) (n : ℕ) {t : List (List ℕ)} → VertexRows t → SlotsFound v x n 1 0 t t
+pub slots-start : (v x : List ℕ) (n : ℕ) {t : List Vertex} → VertexRows t → SlotsFound v x n 1 0 t t
 unfolding first_place sink_of from sum
 slots-start v x n r = record {
   rows = r;
@@ -136,25 +144,25 @@ slots-start v x n r = record {
 }
 
 -- with this one's slot
-slot-found : {v x : List ℕ} {n node slot : ℕ} {t t' : List (List ℕ)} → SlotsFound v x n node slot t t' → node < 402
-    → {u : ℕ} → 1 ≤ u → u ≤ node → first_in (cell_put t' node 2 slot) u ≡ first_slot v (graph_of x) n u
+slot-found : {v x : List ℕ} {n node slot : ℕ} {t t' : List Vertex} → SlotsFound v x n node slot t t' → node < 402
+    → {u : ℕ} → 1 ≤ u → u ≤ node → first_in (slot_put t' node slot) u ≡ first_slot v (graph_of x) n u
 slot-found {node = node} {slot} {t' = t'} p h {u} l k = elim (ℕ_discrete u node) [
-  | yes q ↦ rw q (cell_here t' node 2 slot p.rows h (omega arith) ∙ p.here)
-  | no d ↦ cell_apart t' node 2 slot p.rows h 2 d ∙ p.first l (omega (arith, d))
+  | yes q ↦ rw q (put-here t' node _ p.rows slot_field h ∙ p.here)
+  | no d ↦ put-apart t' node _ p.rows slot_field d ∙ p.first l (omega (arith, d))
 ]
 
-pub slots_next : {v x : List ℕ} {n node slot : ℕ} {t t' : List (List ℕ)} → Images v x → n ≤ 8
+pub slots_next : {v x : List ℕ} {n node slot : ℕ} {t t' : List Vertex} → Images v x → n ≤ 8
     → SlotsFound v x n node slot t t' → node ≤ node_count x
     → (n * get_or v (2 + 2 * get_or x (1 + node) 0) 0 ≤ 32)
-    × SlotsFound v x n (node + 1) (slot + n * get_or v (2 + 2 * get_or x (1 + node) 0) 0) t (cell_put t' node 2 slot)
+    × SlotsFound v x n (node + 1) (slot + n * get_or v (2 + 2 * get_or x (1 + node) 0) 0) t (slot_put t' node slot)
 unfolding node_letter states sink_of
 slots_next {v} {x} {n} {node} {slot} {t} {t'} i e p h = (
   slots-few,
   rw add-one (record {
-    rows = cell_rows t' node 2 slot p.rows room;
+    rows = rows-put t' node _ p.rows;
     first = λ l k. slot-found p room l (omega arith);
-    arcs = λ u. cell_beside t' node 2 slot p.rows room u (λ q. omega arith) ∙ p.arcs u;
-    paths = λ u. cell_beside t' node 2 slot p.rows room u (λ q. omega arith) ∙ p.paths u;
+    arcs = λ u. put-beside t' node _ p.rows list_field room u refl ∙ p.arcs u;
+    paths = λ u. put-beside t' node _ p.rows paths_field room u refl ∙ p.paths u;
     here = next node p.low p.here;
     low = omega arith;
     high = omega arith;
@@ -174,84 +182,85 @@ slots_next {v} {x} {n} {node} {slot} {t} {t'} i e p h = (
     next (suc m) l q = rw (q, place-next v (graph_of x) m) (sym (mul-add n _ _))
 
 -- the sink comes last: its slot, and no emission
-pub slots-done : {v x : List ℕ} {n node slot : ℕ} {t t' : List (List ℕ)} → SlotsFound v x n node slot t t'
+pub slots-done : {v x : List ℕ} {n node slot : ℕ} {t t' : List Vertex} → SlotsFound v x n node slot t t'
     → node_count x < node → node < 402
-    → SlotsPut v x n t (cell_put (cell_put t' node 2 slot) node 3 0) slot
+    → SlotsPut v x n t (emission_put (slot_put t' node slot) node 0) slot
 unfolding sink_of sink
 slots-done {v} {x} {n} {node} {slot} {t} {t'} p h k = record {
-  rows = cell_rows t'' node 3 0 r k;
-  first = λ {u} l m. cell_beside t'' node 3 0 r k u (λ q. omega arith) ∙ slot-found p k l (omega arith);
-  sink = rw (sym e) (cell_here t'' node 3 0 r k (omega arith));
-  arcs = λ u. beside u (λ q. omega arith) (λ q. omega arith) ∙ p.arcs u;
-  paths = λ u. beside u (λ q. omega arith) (λ q. omega arith) ∙ p.paths u;
+  rows = rows-put t'' node _ r;
+  first = λ {u} l m. put-beside t'' node _ r slot_field k u refl ∙ slot-found p k l (omega arith);
+  sink = rw (sym e) (put-here t'' node _ r emission_field k);
+  arcs = λ u. put-beside t'' node _ r list_field k u refl ∙ put-beside t' node _ p.rows list_field k u refl
+      ∙ p.arcs u;
+  paths = λ u. put-beside t'' node _ r paths_field k u refl ∙ put-beside t' node _ p.rows paths_field k u refl
+      ∙ p.paths u;
   total = p.here ∙ ap (first_slot v (graph_of x) n) e ∙ ap (λ (a : ℕ). n * a) (places-all v (graph_of x));
 }
   where
     e : node ≡ suc (node_count x)
     e = omega (arith, p.high)
 
-    t'' : List (List ℕ)
-    t'' = cell_put t' node 2 slot
+    t'' : List Vertex
+    t'' = slot_put t' node slot
 
     r : VertexRows t''
-    r = cell_rows t' node 2 slot p.rows k
-
-    beside : (u : ℕ) {i : ℕ} → ¬ (i ≡ 3) → ¬ (i ≡ 2) → get_or (get_or (cell_put t'' node 3 0) u []) i 0
-        ≡ get_or (get_or t' u []) i 0
-    beside u c d = cell_beside t'' node 3 0 r k u c ∙ cell_beside t' node 2 slot p.rows k u d
+    r = rows-put t' node _ p.rows
 
 -- ---- the emissions of a frame
 
 -- the nodes below this one have theirs; nothing else of the table t has changed
-pub record EmissionsFound (x : List ℕ) (gains : List (List ℕ)) (node : ℕ) (t t' : List (List ℕ)) : Type 0 where
+pub record EmissionsFound (x : List ℕ) (gains : List Moves) (node : ℕ) (t t' : List Vertex) : Type 0 where
   pub rows : VertexRows t'
-  pub emission : {u : ℕ} → 1 ≤ u → u < node → emission_in t' u ≡ get_or (get_or gains (node_letter x u) []) 4 0
+  pub emission : {u : ℕ} → 1 ≤ u → u < node → emission_in t' u ≡ entry_in gains (node_letter x u)
   pub sink : emission_in t' (sink_of x) ≡ emission_in t (sink_of x)
-  pub others : (u : ℕ) {i : ℕ} → ¬ (i ≡ 3) → get_or (get_or t' u []) i 0 ≡ get_or (get_or t u []) i 0
+  pub arcs : (u : ℕ) → arcs_in t' u ≡ arcs_in t u
+  pub paths : (u : ℕ) → paths_in t' u ≡ paths_in t u
+  pub first : (u : ℕ) → first_in t' u ≡ first_in t u
   pub low : 1 ≤ node
   pub high : node ≤ sink_of x
 
-pub emissions-start : (x : List ℕ) (gains : List (List ℕ)) {t : List (List ℕ)} → VertexRows t
+pub emissions-start : (x : List ℕ) (gains : List Moves) {t : List Vertex} → VertexRows t
     → EmissionsFound x gains 1 t t
 unfolding sink_of
 emissions-start x gains r = record {
   rows = r;
   emission = λ l k. absurd (omega arith);
   sink = refl;
-  others = λ u d. refl;
+  arcs = λ u. refl;
+  paths = λ u. refl;
+  first = λ u. refl;
   low = omega arith;
   high = omega arith;
 }
 
-pub emissions-next : {x : List ℕ} {gains : List (List ℕ)} {node nodes : ℕ} {t t' : List (List ℕ)} → NodesRead x nodes
+pub emissions-next : {x : List ℕ} {gains : List Moves} {node nodes : ℕ} {t t' : List Vertex} → NodesRead x nodes
     → EmissionsFound x gains node t t' → node ≤ node_count x
-    → EmissionsFound x gains (node + 1) t (cell_put t' node 3 (get_or (get_or gains (get_or x (1 + node) 0) []) 4 0))
+    → EmissionsFound x gains (node + 1) t (emission_put t' node (entry_in gains (get_or x (1 + node) 0)))
 unfolding node_letter sink_of
 emissions-next {x} {gains} {node} {t = t} {t' = t'} i p h = rw add-one (record {
-  rows = cell_rows t' node 3 own p.rows room;
+  rows = rows-put t' node _ p.rows;
   emission = λ {u} l k. elim (ℕ_discrete u node) [
-    | yes q ↦ rw q (cell_here t' node 3 own p.rows room (omega arith))
-    | no d ↦ cell_apart t' node 3 own p.rows room 3 d ∙ p.emission l (omega (arith, d))
+    | yes q ↦ rw q (put-here t' node _ p.rows emission_field room)
+    | no d ↦ put-apart t' node _ p.rows emission_field d ∙ p.emission l (omega (arith, d))
   ];
-  sink = cell_apart t' node 3 own p.rows room 3 (λ q. omega arith) ∙ p.sink;
-  others = λ u d. cell_beside t' node 3 own p.rows room u d ∙ p.others u d;
+  sink = put-apart t' node _ p.rows emission_field (λ q. omega arith) ∙ p.sink;
+  arcs = λ u. put-beside t' node _ p.rows list_field room u refl ∙ p.arcs u;
+  paths = λ u. put-beside t' node _ p.rows paths_field room u refl ∙ p.paths u;
+  first = λ u. put-beside t' node _ p.rows slot_field room u refl ∙ p.first u;
   low = omega arith;
   high = omega arith;
 })
   where
-    own : ℕ
-    own = get_or (get_or gains (get_or x (1 + node) 0) []) 4 0
-
     room : node < 402
     room = omega (arith, (shape_of i.formed).few)
 
-pub emissions-done : {x : List ℕ} {gains : List (List ℕ)} {node : ℕ} {t t' : List (List ℕ)}
+pub emissions-done : {x : List ℕ} {gains : List Moves} {node : ℕ} {t t' : List Vertex}
     → EmissionsFound x gains node t t' → node_count x < node → EmissionsPut x gains t t'
 emissions-done p h = record {
   rows = p.rows;
   emission = λ l k. p.emission l (omega arith);
   sink = p.sink;
-  arcs = λ u. p.others u (λ q. omega arith);
-  paths = λ u. p.others u (λ q. omega arith);
-  first = λ u. p.others u (λ q. omega arith);
+  arcs = p.arcs;
+  paths = p.paths;
+  first = p.first;
 }

@@ -24,6 +24,7 @@ use Rattle.lexicon.proofs.WellFormed.{letter_known}
 use Rattle.graph.specs.Graph.{Graph, graph_of, sink, path_count, word_count, increment}
 use Rattle.graph.proofs.Codes.{arc-count}
 use Rattle.graph.proofs.Accepted.{AcceptedImages, accepted}
+use Rattle.checking.specs.declared.Vertex.{Vertex}
 use Rattle.checking.specs.Tables.{WellFormed}
 use Rattle.checking.proofs.Arcs.{shape_of, sound_of, has-entry, ListThere, list-there, ArcNext, arc-next}
 use Rattle.checking.proofs.Arcs.{arcs-done}
@@ -54,7 +55,7 @@ use Rattle.storing.proofs.Carrying.{emission-range, worth-by, passed-long, passe
 
 -- ---- what is accepted
 
-module _ {v x : List ℕ} {n : ℕ} {vertices : List (List ℕ)} (r : VertexTable v x n vertices) where
+module _ {v x : List ℕ} {n : ℕ} {vertices : List Vertex} (r : VertexTable v x n vertices) where
   images : AcceptedImages v x
   images = accepted r.accepted
 
@@ -77,7 +78,7 @@ module _ {v x : List ℕ} {n : ℕ} {vertices : List (List ℕ)} (r : VertexTabl
 -- ---- a node's last state
 
 -- its place ends where the next vertex's first begins
-pub record LastPlace (v x : List ℕ) (n : ℕ) (vertices : List (List ℕ)) (w : ℕ) (b : List ℕ) : Type 0 where
+pub record LastPlace (v x : List ℕ) (n : ℕ) (vertices : List Vertex) (w : ℕ) (b : List ℕ) : Type 0 where
   pub vertex : w ≤ 400
   pub long : n ≤ first_in vertices (w + 1)
   pub small : first_in vertices (w + 1) ≤ 8008
@@ -85,7 +86,7 @@ pub record LastPlace (v x : List ℕ) (n : ℕ) (vertices : List (List ℕ)) (w 
   pub slot : first_in vertices (w + 1) - n ≡ n * (first_place v (graph_of x) w + last_state v (graph_of x) w)
   pub room : PlaceRoom n (first_in vertices (w + 1) - n) b
 
-module _ {v x : List ℕ} {n : ℕ} {vertices : List (List ℕ)} {w : ℕ} {b : List ℕ} (r : VertexTable v x n vertices)
+module _ {v x : List ℕ} {n : ℕ} {vertices : List Vertex} {w : ℕ} {b : List ℕ} (r : VertexTable v x n vertices)
     (m : StoreRoom v x n b) (low : 1 ≤ w) (high : w ≤ node_count x) where
   last-state : last_state v (graph_of x) w < states v (node_letter x w)
   unfolding last_state
@@ -115,7 +116,7 @@ module _ {v x : List ℕ} {n : ℕ} {vertices : List (List ℕ)} {w : ℕ} {b : 
 -- ---- one arc
 
 -- the scores that are added for it
-pub record ArcRead (vertices : List (List ℕ)) (link u : ℕ) : Type 0 where
+pub record ArcRead (vertices : List Vertex) (link u : ℕ) : Type 0 where
   pub link_near : NearBias link
   pub entry_near : NearBias (emission_in vertices u)
 
@@ -126,7 +127,7 @@ unfolding source
 source-apart true n k a c = refl
 source-apart false n k a c = changed-apart c n k (inl (a refl))
 
-module _ {n : ℕ} {vertices : List (List ℕ)} {link : ℕ} {root : Bool} {from u down : ℕ} {b : List ℕ}
+module _ {n : ℕ} {vertices : List Vertex} {link : ℕ} {root : Bool} {from u down : ℕ} {b : List ℕ}
     (t : Arc n vertices link root from u down b) where
   abbrev x : List ℕ
   x = t.x
@@ -290,7 +291,7 @@ module _ {n : ℕ} {vertices : List (List ℕ)} {link : ℕ} {root : Bool} {from
 
 -- ---- an arc of the root
 
-module _ {n : ℕ} {vertices : List (List ℕ)} {u down : ℕ} {b : List ℕ} (t : Arc n vertices bias true 0 u down b) where
+module _ {n : ℕ} {vertices : List Vertex} {u down : ℕ} {b : List ℕ} (t : Arc n vertices bias true 0 u down b) where
   abbrev image : List ℕ
   image = t.x
 
@@ -329,7 +330,7 @@ root-sum {e = suc e} n = omega arith
 
 -- ---- all arcs
 
-module _ {x : List ℕ} {n : ℕ} {vertices : List (List ℕ)} {link w : ℕ} {root : Bool} {from : ℕ} {b₀ : List ℕ}
+module _ {x : List ℕ} {n : ℕ} {vertices : List Vertex} {link w : ℕ} {root : Bool} {from : ℕ} {b₀ : List ℕ}
     (t : PassingOn x n vertices link w root from b₀) where
   -- Q is the store when the arcs to the earlier successors are done
   pub record PassingLeft (at stop down : ℕ) (b : List ℕ) : Type 0 where

@@ -24,6 +24,7 @@ use Rattle.passing.specs.InPlace.{put, renew_down}
 use Rattle.passing.proofs.Order.{hits_strict}
 use Rattle.passing.proofs.Best.{best-from, best-best, best-left}
 use Rattle.passing.proofs.InPlace.{put-state}
+use Rattle.storing.specs.declared.Moves.{Moves}
 use Rattle.storing.specs.Slots.{slots, offered, PlaceRoom, Offer, Changed}
 use Rattle.storing.specs.Held.{held, lift, down_of}
 use Rattle.storing.specs.Gains.{loop_gain, step_gain}
@@ -78,7 +79,7 @@ own_put {n} {S} P u {s} {b} {b'} {l} h O c k = record { holds = λ {r} q. at q (
     best q (same e f z) = rw z k
     best q (other d z) = rw z (O.kept q)
 
-module _ {n s : ℕ} {row b : List ℕ} (t : Renewing n (suc s) row b) where
+module _ {n s : ℕ} {row : Moves} {b : List ℕ} (t : Renewing n (suc s) row b) where
   abbrev g : Graph
   g = graph_of t.x
 
@@ -113,14 +114,14 @@ module _ {n s : ℕ} {row b : List ℕ} (t : Renewing n (suc s) row b) where
   room_at : {r : ℕ} {b' : List ℕ} → r < suc s → length b' ≡ length b → PlaceRoom n (n * r) b'
   room_at h e = record { one = t.one; few = t.eight; room = omega (arith, block n (inside h), t.room) }
 
-  loop-worth : Worth (get_or row s 0) (loop_move t.v g t.P t.k t.node s)
+  loop-worth : Worth (get_or row.loops s 0) (loop_move t.v g t.P t.k t.node s)
   unfolding loop_move loop_gain symbol_score state_of loop_score
   loop-worth =
       worth_of (loop_score t.v (first_state t.v letter + s)) (emission t.v (first_state t.v letter + s) t.k)
       (i16-range t.v _) (emission-range t.v _ t.k)
       (t.moves.loop_at s (omega (arith, t.few, t.all)))
 
-  pub staying : Staying n (n * s) (get_or row s 0) b
+  pub staying : Staying n (n * s) (get_or row.loops s 0) b
   staying = record {
     score = loop_move t.v g t.P t.k t.node s;
     l = t.P t.node s;
@@ -132,7 +133,7 @@ module _ {n s : ℕ} {row b : List ℕ} (t : Renewing n (suc s) row b) where
 
   -- the place as it is lent
   pub lent_staying : (b' : List ℕ) → slots n 0 b' ≡ slots n (n * s) b → 8 * n ≤ length b'
-      → Staying n 0 (get_or row s 0) b'
+      → Staying n 0 (get_or row.loops s 0) b'
   unfolding staying
   lent_staying b' e l = record {
     score = staying.score;
@@ -163,25 +164,24 @@ module _ {n s : ℕ} {row b : List ℕ} (t : Renewing n (suc s) row b) where
     before : r < suc s
     before = omega arith
 
-    step-worth : Worth (get_or row (4 + s) 0) (step_move t.v g t.P t.k t.node r)
+    step-worth : Worth (get_or row.steps s 0) (step_move t.v g t.P t.k t.node r)
     unfolding step_move step_gain symbol_score state_of step_score
     step-worth =
-        let at : 4 + s ≡ 4 + suc r = omega arith in
         worth_of (step_score t.v (first_state t.v letter + r)) (emission t.v (first_state t.v letter + suc r) t.k)
         (i16-range t.v _) (emission-range t.v _ t.k)
-        (ap (λ i. get_or row i 0) at ∙ t.moves.step_at r (omega (arith, t.few, t.all)))
+        (ap (λ i. get_or row.steps i 0) e ∙ t.moves.step_at r (omega (arith, t.few, t.all)))
 
     renewed-is : renewed t.v g t.P t.k t.node s
         ≡ carried (loop_move t.v g t.P t.k t.node s) 0 (t.P t.node s) ++ carried (step_move t.v g t.P t.k t.node r) 0 (t.P t.node r)
     renewed-is = renewed-later t.v g t.P t.k t.node s r e
 
     -- no step
-    pub loop-done : get_or row (4 + s) 0 ≡ 0 → {b' : List ℕ} → Changed (n * s) n (held n (stayed staying)) b b'
+    pub loop-done : get_or row.steps s 0 ≡ 0 → {b' : List ℕ} → Changed (n * s) n (held n (stayed staying)) b b'
         → Own n t.S (renewed_one t t.node) b'
     unfolding stayed staying carried
     loop-done z c = done c (renewed-is ∙ rw (worth-none step-worth z) (append-nil _))
 
-    pub step-few : get_or row (4 + s) 0 ≤ bias + frame_limit
+    pub step-few : get_or row.steps s 0 ≤ bias + frame_limit
     step-few = worth-few step-worth
 
     slot_next : n * s ≡ n * r + n
@@ -200,7 +200,7 @@ module _ {n s : ℕ} {row b : List ℕ} (t : Renewing n (suc s) row b) where
           changed-apart c n (n * s - n) (inl (omega (arith, slot-covers)))
           ∙ rw slot-before (t.stored.holds (inside before))
 
-      step_offering : Offering n (n * s) (get_or row (4 + s) 0) lift (slots n (n * s - n) b') b'
+      step_offering : Offering n (n * s) (get_or row.steps s 0) lift (slots n (n * s - n) b') b'
       unfolding down_of stayed staying
       step_offering = record {
         score = step_move t.v g t.P t.k t.node r;
@@ -220,9 +220,9 @@ module _ {n s : ℕ} {row b : List ℕ} (t : Renewing n (suc s) row b) where
             (best-from hits_strict n _ h i));
       }
 
-      module _ (z : ¬ (get_or row (4 + s) 0 ≡ 0)) where
+      module _ (z : ¬ (get_or row.steps s 0 ≡ 0)) where
         abbrev up : ℕ
-        up = get_or row (4 + s) 0 * 4294967296
+        up = get_or row.steps s 0 * 4294967296
 
         pub step-ready : Offer n (n * s) up lift (slots n (n * s - n) b') b'
         step-ready = pass_to-ready step_offering z
@@ -239,7 +239,7 @@ module _ {n s : ℕ} {row b : List ℕ} (t : Renewing n (suc s) row b) where
 
 -- ---- all states
 
-module _ {n states₀ : ℕ} {row b₀ : List ℕ} (t : Renewing n states₀ row b₀) where
+module _ {n states₀ : ℕ} {row : Moves} {b₀ : List ℕ} (t : Renewing n states₀ row b₀) where
   -- Q is the store when the states from s on are renewed
   pub record RenewLeft (s : ℕ) (b : List ℕ) : Type 0 where
     pub Q : Store

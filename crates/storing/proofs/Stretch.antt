@@ -17,6 +17,7 @@ use Rattle.graph.specs.Conditions.{place_count}
 use Rattle.graph.proofs.Accepted.{AcceptedImages, accepted}
 use Rattle.passing.specs.Tokens.{best_tokens}
 use Rattle.passing.proofs.InPlace.{renew_apart}
+use Rattle.storing.specs.declared.Moves.{Moves}
 use Rattle.storing.specs.Slots.{token_at, slots, Changed}
 use Rattle.storing.specs.Held.{held}
 use Rattle.storing.specs.Places.{first_place}
@@ -42,7 +43,7 @@ sub-slots N k m a b e n j h = slots_ext n (k + j) (m + j) a b one
         ∙ slots_get N m (j + i) b 0 (omega arith)
         ∙ ap (token_at b) q
 
-module _ {n first s : ℕ} {row b : List ℕ} (t : Renewal n first s row b) where
+module _ {n first s : ℕ} {row : Moves} {b : List ℕ} (t : Renewal n first s row b) where
   abbrev g : Graph
   g = graph_of t.x
 

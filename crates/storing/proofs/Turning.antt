@@ -5,7 +5,7 @@ use mathlib.Core.Path.{◌≡◌, refl, ap, ◌∙◌}
 use mathlib.Core.Bool.{false, false≢true}
 use mathlib.Core.Logic.{⊎_elim}
 use mathlib.Core.List.Memᴰ.{append_cases}
-use mathlib.Core.List.{List, [], Memᴰ}
+use mathlib.Core.List.{List, Memᴰ}
 use mathlib.Core.Option.{some}
 use native.Mathlib.Omega.{arith}
 use native.Mathlib.Decide.{ℕ_discrete}
@@ -17,6 +17,7 @@ use Rattle.voice.proofs.Letters.{states_there}
 use Rattle.lexicon.specs.Lexicon.{node_count, node_letter, sink_of}
 use Rattle.graph.specs.Graph.{Graph, graph_of, sink}
 use Rattle.graph.proofs.Accepted.{accepted}
+use Rattle.checking.specs.declared.Vertex.{Vertex}
 use Rattle.checking.proofs.Arcs.{shape_of, sound_of, nodes-there}
 use Rattle.ranking.specs.Hits.{Hit}
 use Rattle.decoder.specs.Score.{frame_limit, possible, plus}
@@ -25,6 +26,8 @@ use Rattle.passing.specs.InPlace.{pass_node}
 use Rattle.passing.proofs.Order.{hits_strict}
 use Rattle.passing.proofs.Best.{best-from}
 use Rattle.passing.proofs.InPlace.{renew_apart, pass_other, node-own, node-other}
+use Rattle.storing.specs.declared.Moves.{Moves}
+use Rattle.storing.specs.Gains.{no_moves}
 use Rattle.storing.specs.Slots.{slots}
 use Rattle.storing.specs.Held.{held}
 use Rattle.storing.specs.Gains.{link_number}
@@ -60,7 +63,7 @@ module _ (v : List ℕ) (g : Graph) (P : Store) (k u M : ℕ) where
       (λ j. carried-bound M u u 0 _ (P u s) (step_small s) (λ h j. f s h (omega arith) j) (omega arith) j)
       (append_cases _ i)
 
-module _ {v x : List ℕ} {n : ℕ} {vertices gains : List (List ℕ)} {links : List ℕ} {w : ℕ} {b : List ℕ}
+module _ {v x : List ℕ} {n : ℕ} {vertices : List Vertex} {gains : List Moves} {links : List ℕ} {w : ℕ} {b : List ℕ}
     (t : Turn v x n vertices gains links w b) where
   abbrev g : Graph
   g = graph_of x
@@ -164,7 +167,7 @@ module _ {v x : List ℕ} {n : ℕ} {vertices gains : List (List ℕ)} {links : 
     own-kept {s} =
         pass_other v g n t.k _ w old (g.successors w) t.P w s (λ i. omega (arith, (sound_of (lexicon-formed t.ready)).rises below i))
 
-    pub renewing : Renewal n (first_in vertices w) count (get_or gains letter []) b'
+    pub renewing : Renewal n (first_in vertices w) count (get_or gains letter no_moves) b'
     unfolding node_letter states passing_on
     renewing = record {
       v = v;
@@ -210,7 +213,7 @@ module _ {v x : List ℕ} {n : ℕ} {vertices gains : List (List ℕ)} {links : 
     unfolding turned pass_node passed_on passing_on entry_score
     turned-above {u} s l = renew_apart v g n t.k w _ _ {w = u} {r = s} (λ q. omega arith)
 
-    pub turn-done : {b'' : List ℕ} → ((r : Renewal n (first_in vertices w) count (get_or gains letter []) b')
+    pub turn-done : {b'' : List ℕ} → ((r : Renewal n (first_in vertices w) count (get_or gains letter no_moves) b')
         → Stored r.v (graph_of r.x) n (renewal r) b'')
         → length b'' ≡ length b'
         → TurnDone t b''

@@ -7,6 +7,7 @@ use Rattle.voice.specs.Voice.{states}
 use Rattle.lexicon.specs.Lexicon.{node_count, node_letter, successors}
 use Rattle.graph.specs.Graph.{graph_of, increment}
 use Rattle.graph.specs.Checking.{Accepted}
+use Rattle.checking.specs.declared.Vertex.{Vertex}
 use Rattle.ranking.specs.Hits.{Hit}
 use Rattle.decoder.specs.Score.{frame_limit, reach, number_of}
 use Rattle.passing.specs.Best.{shift}
@@ -15,6 +16,7 @@ use Rattle.passing.specs.InPlace.{put, renew_down}
 use Rattle.storing.specs.Slots.{slots, PlaceRoom}
 use Rattle.storing.specs.Held.{held, down_of, Storable}
 use Rattle.storing.specs.Places.{first_slot}
+use Rattle.storing.specs.declared.Moves.{Moves}
 use Rattle.storing.specs.Gains.{MoveRow}
 use Rattle.storing.specs.Stored.{StoreRoom, Bound, Stored, PassingOn}
 
@@ -64,7 +66,7 @@ joined {n} t = best_tokens n (t.s ++ carried t.score t.d t.l)
 
 -- ---- one arc: from vertex w to u, where the store is as far as the arcs before it left it
 
-pub record Arc (n : ℕ) (vertices : List (List ℕ)) (link : ℕ) (root : Bool) (from u down : ℕ) (b : List ℕ)
+pub record Arc (n : ℕ) (vertices : List Vertex) (link : ℕ) (root : Bool) (from u down : ℕ) (b : List ℕ)
     : Type 0 where
   pub x : List ℕ
   pub w : ℕ
@@ -72,7 +74,7 @@ pub record Arc (n : ℕ) (vertices : List (List ℕ)) (link : ℕ) (root : Bool)
   pub arc : Memᴰ u (successors x w)
   pub down_is : down ≡ down_of (increment (graph_of x) w u)
 
-unfoldable pub over_one : {n : ℕ} {vertices : List (List ℕ)} {link : ℕ} {root : Bool} {from u down : ℕ} {b : List ℕ}
+unfoldable pub over_one : {n : ℕ} {vertices : List Vertex} {link : ℕ} {root : Bool} {from u down : ℕ} {b : List ℕ}
     → Arc n vertices link root from u down b → Store
 over_one {n} {u = u} t =
     let h = t.passing_on in
@@ -86,7 +88,7 @@ pub record Own (n S : ℕ) (l : ℕ → List Hit) (part : List ℕ) : Type 0 whe
   pub kept : {r : ℕ} → r < S → best_tokens n (l r) ≡ l r
 
 -- those below s are still old
-pub record Renewing (n s : ℕ) (row part : List ℕ) : Type 0 where
+pub record Renewing (n s : ℕ) (row : Moves) (part : List ℕ) : Type 0 where
   pub v : List ℕ
   pub x : List ℕ
   pub k : ℕ
@@ -108,15 +110,15 @@ pub record Renewing (n s : ℕ) (row part : List ℕ) : Type 0 where
   pub fits : M + frame_limit ≤ reach
 
 -- the store once state s is renewed, and once all states below s are
-unfoldable pub renewed_one : {n s : ℕ} {row part : List ℕ} → Renewing n (suc s) row part → Store
+unfoldable pub renewed_one : {n s : ℕ} {row : Moves} {part : List ℕ} → Renewing n (suc s) row part → Store
 renewed_one {n} {s = s} t =
     put t.P t.node s (best_tokens n (renewed t.v (graph_of t.x) t.P t.k t.node s))
 
-unfoldable pub renewed_all : {n s : ℕ} {row part : List ℕ} → Renewing n s row part → Store
+unfoldable pub renewed_all : {n s : ℕ} {row : Moves} {part : List ℕ} → Renewing n s row part → Store
 renewed_all {n} {s = s} t = renew_down t.v (graph_of t.x) n t.k t.node s t.P
 
 -- a node's part of the whole store, which is lent on
-pub record Renewal (n first s : ℕ) (row b : List ℕ) : Type 0 where
+pub record Renewal (n first s : ℕ) (row : Moves) (b : List ℕ) : Type 0 where
   pub v : List ℕ
   pub x : List ℕ
   pub k : ℕ
@@ -134,5 +136,5 @@ pub record Renewal (n first s : ℕ) (row b : List ℕ) : Type 0 where
   pub bound : {r : ℕ} {h : Hit} → r < s → Memᴰ h (P node r) → Bound (graph_of x) M node h
   pub fits : M + frame_limit ≤ reach
 
-unfoldable pub renewal : {n first s : ℕ} {row b : List ℕ} → Renewal n first s row b → Store
+unfoldable pub renewal : {n first s : ℕ} {row : Moves} {b : List ℕ} → Renewal n first s row b → Store
 renewal {n} {s = s} t = renew_down t.v (graph_of t.x) n t.k t.node s t.P

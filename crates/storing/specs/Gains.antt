@@ -8,6 +8,8 @@ use Rattle.voice.specs.Voice.{letter_count, states, first_state, loop_score, ste
 use Rattle.voice.specs.Voice.{emission, voice_verdict}
 use Rattle.lexicon.specs.Lexicon.{node_count, node_letter}
 use Rattle.decoder.specs.Score.{bias, number_of, possible, plus}
+use Rattle.storing.specs.declared.Moves.{Moves}
+use Rattle.storing.specs.declared.Letter.{Letter}
 
 -- a number that is 0, or a stored score's: that plus the bias
 pub record NearBias (a : ℕ) : Type 0 where
@@ -74,46 +76,62 @@ pub record LettersMarked (x : List ℕ) (m : ℕ) (marks : List Bool) : Type 0 w
   pub long : length marks ≡ 64
   pub marked : (u : ℕ) → 1 ≤ u → u ≤ m → get_or marks (node_letter x u) false ≡ true
 
--- ---- tables: a row a letter; column s for the loop of state s, column 4 + s for the step into it, and in a frame's
--- row column 4 for the emission of the first
+-- ---- tables: a row a letter; the numbers of its states' loops and of the steps into them, and in a frame's row the
+-- emission of the first in place of a step into it
+
+-- what a place after a table's end holds
+abbrev pub no_moves : Moves
+no_moves = record { loops = []; steps = [] }
+
+abbrev pub no_letter : Letter
+no_letter = record { moves = no_moves; index = 0; first_state = 0 }
 
 -- the entries of one letter: of each state's loop, and of the step into each state after the first
-pub record LetterEntries (v : List ℕ) (loop step : ℕ → ℕ → ℕ) (l : ℕ) (row : List ℕ) : Type 0 where
-  pub loop_at : (s : ℕ) → s < states v l → get_or row s 0 ≡ loop l s
-  pub step_at : (s : ℕ) → suc s < states v l → get_or row (4 + suc s) 0 ≡ step l s
+pub record LetterEntries (v : List ℕ) (loop step : ℕ → ℕ → ℕ) (l : ℕ) (row : Moves) : Type 0 where
+  pub loop_at : (s : ℕ) → s < states v l → get_or row.loops s 0 ≡ loop l s
+  pub step_at : (s : ℕ) → suc s < states v l → get_or row.steps (suc s) 0 ≡ step l s
 
--- the letter of a row of a call's table: column 8
-abbrev pub letter_in : List ℕ → ℕ
-letter_in row = get_or row 8 0
+-- the letter of a row of a call's table
+abbrev pub letter_in : Letter → ℕ
+letter_in row = row.index
 
--- what is read once a call of one letter in use: the numbers of its scores, and in column 9 that of its first state
-pub record LetterRow (v row : List ℕ) : Type 0 where
+-- what is read once a call of one letter in use: the numbers of its scores, and that of its first state
+pub record LetterRow (v : List ℕ) (row : Letter) : Type 0 where
   pub letter : letter_in row < letter_count v
-  pub first : get_or row 9 0 ≡ first_state v (letter_in row)
-  pub scores : LetterEntries v (loop_number v) (step_number v) (letter_in row) row
+  pub first : row.first_state ≡ first_state v (letter_in row)
+  pub scores : LetterEntries v (loop_number v) (step_number v) (letter_in row) row.moves
 
 -- the letter of row i
-abbrev pub letter_at : List (List ℕ) → ℕ → ℕ
-letter_at letters i = letter_in (get_or letters i [])
+abbrev pub letter_at : List Letter → ℕ → ℕ
+letter_at letters i = letter_in (get_or letters i no_letter)
 
 -- letter l has one of the first n rows
-pub record HasRow (letters : List (List ℕ)) (n l : ℕ) : Type 0 where
+pub record HasRow (letters : List Letter) (n l : ℕ) : Type 0 where
   pub at : ℕ
   pub inside : at < n
   pub same : letter_at letters at ≡ l
 
--- room for 64 rows of so many numbers, enough for one of each letter
-pub record RowsRoom (width : ℕ) (rows : List (List ℕ)) : Type 0 where
-  pub long : length rows ≡ 64
-  pub wide : {i : ℕ} → i < 64 → width ≤ length (get_or rows i [])
+-- room for the numbers of four states
+pub record StatesRoom (row : Moves) : Type 0 where
+  pub loops : 4 ≤ length row.loops
+  pub steps : 4 ≤ length row.steps
+
+-- and for 64 letters, which is enough for one row of each: in a call's table, and in a frame's
+pub record LettersRoom (letters : List Letter) : Type 0 where
+  pub long : length letters ≡ 64
+  pub wide : {i : ℕ} → i < 64 → StatesRoom (get_or letters i no_letter).moves
+
+pub record GainsRoom (gains : List Moves) : Type 0 where
+  pub long : length gains ≡ 64
+  pub wide : {i : ℕ} → i < 64 → StatesRoom (get_or gains i no_moves)
 
 -- the table of a call has n rows
-pub record LetterTable (v : List ℕ) (n : ℕ) (letters : List (List ℕ)) : Type 0 where
+pub record LetterTable (v : List ℕ) (n : ℕ) (letters : List Letter) : Type 0 where
   pub few : n ≤ 64
-  pub row : (i : ℕ) → i < n → LetterRow v (get_or letters i [])
+  pub row : (i : ℕ) → i < n → LetterRow v (get_or letters i no_letter)
 
 -- among them one for each letter that some node has
-pub record NodeLetters (v x : List ℕ) (n : ℕ) (letters : List (List ℕ)) : Type 0 where
+pub record NodeLetters (v x : List ℕ) (n : ℕ) (letters : List Letter) : Type 0 where
   pub table : LetterTable v n letters
   pub all : (u : ℕ) → 1 ≤ u → u ≤ node_count x → HasRow letters n (node_letter x u)
 
@@ -123,42 +141,47 @@ pub record LinkTable (v : List ℕ) (n : ℕ) (links : List ℕ) : Type 0 where
   pub link : (l : ℕ) → l < n → get_or links l 0 ≡ link_number v l
 
 -- the gains of one letter at a frame of symbol k, and the emission of its first state
-pub record GainRow (v : List ℕ) (k l : ℕ) (row : List ℕ) : Type 0 where
+pub record GainRow (v : List ℕ) (k l : ℕ) (row : Moves) : Type 0 where
   pub moves : LetterEntries v (loop_gain v k) (step_gain v k) l row
-  pub entry : get_or row 4 0 ≡ entry_number v k l
+  pub entry : get_or row.steps 0 0 ≡ entry_number v k l
 
 -- the table of a frame: row l is that of letter l, for the letters of the first n rows of a call's table
-pub record Gained (v : List ℕ) (k : ℕ) (letters : List (List ℕ)) (n : ℕ) (gains : List (List ℕ)) : Type 0 where
-  pub room : RowsRoom 8 gains
-  pub row : (i : ℕ) → i < n → GainRow v k (letter_at letters i) (get_or gains (letter_at letters i) [])
+pub record Gained (v : List ℕ) (k : ℕ) (letters : List Letter) (n : ℕ) (gains : List Moves) : Type 0 where
+  pub room : GainsRoom gains
+  pub row : (i : ℕ) → i < n → GainRow v k (letter_at letters i) (get_or gains (letter_at letters i) no_moves)
 
 -- of the moves inside one letter
-abbrev pub MoveRow : List ℕ → ℕ → ℕ → List ℕ → Type 0
+abbrev pub MoveRow : List ℕ → ℕ → ℕ → Moves → Type 0
 MoveRow v k l row = LetterEntries v (loop_gain v k) (step_gain v k) l row
 
 -- for the letters of nodes
-abbrev pub MoveGains : List ℕ → List ℕ → ℕ → List (List ℕ) → Type 0
+abbrev pub MoveGains : List ℕ → List ℕ → ℕ → List Moves → Type 0
 MoveGains v x k gains = (u : ℕ) → 1 ≤ u → u ≤ node_count x
-    → MoveRow v k (node_letter x u) (get_or gains (node_letter x u) [])
+    → MoveRow v k (node_letter x u) (get_or gains (node_letter x u) no_moves)
 
-abbrev pub EntryGains : List ℕ → List ℕ → ℕ → List (List ℕ) → Type 0
+-- the emission of letter l's first state
+abbrev pub entry_in : List Moves → ℕ → ℕ
+entry_in gains l = get_or (get_or gains l no_moves).steps 0 0
+
+abbrev pub EntryGains : List ℕ → List ℕ → ℕ → List Moves → Type 0
 EntryGains v x k gains = (u : ℕ) → 1 ≤ u → u ≤ node_count x
-    → get_or (get_or gains (node_letter x u) []) 4 0 ≡ entry_number v k (node_letter x u)
+    → entry_in gains (node_letter x u) ≡ entry_number v k (node_letter x u)
 
 -- ---- what calls ask
 
 -- the loop of state s and the move into it are put into a row; of the first state the move may be left out
-pub record StatePut (row : List ℕ) (s a b : ℕ) (row' : List ℕ) : Type 0 where
-  pub long : length row' ≡ length row
-  pub loop : get_or row' s 0 ≡ a
-  pub step : 1 ≤ s → get_or row' (4 + s) 0 ≡ b
-  pub others : (i : ℕ) → ¬ (i ≡ s) → ¬ (i ≡ 4 + s) → get_or row' i 0 ≡ get_or row i 0
+pub record StatePut (row : Moves) (s a b : ℕ) (row' : Moves) : Type 0 where
+  pub room : StatesRoom row'
+  pub loop : get_or row'.loops s 0 ≡ a
+  pub step : 1 ≤ s → get_or row'.steps s 0 ≡ b
+  pub other_loops : (i : ℕ) → ¬ (i ≡ s) → get_or row'.loops i 0 ≡ get_or row.loops i 0
+  pub other_steps : (i : ℕ) → ¬ (i ≡ s) → get_or row'.steps i 0 ≡ get_or row.steps i 0
 
 -- the first state's gains are put into a row: of its loop, and of its entry
-pub record FirstPut (a b : ℕ) (row row' : List ℕ) : Type 0 where
-  pub long : length row' ≡ length row
-  pub loop : get_or row' 0 0 ≡ a
-  pub entry : get_or row' 4 0 ≡ b
+pub record FirstPut (a b : ℕ) (row : Moves) : Type 0 where
+  pub room : StatesRoom row
+  pub loop : get_or row.loops 0 0 ≡ a
+  pub entry : get_or row.steps 0 0 ≡ b
 
 -- a symbol of a well-formed voice model
 pub record KnownSymbol (v : List ℕ) (k : ℕ) : Type 0 where

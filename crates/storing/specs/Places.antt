@@ -1,13 +1,16 @@
 -- The numbers of the places: those of a node's states follow each other, after those of the nodes below it (document
 -- 01, State paths and hits: each node's tokens fill one stretch of the work space). That no two places have the same
--- number is proved in proofs/Numbering.antt. And the columns of the table of vertices. Assumes nothing.
-use Rattle.std.specs.Prelude.{ℕ, zero, suc, ◌*◌, ◌≤◌, ◌<◌, ◌≡◌, List, [], map, length, get_or}
+-- number is proved in proofs/Numbering.antt. And the fields of the table of vertices. Assumes nothing.
+use Rattle.std.specs.Prelude.{ℕ, zero, suc, ◌*◌, ◌≤◌, ◌<◌, ◌≡◌, List, map, length, get_or}
 use Rattle.endian.specs.Lists.{from, sum}
 use Rattle.voice.specs.Voice.{states}
 use Rattle.lexicon.specs.Lexicon.{node_count, node_letter, sink_of}
 use Rattle.graph.specs.Graph.{Graph, graph_of}
 use Rattle.graph.specs.Conditions.{place_count}
-use Rattle.checking.specs.Tables.{WellFormed}
+use Rattle.checking.specs.declared.Vertex.{Vertex}
+use Rattle.checking.specs.Tables.{no_vertex, WellFormed}
+use Rattle.storing.specs.declared.Moves.{Moves}
+use Rattle.storing.specs.Gains.{entry_in}
 
 -- the number of node u's first place: the number of states of all nodes below it, so that node 1 begins at 0
 unfoldable pub first_place : List ℕ → Graph → ℕ → ℕ
@@ -21,26 +24,25 @@ first_slot v g n u = n * first_place v g u
 -- ---- the table of vertices: where vertex u's list begins, its path count, its first slot, and the number of the
 -- emission that enters it at a frame
 
-abbrev pub arcs_in : List (List ℕ) → ℕ → ℕ
-arcs_in t u = get_or (get_or t u []) 0 0
+abbrev pub arcs_in : List Vertex → ℕ → ℕ
+arcs_in t u = (get_or t u no_vertex).arcs_at
 
-abbrev pub paths_in : List (List ℕ) → ℕ → ℕ
-paths_in t u = get_or (get_or t u []) 1 0
+abbrev pub paths_in : List Vertex → ℕ → ℕ
+paths_in t u = (get_or t u no_vertex).paths
 
-abbrev pub first_in : List (List ℕ) → ℕ → ℕ
-first_in t u = get_or (get_or t u []) 2 0
+abbrev pub first_in : List Vertex → ℕ → ℕ
+first_in t u = (get_or t u no_vertex).first_slot
 
-abbrev pub emission_in : List (List ℕ) → ℕ → ℕ
-emission_in t u = get_or (get_or t u []) 3 0
+abbrev pub emission_in : List Vertex → ℕ → ℕ
+emission_in t u = (get_or t u no_vertex).emission
 
--- 402 rows of four numbers: enough for 400 nodes, the root and the sink
-pub record VertexRows (t : List (List ℕ)) : Type 0 where
+-- 402 entries: enough for 400 nodes, the root and the sink
+pub record VertexRows (t : List Vertex) : Type 0 where
   pub long : length t ≡ 402
-  pub wide : {u : ℕ} → u < 402 → length (get_or t u []) ≡ 4
 
 -- the first slots are put into the table t, no emission for the sink, and nothing else of what a vertex has for the
 -- whole call; r is the number of all slots
-pub record SlotsPut (v x : List ℕ) (n : ℕ) (t t' : List (List ℕ)) (r : ℕ) : Type 0 where
+pub record SlotsPut (v x : List ℕ) (n : ℕ) (t t' : List Vertex) (r : ℕ) : Type 0 where
   pub rows : VertexRows t'
   pub first : {u : ℕ} → 1 ≤ u → u ≤ sink_of x → first_in t' u ≡ first_slot v (graph_of x) n u
   pub sink : emission_in t' (sink_of x) ≡ 0
@@ -56,11 +58,10 @@ pub record NodesRead (x : List ℕ) (nodes : ℕ) : Type 0 where
   pub all : nodes ≡ node_count x
   pub letter : {u : ℕ} → 1 ≤ u → u ≤ node_count x → node_letter x u < 64
 
--- the emission of each node's letter, from column 4 of its row, is put into the table t; the sink's and the other
--- columns stay
-pub record EmissionsPut (x : List ℕ) (gains t t' : List (List ℕ)) : Type 0 where
+-- the emission of each node's letter, from its row, is put into the table t; the sink's and the other fields stay
+pub record EmissionsPut (x : List ℕ) (gains : List Moves) (t t' : List Vertex) : Type 0 where
   pub rows : VertexRows t'
-  pub emission : {u : ℕ} → 1 ≤ u → u ≤ node_count x → emission_in t' u ≡ get_or (get_or gains (node_letter x u) []) 4 0
+  pub emission : {u : ℕ} → 1 ≤ u → u ≤ node_count x → emission_in t' u ≡ entry_in gains (node_letter x u)
   pub sink : emission_in t' (sink_of x) ≡ emission_in t (sink_of x)
   pub arcs : (u : ℕ) → arcs_in t' u ≡ arcs_in t u
   pub paths : (u : ℕ) → paths_in t' u ≡ paths_in t u

@@ -9,6 +9,7 @@ use Rattle.lexicon.specs.Lexicon.{node_count, node_letter, sink_of, arcs_at, suc
 use Rattle.graph.specs.Graph.{Graph, graph_of, sink, path_count, word_count}
 use Rattle.graph.specs.Conditions.{place_count}
 use Rattle.graph.specs.Checking.{Accepted}
+use Rattle.checking.specs.declared.Vertex.{Vertex}
 use Rattle.ranking.specs.Hits.{Hit, hit}
 use Rattle.decoder.specs.Score.{frame_limit, reach, number_of, possible}
 use Rattle.passing.specs.Tokens.{Store, best_tokens}
@@ -16,11 +17,12 @@ use Rattle.passing.specs.InPlace.{pass_on, pass_node}
 use Rattle.storing.specs.Slots.{slots, PlaceRoom}
 use Rattle.storing.specs.Held.{held}
 use Rattle.storing.specs.Places.{first_place, first_slot, arcs_in, paths_in, first_in, emission_in, VertexRows}
+use Rattle.storing.specs.declared.Moves.{Moves}
 use Rattle.storing.specs.Gains.{MoveGains, entry_number, LinkTable}
 
 -- accepted images, and the table of their vertices, as far as it stays for the whole call; the first slots are those of
 -- n tokens a place, and the sink is never entered
-pub record VertexTable (v x : List ℕ) (n : ℕ) (vertices : List (List ℕ)) : Type 0 where
+pub record VertexTable (v x : List ℕ) (n : ℕ) (vertices : List Vertex) : Type 0 where
   pub accepted : Accepted v x
   pub rows : VertexRows vertices
   pub arcs : {u : ℕ} → u ≤ node_count x → arcs_in vertices u ≡ arcs_at x u
@@ -29,7 +31,7 @@ pub record VertexTable (v x : List ℕ) (n : ℕ) (vertices : List (List ℕ)) :
   pub sink : emission_in vertices (sink_of x) ≡ 0
 
 -- and what it has of a frame of symbol k: the emission of each node's first state
-abbrev pub NodeEmissions : List ℕ → List ℕ → ℕ → List (List ℕ) → Type 0
+abbrev pub NodeEmissions : List ℕ → List ℕ → ℕ → List Vertex → Type 0
 NodeEmissions v x k vertices = (u : ℕ) → 1 ≤ u → u ≤ node_count x
     → emission_in vertices u ≡ entry_number v k (node_letter x u)
 
@@ -69,7 +71,7 @@ source true n k b = held n (hit (pos 0) 0 ∷ [])
 source false n k b = slots n k b
 
 -- vertex w, root or node, passes on the tokens l over arcs of one score, at a frame of symbol k
-pub record PassingOn (x : List ℕ) (n : ℕ) (vertices : List (List ℕ)) (link w : ℕ) (root : Bool) (from : ℕ)
+pub record PassingOn (x : List ℕ) (n : ℕ) (vertices : List Vertex) (link w : ℕ) (root : Bool) (from : ℕ)
     (b : List ℕ) : Type 0 where
   pub v : List ℕ
   pub k : ℕ
@@ -99,12 +101,12 @@ pub record PassingOn (x : List ℕ) (n : ℕ) (vertices : List (List ℕ)) (link
       → Bound (graph_of x) (M + frame_limit) u h
 
 -- the store after it
-unfoldable pub passed_on : {x : List ℕ} {n : ℕ} {vertices : List (List ℕ)} {link w : ℕ} {root : Bool} {from : ℕ}
+unfoldable pub passed_on : {x : List ℕ} {n : ℕ} {vertices : List Vertex} {link w : ℕ} {root : Bool} {from : ℕ}
     {b : List ℕ}
     → PassingOn x n vertices link w root from b → Store
 passed_on {x} {n} {w = w} t = pass_on t.v (graph_of x) n t.k (λ u. t.score) w t.l (successors x w) t.Q
 
-pub record PassedOn {x : List ℕ} {n : ℕ} {vertices : List (List ℕ)} {link w : ℕ} {root : Bool} {from : ℕ}
+pub record PassedOn {x : List ℕ} {n : ℕ} {vertices : List Vertex} {link w : ℕ} {root : Bool} {from : ℕ}
     {b : List ℕ}
     (t : PassingOn x n vertices link w root from b) (b' : List ℕ) : Type 0 where
   pub stored : Stored t.v (graph_of x) n (passed_on t) b'
@@ -114,7 +116,7 @@ pub record PassedOn {x : List ℕ} {n : ℕ} {vertices : List (List ℕ)} {link 
 
 -- ---- a node's turn
 
-pub record Turn (v x : List ℕ) (n : ℕ) (vertices gains : List (List ℕ)) (links : List ℕ) (w : ℕ)
+pub record Turn (v x : List ℕ) (n : ℕ) (vertices : List Vertex) (gains : List Moves) (links : List ℕ) (w : ℕ)
     (b : List ℕ) : Type 0 where
   pub k : ℕ
   pub M : ℕ
@@ -131,12 +133,12 @@ pub record Turn (v x : List ℕ) (n : ℕ) (vertices gains : List (List ℕ)) (l
   pub fits : M + frame_limit ≤ reach
 
 -- the store after it
-unfoldable pub turned : {v x : List ℕ} {n : ℕ} {vertices gains : List (List ℕ)} {links : List ℕ} {w : ℕ} {b : List ℕ}
-    → Turn v x n vertices gains links w b → Store
+unfoldable pub turned : {v x : List ℕ} {n : ℕ} {vertices : List Vertex} {gains : List Moves} {links : List ℕ} {w : ℕ}
+    {b : List ℕ} → Turn v x n vertices gains links w b → Store
 turned {v} {x} {n} {w = w} t = pass_node v (graph_of x) n t.k w t.P
 
-pub record TurnDone {v x : List ℕ} {n : ℕ} {vertices gains : List (List ℕ)} {links : List ℕ} {w : ℕ} {b : List ℕ}
-    (t : Turn v x n vertices gains links w b) (b' : List ℕ) : Type 0 where
+pub record TurnDone {v x : List ℕ} {n : ℕ} {vertices : List Vertex} {gains : List Moves} {links : List ℕ} {w : ℕ}
+    {b : List ℕ} (t : Turn v x n vertices gains links w b) (b' : List ℕ) : Type 0 where
   pub stored : Stored v (graph_of x) n (turned t) b'
   pub within : Within v (graph_of x) (w - 1) t.M (turned t)
   pub long : length b' ≡ length b

@@ -18,27 +18,22 @@ use Rattle.endian.specs.Lists.{within, from}
 use Rattle.endian.specs.Bytes.{u8, u16}
 use Rattle.endian.proofs.Lists.{mem_flat_map, from_in}
 use Rattle.endian.proofs.Ranges.{bounds}
-use Rattle.voice.specs.Fields.{Field, field, end, Verdict, well_formed, wrong_length, out_of_range, verdict_of, verdict}
+use Rattle.voice.specs.Fields.{Field, field, end, Verdict, well_formed, wrong_length, out_of_range, fault_verdict, verdict}
 use Rattle.voice.specs.Voice.{letter_count, print_byte, states, first_state, states_at, state_count, links_at}
 use Rattle.voice.specs.Voice.{symbols_at, symbol_count, rising, good_link_count, letter_fields, state_fields, voice_fields}
 use Rattle.voice.specs.Voice.{voice_verdict}
 use Rattle.voice.specs.Sections.{field_verdict, and_then, first_bad, letters_part, states_part, last_part}
-use Rattle.voice.specs.declared.Verdict as declared
-use Rattle.voice.specs.declared.Verdict.TheVariants.{WellFormed, WrongLength, OutOfRange}
+use Rattle.voice.specs.declared.Fault.{Fault}
+use Rattle.voice.specs.declared.Fault.TheVariants.{WrongLength, OutOfRange}
 use Rattle.voice.proofs.Fields.{Good, AllGood}
 
 -- ---- one verdict and then another
 
--- what a `match` tells of a verdict that is not WellFormed
-abbrev pub Bad : declared.Verdict → Type 0
-Bad w = w ≡ WellFormed → ⊥
-
--- a bad verdict is the whole's
-pub stands : (w : declared.Verdict) → Bad w → (next : Verdict) → and_then (verdict_of w) next ≡ verdict_of w
+-- a fault is the whole's verdict
+pub stands : (f : Fault) (next : Verdict) → and_then (fault_verdict f) next ≡ fault_verdict f
 unfolding and_then
-stands WellFormed b next = absurd (b refl)
-stands WrongLength b next = refl
-stands OutOfRange b next = refl
+stands WrongLength next = refl
+stands OutOfRange next = refl
 
 then_assoc : (a b c : Verdict) → and_then (and_then a b) c ≡ and_then a (and_then b c)
 unfolding and_then
@@ -133,8 +128,9 @@ module _ (len : ℕ) (row : ℕ → List Field) (i n : ℕ) (next : Verdict) whe
       rw (e, add-one i, first-append len) (then_assoc (first_bad len (row i)) (first_bad len (flat_map row (from (suc i) (n - suc i)))) next)
 
   -- the next row has the first bad field
-  pub row_bad : i < n → (w : declared.Verdict) → Bad w → verdict_of w ≡ first_bad len (row i) → and_then (first_bad len (rows_left row i n)) next ≡ verdict_of w
-  row_bad h w b e = rows_step h ∙ rw (← e) (stands w b (and_then (first_bad len (rows_left row (i + 1) n)) next))
+  pub row_bad : i < n → (f : Fault) → fault_verdict f ≡ first_bad len (row i)
+      → and_then (first_bad len (rows_left row i n)) next ≡ fault_verdict f
+  row_bad h f e = rows_step h ∙ rw (← e) (stands f (and_then (first_bad len (rows_left row (i + 1) n)) next))
 
   -- the next row is passed over
   pub row-good : i < n → well_formed ≡ first_bad len (row i) → and_then (first_bad len (rows_left row i n)) next ≡ and_then (first_bad len (rows_left row (i + 1) n)) next

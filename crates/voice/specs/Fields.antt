@@ -1,8 +1,8 @@
 -- An image is a row of fields. How it is judged: fields are read in order, a missing field comes before its range, the earlier field wins,
 -- and extra bytes come last (document 01, under the refusal table). Assumes nothing.
-use Rattle.std.specs.Prelude.{ℕ, ◌+◌, Bool, cond, List, [], ◌∷◌, eqb, leb}
-use Rattle.voice.specs.declared.Verdict as declared
-use Rattle.voice.specs.declared.Verdict.TheVariants.{WellFormed, WrongLength, OutOfRange}
+use Rattle.std.specs.Prelude.{ℕ, ◌+◌, Result, Ok, Err, Bool, cond, List, [], ◌∷◌, eqb, leb}
+use Rattle.voice.specs.declared.Fault.{Fault}
+use Rattle.voice.specs.declared.Fault.TheVariants.{WrongLength, OutOfRange}
 
 -- A field: where its bytes begin, how many they are, and whether its value is in its range. Scores that may take any value and stand
 -- together are one field.
@@ -25,11 +25,15 @@ pub data Verdict : Type 0 where
   -- a field is out of its range
   out_of_range : Verdict
 
--- the verdict that each case of the code's enum is
-abbrev pub verdict_of : declared.Verdict → Verdict
-verdict_of WellFormed = well_formed
-verdict_of WrongLength = wrong_length
-verdict_of OutOfRange = out_of_range
+-- the verdict that a fault is
+abbrev pub fault_verdict : Fault → Verdict
+fault_verdict WrongLength = wrong_length
+fault_verdict OutOfRange = out_of_range
+
+-- the verdict that a judge's result is
+abbrev pub verdict_of : {A : Type 0} → Result A Fault → Verdict
+verdict_of (Ok a) = well_formed
+verdict_of (Err f) = fault_verdict f
 
 -- on an image of len bytes: the last field read ends at done, and the fields are still to be read
 unfoldable pub verdict : ℕ → ℕ → List Field → Verdict

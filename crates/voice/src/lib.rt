@@ -4,17 +4,18 @@
 ghost use Rattle.std.specs.Prelude.{◌≡◌, ◌&&◌, ◌||◌, ◌<◌, eqb, length};
 ghost use Rattle.endian.specs.Lists.{within};
 ghost use Rattle.endian.specs.Bytes.{u8};
+ghost use Rattle.call.specs.Table.{refusal_of};
 ghost use Rattle.voice.specs.Fields.{well_formed, verdict_of, verdict};
 ghost use Rattle.voice.specs.Voice.{print_byte, rising, letter_fields, links_at};
-ghost use Rattle.voice.specs.Voice.{voice_refusal, voice_refused};
+ghost use Rattle.voice.specs.Voice.{voice_verdict, voice_refused};
 ghost use Rattle.voice.specs.Sections.{field_verdict, first_bad, letters_part, states_part, last_part};
 
-use call::inside;
+use call::{Refusal, inside};
 use endian::u16_at;
 
+// Why an image is not well formed.
 #[derive(Clone, Copy)]
-pub enum Verdict {
-    WellFormed,
+pub enum Fault {
     // the bytes end inside a field, or go on after the last
     WrongLength,
     // a field is out of its range
@@ -25,23 +26,20 @@ pub enum Verdict {
 fn byte_at(voice: &[u8], at: usize) -> u8
     ensures { result ≡ u8 voice.now at }
 {
-    if voice.len() <= at {
-        return 0;
-    }
-    voice[at]
+    voice.get(at).copied().unwrap_or(0)
 }
 
 // One field, from where its bytes end: that they are missing comes before its range.
-fn judge_field(len: usize, end: usize, in_range: bool) -> Verdict
+fn judge_field(len: usize, end: usize, in_range: bool) -> Result<(), Fault>
     ensures { verdict_of result ≡ field_verdict len end in_range }
 {
     if len < end {
-        return Verdict::WrongLength;
+        return Err(Fault::WrongLength);
     }
-    if in_range {
-        return Verdict::WellFormed;
+    if !in_range {
+        return Err(Fault::OutOfRange);
     }
-    Verdict::OutOfRange
+    Ok(())
 }
 
 // Print bytes are 33 to 126 and strictly rising.
@@ -59,74 +57,55 @@ fn good_print(voice: &[u8], i: usize) -> bool
     byte_at(voice, 2 * i - 1) < print
 }
 
-fn judge_letter(voice: &[u8], i: usize) -> Verdict
+fn judge_letter(voice: &[u8], i: usize) -> Result<(), Fault>
     requires { i < 256 }
     ensures { verdict_of result ≡ first_bad (length voice.now) (letter_fields voice.now i) }
 {
-    let print = judge_field(voice.len(), 2 + 2 * i, good_print(voice, i));
-    let Verdict::WellFormed = print else {
-        return print;
-    };
+    judge_field(voice.len(), 2 + 2 * i, good_print(voice, i))?;
     let states = byte_at(voice, 2 + 2 * i);
     judge_field(voice.len(), 3 + 2 * i, inside(states as usize, 1, 4))
 }
 
 // The letters, and S with them: its range is the sum of their states, which are added up on the way.
-fn judge_letters(voice: &[u8]) -> Verdict
+fn judge_letters(voice: &[u8]) -> Result<(), Fault>
     ensures { verdict_of result ≡ first_bad (length voice.now) (letters_part voice.now) }
 {
     let letters = byte_at(voice, 0) as usize;
-    let first = judge_field(voice.len(), 1, inside(letters, 1, 64));
-    let Verdict::WellFormed = first else {
-        return first;
-    };
-    let mut sum: usize = 0;
-    let mut i = 0;
-    while i < letters {
-        let letter = judge_letter(voice, i);
-        let Verdict::WellFormed = letter else {
-            return letter;
-        };
+    judge_field(voice.len(), 1, inside(letters, 1, 64))?;
+    let mut sum = 0;
+    for i in 0..letters {
+        judge_letter(voice, i)?;
         sum += byte_at(voice, 2 + 2 * i) as usize;
-        i += 1;
     }
     let at = 1 + 2 * letters;
     judge_field(voice.len(), at + 2, u16_at(voice, at) as usize == sum)
 }
 
-// The states of a letter are judged as one field: of their scores only the last, a step, has a range. Good letters have a state each, so that
-// there is a last one.
-fn judge_states(voice: &[u8]) -> Verdict
+// The states of a letter are judged as one field: of their scores only the last, a step, has a range. Good letters have
+// a state each, so that there is a last one.
+fn judge_states(voice: &[u8]) -> Result<(), Fault>
     requires { first_bad (length voice.now) (letters_part voice.now) ≡ well_formed }
     ensures { verdict_of result ≡ first_bad (length voice.now) (states_part voice.now) }
 {
     let letters = byte_at(voice, 0) as usize;
     let mut end = 3 + 2 * letters;
-    let mut i = 0;
-    while i < letters {
+    for i in 0..letters {
         end += 4 * (byte_at(voice, 2 + 2 * i) as usize);
-        let states = judge_field(voice.len(), end, u16_at(voice, end - 2) == 0);
-        let Verdict::WellFormed = states else {
-            return states;
-        };
-        i += 1;
+        judge_field(voice.len(), end, u16_at(voice, end - 2) == 0)?;
     }
-    Verdict::WellFormed
+    Ok(())
 }
 
 // The number of links is 1 or L.
 fn good_link_count(letters: u8, count: u8) -> bool
     ensures { result ≡ eqb count 1 || eqb count letters }
 {
-    if count == 1 {
-        return true;
-    }
-    count == letters
+    count == 1 || count == letters
 }
 
 // Links and symbols. The link scores have no range, so they are judged with K behind them; the emissions have none, so
 // only the image's length is left.
-fn judge_last(voice: &[u8]) -> Verdict
+fn judge_last(voice: &[u8]) -> Result<(), Fault>
     ensures { verdict_of result ≡ verdict (length voice.now) (links_at voice.now)
         (last_part voice.now) }
 {
@@ -135,33 +114,34 @@ fn judge_last(voice: &[u8]) -> Verdict
     let states = u16_at(voice, states_at) as usize;
     let links_at = states_at + 2 + 4 * states;
     let links = byte_at(voice, links_at);
-    let count = judge_field(voice.len(), links_at + 1, good_link_count(letters, links));
-    let Verdict::WellFormed = count else {
-        return count;
-    };
+    judge_field(voice.len(), links_at + 1, good_link_count(letters, links))?;
     let symbols_at = links_at + 1 + 2 * (links as usize);
     let symbols = byte_at(voice, symbols_at);
-    let count = judge_field(voice.len(), symbols_at + 1, inside(symbols as usize, 1, 64));
-    let Verdict::WellFormed = count else {
-        return count;
-    };
-    if symbols_at + 1 + 2 * (states * (symbols as usize)) == voice.len() {
-        return Verdict::WellFormed;
+    judge_field(voice.len(), symbols_at + 1, inside(symbols as usize, 1, 64))?;
+    let end = symbols_at + 1 + 2 * (states * (symbols as usize));
+    if end == voice.len() {
+        Ok(())
+    } else {
+        Err(Fault::WrongLength)
     }
-    Verdict::WrongLength
 }
 
-// The verdict of a voice model, for any bytes: well formed, or 2, or 3.
-pub fn judge(voice: &[u8]) -> Verdict
-    ensures { voice_refusal (verdict_of result) ≡ voice_refused voice.now }
+// All fields, section by section.
+fn judge_fields(voice: &[u8]) -> Result<(), Fault>
+    ensures { verdict_of result ≡ voice_verdict voice.now }
 {
-    let letters = judge_letters(voice);
-    let Verdict::WellFormed = letters else {
-        return letters;
-    };
-    let states = judge_states(voice);
-    let Verdict::WellFormed = states else {
-        return states;
-    };
+    judge_letters(voice)?;
+    judge_states(voice)?;
     judge_last(voice)
+}
+
+// Whether any bytes are a well-formed voice model; if not, 2 or 3.
+pub fn judge(voice: &[u8]) -> Result<(), Refusal>
+    ensures { refusal_of result ≡ voice_refused voice.now }
+{
+    match judge_fields(voice) {
+        Ok(()) => Ok(()),
+        Err(Fault::WrongLength) => Err(Refusal::VoiceLength),
+        Err(Fault::OutOfRange) => Err(Refusal::VoiceRange),
+    }
 }

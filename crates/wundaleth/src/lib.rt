@@ -1,4 +1,5 @@
-// The C interface (include/wundaleth.h): a slice is a pointer and a length, and a call answers its value, or a refusal's number made negative.
+// The C interface (include/wundaleth.h): a slice is a pointer and a length, and a call answers its value, or a
+// refusal's number made negative.
 #![tactic(auto)]
 
 ghost use Rattle.std.specs.Prelude.{ℕ, ◌≡◌, pos};
@@ -14,7 +15,7 @@ ghost use Rattle.packing.specs.Packing.{pack_answer, pack_out, unpack_answer, un
 ghost use Rattle.wundaleth.specs.Answers.{FitsInt};
 
 use building::canonical;
-use call::Answer;
+use call::Refusal;
 use checking::check;
 use codes::{code_to_word, list};
 use decoding::decode;
@@ -22,16 +23,13 @@ use lookup::{word_to_code, words_to_codes};
 use packing::{pack, unpack};
 
 // An answer as C takes it.
-fn signed_of(answer: Answer) -> i32
+fn signed_of(answer: Result<u32, Refusal>) -> i32
     requires { FitsInt (answer_of answer) }
     ensures { result ≡ signed_answer (answer_of answer) }
 {
     match answer {
-        Answer::Value(n) => n as i32,
-        Answer::Refused(refusal) => {
-            let number = refusal.number() as i32;
-            0 - number
-        }
+        Ok(n) => n as i32,
+        Err(refusal) => -i32::from(refusal.number()),
     }
 }
 

@@ -20,14 +20,6 @@ build-answer-requires c =
     let g = c.requires.given in
     (marked-buildable c.mark_words.ensures g, g.some, c.share.ensures)
 
-pub shape_of-words : goal.shape_of-words
-shape_of-words c =
-    c.zero.auto.part ∙ c.mark_words.auto.words
-
-pub shape_of-shared : goal.shape_of-shared
-shape_of-shared c =
-    c.zero-2.auto.part ∙ c.share.auto.shared
-
 pub returns : goal.returns
 returns c =
     record {
@@ -35,7 +27,3 @@ returns c =
       words_after = c.zero.ensures ∙ ap (λ k. replicate k 0) c.mark_words.auto.words;
       shared_after = c.zero-2.ensures ∙ ap (λ k. replicate k 0) c.share.auto.shared;
     }
-
-pub shape_of-out : goal.shape_of-out
-shape_of-out c =
-    c.build-answer.auto.out

@@ -6,7 +6,8 @@ use mathlib.Core.Path.{◌≡◌, sym, ap, subst, ◌∙◌}
 use mathlib.Core.List.{List}
 use native.Mathlib.Omega.{arith}
 use lib.ListN.{length}
-use Rattle.call.specs.Table.{value, answer_of}
+use Rattle.std.proofs.lemmas.Result.{err_from_is_err_and}
+use Rattle.call.specs.Table.{value}
 use Rattle.call.specs.Buffers.{zeroed}
 use Rattle.sorting.specs.Listing.{word_table_answer}
 use Rattle.registering.proofs.Calls.{table-refused, table-refused-out, table-refused-further}
@@ -16,24 +17,23 @@ use Rattle.building.proofs.canonical.Goals as goal
 parts-fit : {f w : ℕ} → 262144 ≤ f → 64000 ≤ w → (132033 ≤ 132033) × (132033 ≤ f) × (2000 ≤ 2000) × (2000 ≤ w)
 parts-fit h k = (omega arith, omega arith, omega arith, omega arith)
 
--- the word table was made: n words
-pub returns-in_default : goal.returns-in_default
-returns-in_default c =
+pub returns-in_err-n : goal.returns-in_err-n
+returns-in_err-n c =
     let a = c.args in
-    let t = c.word_table-listed.ensures in
-    let e = ap answer_of c.in_default.is in
-    let r = sym t.result_value ∙ e in
+    let t = c.in_err-n.ensures in
+    let r = sym t.result_value in
     let v = a.voice.now in
     let x = a.lexicon.now in
     let w = a.work.now in
     let f = a.further.now in
     let o = a.out.now in
-    record {
-      result_value = e ∙ sym (table-refused v x w f o r);
+    let p = err_from_is_err_and c.from_residual.result c.from_residual.ensures.1 in
+    rw (p.1, p.2) (record {
+      result_value = sym (table-refused v x w f o r);
       work_after = t.work_after;
       further_after = t.further_after ∙ table-refused-further v x w f o r;
       out_after = sym (table-refused-out v x w f o r);
-    }
+    })
 
 module _ (v x w f o : List ℕ) {n : ℕ} (e : word_table_answer v x w f ≡ value n) where
   work_long : (work : List ℕ) → length work ≡ length w → 64000 ≤ length work
@@ -45,13 +45,13 @@ module _ (v x w f o : List ℕ) {n : ℕ} (e : word_table_answer v x w f ≡ val
 pub build_in-requires : goal.build_in-requires
 build_in-requires c =
     let a = c.args in
-    let t = c.word_table-listed in
+    let t = c.word_table in
     let v = a.voice.now in
     let x = a.lexicon.now in
     let w = a.work.now in
     let f = a.further.now in
     let o = a.out.now in
-    let e = sym t.ensures.result_value ∙ ap answer_of c.in-Value.is in
+    let e = sym c.in_ok-n.ensures.result_value in
     record {
       given = (part_given v x w f o e t.new.further t.ensures.further_after).0;
       le_table = parts-fit (further-long v x w f o e t.new.further t.auto.further)
@@ -61,13 +61,13 @@ build_in-requires c =
 pub returns : goal.returns
 returns c =
     let a = c.args in
-    let t = c.word_table-listed in
+    let t = c.word_table in
     let v = a.voice.now in
     let x = a.lexicon.now in
     let w = a.work.now in
     let f = a.further.now in
     let o = a.out.now in
-    let e = sym t.ensures.result_value ∙ ap answer_of c.in-Value.is in
+    let e = sym c.in_ok-n.ensures.result_value in
     let b = c.build_in.ensures in
     let l = out_past v x w f o e (part_given v x w f o e t.new.further t.ensures.further_after).1 b.image_answered in
     record {

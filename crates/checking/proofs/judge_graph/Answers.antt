@@ -3,7 +3,6 @@ use mathlib.Core.Path.{◌≡◌, sym, ap, ◌∙◌}
 use mathlib.Core.Bool.{Bool, false}
 use Prim.Native.Nat.{ℕ, ◌≤◌}
 use lib.Dec.{ltb}
-use borrow.Author.Rules.{rules}
 use borrow.Author.Tests.{lt-ltb, le-ltb}
 use Rattle.call.specs.Table.{value, unless}
 use Rattle.call.specs.Limits.{most_words}
@@ -55,7 +54,6 @@ pub has_same_letters-requires : goal.has_same_letters-requires
 has_same_letters-requires c =
     let p = c.requires in
     record {
-      located = search rules;
       reached = sym c.has_orphan.ensures ∙ c.if-has_orphan.false;
       letters = few-letters _ _ p.voice_value p.lexicon_value;
       room = p.blank.room;

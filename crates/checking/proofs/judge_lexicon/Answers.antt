@@ -1,28 +1,24 @@
--- `judge_lexicon` answers the verdict's row, or what the rows after it give. Assumes nothing.
-use mathlib.Core.Path.{sym}
-use Rattle.voice.specs.Fields.{well_formed, wrong_length, out_of_range}
-use Rattle.lexicon.proofs.Refusals.{lexicon_told}
-use Rattle.checking.proofs.Judging.{voice-begins, lexicon-length, lexicon-range, lexicon-passed}
+-- `judge_lexicon` answers the refusal of the lexicon, or what the rows after it give. Assumes nothing.
+use Rattle.std.proofs.lemmas.Result.{err_from_is_err_and}
+use Rattle.checking.proofs.Judging.{voice-begins, lexicon-judged, lexicon-formed, lexicon-passed}
 use Rattle.checking.proofs.judge_lexicon.Goals as goal
 
 pub bounds-voice-0 : goal.bounds-voice-0
 bounds-voice-0 c = voice-begins _ c.requires.voice_value
+
+pub returns-in_err-judge : goal.returns-in_err-judge
+returns-in_err-judge c =
+    let p = err_from_is_err_and c.from_residual.result c.from_residual.ensures.1 in
+    rw (p.1, p.2) (lexicon-judged _ c.in_err-judge.ensures)
 
 pub judge_graph-requires : goal.judge_graph-requires
 judge_graph-requires c =
     let p = c.requires in
     record {
       voice_value = p.voice_value;
-      lexicon_value = sym (lexicon_told well_formed _ _ c.in-WellFormed.ensures);
+      lexicon_value = lexicon-formed _ _ c.in_ok-judge.ensures;
       blank = p.blank;
     }
 
-pub returns-in-WrongLength : goal.returns-in-WrongLength
-returns-in-WrongLength c = lexicon-length _ (sym (lexicon_told wrong_length _ _ c.in-WrongLength.ensures))
-
-pub returns-in-OutOfRange : goal.returns-in-OutOfRange
-returns-in-OutOfRange c = lexicon-range _ (sym (lexicon_told out_of_range _ _ c.in-OutOfRange.ensures))
-
-pub returns-in-WellFormed : goal.returns-in-WellFormed
-returns-in-WellFormed c =
-    lexicon-passed _ (sym (lexicon_told well_formed _ _ c.in-WellFormed.ensures)) c.judge_graph.ensures
+pub returns : goal.returns
+returns c = lexicon-passed _ (lexicon-formed _ _ c.in_ok-judge.ensures) c.judge_graph.ensures

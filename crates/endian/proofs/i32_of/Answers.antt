@@ -1,20 +1,12 @@
--- `endian::i32_of` meets its contract: below half the range the bits are the number, above it it is put together by -1 - x.
--- Assumes nothing.
+-- `endian::i32_of` meets its contract: two's complement of the four bytes' number. Assumes nothing.
 use mathlib.Core.Path.{ap, ◌∙◌}
-use native.Mathlib.Omega.{arith}
 use mir.Syntax.{w32}
 use mir.Val.{to_z}
+use mir.Facts.{to_z-of_z}
 use Rattle.endian.specs.Bytes.{i32}
-use Rattle.endian.proofs.Signed.{below-fits, below-is}
+use Rattle.endian.proofs.Library.{from_four}
 use Rattle.endian.proofs.i32_of.Goals as goal
-
-pub returns-then-bits-lt2147483648 : goal.returns-then-bits-lt2147483648
-unfolding i32
-returns-then-bits-lt2147483648 c = ap (to_z w32) c.u32_of-bits.ensures
-
-pub overflow_sub-result : goal.overflow_sub-result
-overflow_sub-result c = below-fits w32 c.u32_of-bits.result (omega arith) (omega arith)
 
 pub returns : goal.returns
 unfolding i32
-returns c = below-is w32 c.u32_of-bits.result (omega arith) (omega arith) ∙ ap (to_z w32) c.u32_of-bits.ensures
+returns c = to_z-of_z {w = w32} (record { sfits = c.from_le_bytes.type_inv }) ∙ c.from_le_bytes.ensures ∙ ap (to_z w32) (from_four _ _ _ _)

@@ -1,31 +1,34 @@
--- `endian::u16_at` meets its contract: where a byte is past the end, the definition reads 0 there. Assumes nothing.
+-- `endian::u16_at` meets its contract: a byte past the end reads as 0. Assumes nothing.
 use Prim.Native.Nat.{◌+◌}
+use mathlib.Core.Path.{refl, ◌∙◌}
+use native.Mathlib.Nat.{add-zero}
 use native.Mathlib.Omega.{arith}
 use lib.ListN.{get_or-eq_default}
 use Rattle.endian.specs.Bytes.{u16}
+use Rattle.endian.proofs.Library.{rest_length, rest_at}
 use Rattle.endian.proofs.u16_at.Goals as goal
 
-pub returns-then-len-at : goal.returns-then-len-at
+pub returns-then-bytes-at : goal.returns-then-bytes-at
 unfolding u16
-returns-then-len-at c =
+returns-then-bytes-at c =
     let a = c.args in
     omega (arith, get_or-eq_default a.bytes.now 0 {n = a.at} (omega arith), get_or-eq_default a.bytes.now 0 {n = a.at + 1} (omega arith))
 
-pub returns-then-len-at-lt2 : goal.returns-then-len-at-lt2
+pub returns-in-len1 : goal.returns-in-len1
 unfolding u16
-returns-then-len-at-lt2 c =
-    let a = c.args in
-    omega (arith, c.u16_of.ensures, get_or-eq_default a.bytes.now 0 {n = a.at + 1} (omega arith))
+returns-in-len1 c =
+    let b = c.args.bytes.now in
+    let at = c.args.at in
+    c.u16_of.ensures
+    ∙ rw (
+      rest_at b at 0,
+      add-zero at,
+      get_or-eq_default b 0 {n = at + 1} (omega (arith, c.in-len1.len_below, rest_length b at)),
+    ) refl
 
-pub returns : goal.returns
+pub returns-in-len2-up : goal.returns-in-len2-up
 unfolding u16
-returns c = c.u16_of-2.ensures
-
-pub bounds-bytes-at : goal.bounds-bytes-at
-bounds-bytes-at c = c.if-len-at.false
-
-pub bounds-bytes-at-2 : goal.bounds-bytes-at-2
-bounds-bytes-at-2 c = c.if-len-at.false
-
-pub bounds-bytes-at-3 : goal.bounds-bytes-at-3
-bounds-bytes-at-3 c = let h = c.if-len-at-lt2.false in omega arith
+returns-in-len2-up c =
+    let b = c.args.bytes.now in
+    let at = c.args.at in
+    c.u16_of-in-len2-up.ensures ∙ rw (rest_at b at 0, rest_at b at 1, add-zero at) refl

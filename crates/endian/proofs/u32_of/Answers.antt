@@ -1,8 +1,7 @@
--- `endian::u32_of` meets its contract: the sum is the definition's at a list of four bytes. Assumes nothing.
-use native.Mathlib.Omega.{arith}
-use Rattle.endian.specs.Bytes.{u16, u32}
+-- `endian::u32_of` meets its contract: the library reads four bytes as the definition does. Assumes nothing.
+use mathlib.Core.Path.{◌∙◌}
+use Rattle.endian.proofs.Library.{from_four}
 use Rattle.endian.proofs.u32_of.Goals as goal
 
 pub returns : goal.returns
-unfolding u16 u32
-returns c = omega arith
+returns c = c.from_le_bytes.ensures ∙ from_four _ _ _ _

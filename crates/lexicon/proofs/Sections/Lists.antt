@@ -12,13 +12,12 @@ use Rattle.endian.specs.Lists.{within}
 use Rattle.endian.specs.Bytes.{u16, u16s}
 use Rattle.endian.proofs.Booleans.{and_in, and-out}
 use Rattle.endian.proofs.Ranges.{inside, bounds}
-use Rattle.voice.specs.declared.Verdict as declared
+use Rattle.voice.specs.declared.Fault.{Fault}
 use Rattle.voice.specs.Fields.{Field, field, verdict}
 use Rattle.voice.proofs.Fields.{step-good}
-use Rattle.lexicon.specs.declared.fields.Found.{Found}
-use Rattle.lexicon.specs.declared.fields.Found.TheVariants.{Good, Bad}
+use Rattle.std.specs.Prelude.{Ok, Err}
 use Rattle.lexicon.specs.Lexicon.{node_count, sink_of, arcs_at, arc_count, successors, reserve_at, allowed, successor_fields, arc_fields}
-use Rattle.lexicon.specs.Sections.{number_at, arc_at, FieldsBad, Table, Listing, ListGood, list_fields, ArcsGood}
+use Rattle.lexicon.specs.Sections.{Found, number_at, arc_at, FieldsBad, Table, Listing, ListGood, list_fields, ArcsGood}
 use Rattle.lexicon.proofs.Sections.Numbers.{number-says, number_fails}
 use Rattle.lexicon.proofs.Sections.Successors.{Marks, SuccessorRead, marks-none, marks-more, highest-most}
 use Rattle.lexicon.proofs.Sections.Successors.{arc_says, arc_fails}
@@ -52,13 +51,13 @@ module _ (x : List ℕ) (at u n total : ℕ) (seen : List ℕ) (given : Listing 
       let r = leb-true (total + u16 x at) 4000 a.1 in
       inside 1 high (u16 x at) b.0 (omega (arith, given.number))
 
-  pub list_uncounted : {f : Found} {v : declared.Verdict} → f ≡ number_at x at 1 high → f ≡ Bad v
+  pub list_uncounted : {f : Found} {v : Fault} → f ≡ number_at x at 1 high → f ≡ Err v
       → FieldsBad x (arcs_at x u) (list_fields x u total) v
   unfolding list_fields arc_count
   list_uncounted k e later =
       rw (← given.start) (number_fails x at 1 high (sym k ∙ e) (within 1 (sink_of x) (u16 x at) && leb (total + u16 x at) 4000) count-range at _)
 
-  pub list_counted : {f : Found} {count : ℕ} → f ≡ number_at x at 1 high → f ≡ Good count → ListLeft x u total count seen (at + 2) 0
+  pub list_counted : {f : Found} {count : ℕ} → f ≡ number_at x at 1 high → f ≡ Ok count → ListLeft x u total count seen (at + 2) 0
   unfolding list_fields arc_count successors sink_of
   list_counted {count = count} q e =
       let k = number-says x at 1 high (sym q ∙ e) in
@@ -86,17 +85,17 @@ module _ (x : List ℕ) (u total count : ℕ) (seen : List ℕ) (at i : ℕ) (le
 
   -- f is what the code finds of the next successor
   module _ (n : ℕ) (number : n ≡ node_count x) {f : Found} (found : f ≡ arc_at x at u n seen) where
-    pub list-fails : {v : declared.Verdict} → i < count → f ≡ Bad v → FieldsBad x (arcs_at x u) (list_fields x u total) v
+    pub list-fails : {v : Fault} → i < count → f ≡ Err v → FieldsBad x (arcs_at x u) (list_fields x u total) v
     list-fails h e later = next_successor h later ∙ arc_fails x at u seen left.earlier left.marks (sym (rw number at found) ∙ e) at _
 
-    read : {s : ℕ} → f ≡ Good s → SuccessorRead x at u seen left.earlier left.marks s
+    read : {s : ℕ} → f ≡ Ok s → SuccessorRead x at u seen left.earlier left.marks s
     read e = arc_says x at u seen left.earlier left.marks (sym (rw number at found) ∙ e)
 
     -- it has an entry of the table
-    pub list-entry : {s : ℕ} → n ≤ 400 → f ≡ Good s → s < 402
+    pub list-entry : {s : ℕ} → n ≤ 400 → f ≡ Ok s → s < 402
     list-entry b e = omega (arith, (read e).number.most, highest-most u (node_count x))
 
-    pub list-next : {s : ℕ} → n ≤ 400 → i < count → f ≡ Good s → (mark : ℕ) → mark ≡ u + 1 → ListLeft x u total count (set seen s mark) (at + 2) (i + 1)
+    pub list-next : {s : ℕ} → n ≤ 400 → i < count → f ≡ Ok s → (mark : ℕ) → mark ≡ u + 1 → ListLeft x u total count (set seen s mark) (at + 2) (i + 1)
     list-next {s} b h e mark m =
         let a = read e in
         rw m (record {
@@ -156,7 +155,7 @@ module _ (x : List ℕ) where
         let mine = successor_fields x u (arcs_at x u + 2) [] (successors x u) in
         left.passes later ∙ rw (left.place, e, add-one u, append_assoc mine (arc_fields x (suc u) (total + arc_count x u) (node_count x + 1 - suc u)) later)
 
-    pub arcs_fail : (v : declared.Verdict) → u ≤ node_count x → FieldsBad x (arcs_at x u) (list_fields x u total) v
+    pub arcs_fail : (v : Fault) → u ≤ node_count x → FieldsBad x (arcs_at x u) (list_fields x u total) v
         → FieldsBad x (2 + node_count x) (arc_fields x 0 0 (sink_of x)) v
     arcs_fail v h f later = next-list h later ∙ f _
 

@@ -10,11 +10,11 @@ use borrow.Author.Tests.{lt-ltb, le-ltb}
 use Rattle.endian.specs.Lists.{within, from}
 use Rattle.endian.specs.Bytes.{u16}
 use Rattle.endian.proofs.Ranges.{inside}
-use Rattle.voice.specs.declared.Verdict as declared
-use Rattle.voice.specs.declared.Verdict.TheVariants.{WrongLength, OutOfRange}
+use Rattle.voice.specs.declared.Fault.{Fault}
+use Rattle.voice.specs.declared.Fault.TheVariants.{WrongLength, OutOfRange}
 use Rattle.voice.specs.Fields.{Field, field, verdict}
 use Rattle.voice.proofs.Fields.{step-missing, step-out, step-good}
-use Rattle.lexicon.specs.declared.fields.Found.TheVariants.{Good, Bad}
+use Rattle.std.specs.Prelude.{Ok, Err}
 use Rattle.lexicon.specs.Lexicon.{node_count, node_letter, node_field, node_fields}
 use Rattle.lexicon.specs.Sections.{number_at, FieldsBad, NodesGood, nodes_fields}
 use Rattle.lexicon.proofs.Sections.Numbers.{Number, number-says, number_fails}
@@ -35,11 +35,11 @@ from_next a n h =
     rw (e, add-one a)
 
 module _ (L : ℕ) (x : List ℕ) where
-  pub nodes_fail : {v : declared.Verdict} → number_at x 0 1 400 ≡ Bad v → FieldsBad x 0 (nodes_fields L x) v
+  pub nodes_fail : {v : Fault} → number_at x 0 1 400 ≡ Err v → FieldsBad x 0 (nodes_fields L x) v
   unfolding nodes_fields node_count
   nodes_fail e later = number_fails x 0 1 400 e (within 1 400 (u16 x 0)) (λ a. a) 0 (node_fields L x ++ later)
 
-  pub nodes-start : {n : ℕ} → number_at x 0 1 400 ≡ Good n → NodeLettersLeft L x n 1
+  pub nodes-start : {n : ℕ} → number_at x 0 1 400 ≡ Ok n → NodeLettersLeft L x n 1
   unfolding nodes_fields node_fields node_count
   nodes-start {n} e =
       let k = number-says x 0 1 400 e in

@@ -14,14 +14,13 @@ use Rattle.endian.specs.Lists.{within, has}
 use Rattle.endian.specs.Bytes.{u16}
 use Rattle.endian.proofs.Ranges.{inside}
 use Rattle.endian.proofs.Lists.{get_d_copies}
-use Rattle.voice.specs.declared.Verdict as declared
-use Rattle.voice.specs.declared.Verdict.TheVariants.{OutOfRange}
-use Rattle.voice.specs.Fields.{Field, field, verdict, verdict_of}
+use Rattle.voice.specs.declared.Fault.{Fault}
+use Rattle.voice.specs.declared.Fault.TheVariants.{OutOfRange}
+use Rattle.voice.specs.Fields.{Field, field, verdict, fault_verdict}
 use Rattle.voice.proofs.Fields.{step-out}
-use Rattle.lexicon.specs.declared.fields.Found.{Found}
-use Rattle.lexicon.specs.declared.fields.Found.TheVariants.{Good, Bad}
+use Rattle.std.specs.Prelude.{Ok, Err}
 use Rattle.lexicon.specs.Lexicon.{node_count, sink_of, allowed}
-use Rattle.lexicon.specs.Sections.{number_at, highest_of, unmarked, arc_at, Table}
+use Rattle.lexicon.specs.Sections.{Found, number_at, highest_of, unmarked, arc_at, Table}
 use Rattle.lexicon.proofs.WellFormed.{GoodArc, allowed-says}
 use Rattle.lexicon.proofs.Sections.Numbers.{Number, number-says, number_fails}
 
@@ -101,16 +100,16 @@ module _ (x : List ℕ) (at u : ℕ) (seen earlier : List ℕ) (m : Marks seen u
     pub number : Number x at (u + 1) (highest_of u (node_count x)) s
     pub new : allowed x u earlier (u16 x at) ≡ true
 
-  pub arc_says : {s : ℕ} → arc_at x at u (node_count x) seen ≡ Good s → SuccessorRead s
+  pub arc_says : {s : ℕ} → arc_at x at u (node_count x) seen ≡ Ok s → SuccessorRead s
   unfolding arc_at
   arc_says {s} e = go (number_at x at (u + 1) (highest_of u (node_count x))) refl e
     where
-      go : (f : Found) → number_at x at (u + 1) (highest_of u (node_count x)) ≡ f → unmarked seen (u + 1) f ≡ Good s
+      go : (f : Found) → number_at x at (u + 1) (highest_of u (node_count x)) ≡ f → unmarked seen (u + 1) f ≡ Ok s
           → SuccessorRead s
-      go (Bad v) q e = let z : ◌≡◌ {A = ℕ} 0 1 = cc in absurd (omega arith)
-      go (Good t) q e = marked (eqb (get_or seen t 0) (u + 1)) refl e
+      go (Err v) q e = let z : ◌≡◌ {A = ℕ} 0 1 = cc in absurd (omega arith)
+      go (Ok t) q e = marked (eqb (get_or seen t 0) (u + 1)) refl e
         where
-          marked : (b : Bool) → eqb (get_or seen t 0) (u + 1) ≡ b → cond b (Bad OutOfRange) (Good t) ≡ Good s
+          marked : (b : Bool) → eqb (get_or seen t 0) (u + 1) ≡ b → cond b (Err OutOfRange) (Ok t) ≡ Ok s
               → SuccessorRead s
           marked true k e = let z : ◌≡◌ {A = ℕ} 0 1 = cc in absurd (omega arith)
           marked false k e =
@@ -121,28 +120,28 @@ module _ (x : List ℕ) (at u : ℕ) (seen earlier : List ℕ) (m : Marks seen u
                 new = rw (← n.value) (allowed-new x u earlier t n.least n.most (sym (m.marked t) ∙ k));
               })
 
-  pub arc_fails : {v : declared.Verdict} → arc_at x at u (node_count x) seen ≡ Bad v
-      → (done : ℕ) (later : List Field) → verdict (length x) done (field at 2 (allowed x u earlier (u16 x at)) ∷ later) ≡ verdict_of v
+  pub arc_fails : {v : Fault} → arc_at x at u (node_count x) seen ≡ Err v
+      → (done : ℕ) (later : List Field) → verdict (length x) done (field at 2 (allowed x u earlier (u16 x at)) ∷ later) ≡ fault_verdict v
   unfolding arc_at
   arc_fails {v} e done later = go (number_at x at (u + 1) (highest_of u (node_count x))) refl e
     where
       this : Field
       this = field at 2 (allowed x u earlier (u16 x at))
 
-      go : (f : Found) → number_at x at (u + 1) (highest_of u (node_count x)) ≡ f → unmarked seen (u + 1) f ≡ Bad v → verdict (length x) done (this ∷ later) ≡ verdict_of v
-      go (Bad w) q e =
+      go : (f : Found) → number_at x at (u + 1) (highest_of u (node_count x)) ≡ f → unmarked seen (u + 1) f ≡ Err v → verdict (length x) done (this ∷ later) ≡ fault_verdict v
+      go (Err w) q e =
           let same : w ≡ v = cc in
           number_fails x at (u + 1) (highest_of u (node_count x)) q (allowed x u earlier (u16 x at)) (allowed-range x u earlier (u16 x at)) done later
-          ∙ ap verdict_of same
-      go (Good t) q e = marked (eqb (get_or seen t 0) (u + 1)) refl e
+          ∙ ap fault_verdict same
+      go (Ok t) q e = marked (eqb (get_or seen t 0) (u + 1)) refl e
         where
           refused : has t earlier ≡ true → (b : Bool) → allowed x u earlier t ≡ b → b ≡ false
           refused h true a = absurd (true≢false (sym h ∙ (allowed-says x u earlier t a).1))
           refused h false a = refl
 
-          marked : (b : Bool) → eqb (get_or seen t 0) (u + 1) ≡ b → cond b (Bad OutOfRange) (Good t) ≡ Bad v → verdict (length x) done (this ∷ later) ≡ verdict_of v
+          marked : (b : Bool) → eqb (get_or seen t 0) (u + 1) ≡ b → cond b (Err OutOfRange) (Ok t) ≡ Err v → verdict (length x) done (this ∷ later) ≡ fault_verdict v
           marked true k e =
               let same : OutOfRange ≡ v = cc in
               let n = number-says x at (u + 1) (highest_of u (node_count x)) q in
-              step-out done this later n.there (rw (← n.value) (refused (sym (m.marked t) ∙ k) _ refl)) ∙ ap verdict_of same
+              step-out done this later n.there (rw (← n.value) (refused (sym (m.marked t) ∙ k) _ refl)) ∙ ap fault_verdict same
           marked false k e = let z : ◌≡◌ {A = ℕ} 0 1 = cc in absurd (omega arith)

@@ -13,13 +13,10 @@ loop-u-init c = search rules
 pub loop-u-preserved : goal.loop-u-preserved
 loop-u-preserved c =
     let l = c.loop-u in
-    (arcs-step _ l.u l.at c.skip-at.result l.invariant.0 c.skip-at.ensures, search rules)
+    arcs-step _ l._u l.at c.skip-at.result l.invariant c.skip-at.ensures
 
 pub returns : goal.returns
 returns c =
     let l = c.loop-u in
-    let e : l.u ≡ c.args.vertex = omega arith in
-    rw e at l.invariant.0
-
-pub loop-u-smaller : goal.loop-u-smaller
-loop-u-smaller c = let h = c.loop-u-test.true in omega arith
+    let e : l._u ≡ c.args.vertex = omega arith in
+    rw e at l.invariant

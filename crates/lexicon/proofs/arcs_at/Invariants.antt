@@ -1,11 +1,8 @@
 use mathlib.Core.Path.{◌≡◌}
-use Prim.Native.Nat.{min, ◌≤◌, ◌-◌}
+use Prim.Native.Nat.{min}
 use lib.ListN.{length}
 use Rattle.lexicon.specs.Lexicon.{arcs_at}
 use Rattle.lexicon.proofs.arcs_at.Given as goal
 
 abbrev pub invariant-loop-u : goal.invariant-loop-u
-invariant-loop-u l = (l.at ≡ min (arcs_at l.lexicon l.u) (length l.lexicon)) × (l.u ≤ l.vertex)
-
-abbrev pub decreases-loop-u : goal.decreases-loop-u
-decreases-loop-u l = l.vertex - l.u
+invariant-loop-u l = (l.at ≡ min (arcs_at l.lexicon l._u) (length l.lexicon))

@@ -1,31 +1,19 @@
--- `has_bad_code` finds a code that is not below W: no code passed is one, so some code is where one of those left is.
--- The measure is what is left of the codes. Assumes nothing.
-use mathlib.Core.Path.{refl, sym, ◌∙◌}
-use borrow.Author.Rules.{rules}
-use borrow.Author.Tests.{le-leb, lt-leb}
+-- `has_bad_code` asks of each code whether it is not below W. Assumes nothing.
+use Rattle.std.proofs.Common.{◌≡◌, refl, ap, ◌∙◌, ◌||◌, Bool, List, [], ◌∷◌, leb, rules, tests}
+use Rattle.std.specs.List.{list_any}
+use Rattle.std.proofs.lemmas.Iterator.{YieldsList-from_slice}
+use Rattle.std.proofs.lemmas.Iterator.Search.{any_from_yields_List}
+use Rattle.endian.specs.Lists.{any}
 use Rattle.call.specs.Limits.{bad_code}
-use Rattle.endian.proofs.Search.{any_found, any_next, any_none}
 use Rattle.packing.proofs.has_bad_code.Goals as goal
 
-pub returns-then-words-codes : goal.returns-then-words-codes
-unfolding bad_code
-returns-then-words-codes c =
-    let a = c.args in
-    let l = c.loop-i in
-    sym (l.invariant.1 ∙ any_found (bad_code a.words) a.codes.now l.i (search rules) (le-leb _ _ c.if-words-codes.true))
-
-pub loop-i-preserved : goal.loop-i-preserved
-unfolding bad_code
-loop-i-preserved c =
-    let a = c.args in
-    let l = c.loop-i in
-    (search rules, l.invariant.1 ∙ any_next (bad_code a.words) a.codes.now l.i (search rules) (lt-leb _ _ c.if-words-codes.false))
+any-listed : {A : Type 0} (p : A → Bool) (xs : List A) → list_any p xs ≡ any p xs
+unfolding any
+any-listed p [] = refl
+any-listed p (x ∷ xs) = ap (λ (b : Bool). p x || b) (any-listed p xs)
 
 pub returns : goal.returns
+unfolding bad_code
 returns c =
-    let a = c.args in
-    let l = c.loop-i in
-    sym (l.invariant.1 ∙ any_none (bad_code a.words) a.codes.now l.i (search rules))
-
-pub loop-i-init : goal.loop-i-init
-loop-i-init c = (search rules, refl)
+    any_from_yields_List (leb c.args.words) _ _ _ c.any.ensures.ran (YieldsList-from_slice c.args.codes.now cc) (λ x b q k. search (rules, tests))
+    ∙ any-listed (leb c.args.words) c.args.codes.now

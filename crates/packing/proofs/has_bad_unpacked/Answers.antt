@@ -1,5 +1,5 @@
 -- `has_bad_unpacked` finds a code that is not below W: no code passed is one, so some code is where one of those left is.
--- The measure is what is left of the codes. Assumes nothing.
+-- Assumes nothing.
 use Prim.Native.Nat.{◌<◌}
 use mathlib.Core.Path.{◌≡◌, refl, sym, ◌∙◌}
 use borrow.Author.Rules.{rules}
@@ -37,23 +37,21 @@ unfolding bad_code
 returns-then-words-unpacked_code c =
     let a = c.args in
     let l = c.loop-i in
-    sym (l.invariant.1 ∙ any_found (bad_code a.words) (unpacked a.b a.n a.packed.now) l.i (inside c.before.before) (rw (read c.before.before) (le-leb _ _ c.if-words-unpacked_code.true)))
+    sym (l.invariant ∙ any_found (bad_code a.words) (unpacked a.b a.n a.packed.now) l.i (inside c.before.before) (rw (read c.before.before) (le-leb _ _ c.if-words-unpacked_code.true)))
 
 pub loop-i-preserved : goal.loop-i-preserved
 unfolding bad_code
 loop-i-preserved c =
     let a = c.args in
-    let l = c.loop-i in (
-      search rules,
-      l.invariant.1 ∙ any_next (bad_code a.words) (unpacked a.b a.n a.packed.now) l.i (inside c.before.before) (rw (read c.before.before) (lt-leb _ _ c.if-words-unpacked_code.false)),
-    )
+    let l = c.loop-i in
+    l.invariant ∙ any_next (bad_code a.words) (unpacked a.b a.n a.packed.now) l.i (inside c.before.before) (rw (read c.before.before) (lt-leb _ _ c.if-words-unpacked_code.false))
 
 pub returns : goal.returns
 returns c =
     let a = c.args in
     let l = c.loop-i in
     let codes = unpacked a.b a.n a.packed.now in
-    sym (l.invariant.1 ∙ any_none (bad_code a.words) codes l.i (rw (length-unpacked a.b a.n a.packed.now) (search rules)))
+    sym (l.invariant ∙ any_none (bad_code a.words) codes l.i (rw (length-unpacked a.b a.n a.packed.now) (search rules)))
 
 pub loop-i-init : goal.loop-i-init
-loop-i-init c = (search rules, refl)
+loop-i-init c = refl

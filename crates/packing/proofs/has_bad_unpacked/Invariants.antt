@@ -1,4 +1,3 @@
-use Prim.Native.Nat.{◌-◌, ◌≤◌}
 use mathlib.Core.Path.{◌≡◌}
 use lib.ListN.{drop}
 use Rattle.endian.specs.Lists.{any}
@@ -7,7 +6,4 @@ use Rattle.packing.specs.Packing.{unpacked}
 use Rattle.packing.proofs.has_bad_unpacked.Given as goal
 
 abbrev pub invariant-loop-i : goal.invariant-loop-i
-invariant-loop-i l = (l.i ≤ l.n) × (any (bad_code l.words) (unpacked l.b l.n l.packed) ≡ any (bad_code l.words) (drop l.i (unpacked l.b l.n l.packed)))
-
-abbrev pub decreases-loop-i : goal.decreases-loop-i
-decreases-loop-i l = l.n - l.i
+invariant-loop-i l = (any (bad_code l.words) (unpacked l.b l.n l.packed) ≡ any (bad_code l.words) (drop l.i (unpacked l.b l.n l.packed)))

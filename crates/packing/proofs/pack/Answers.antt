@@ -14,24 +14,20 @@ accepted words k codes out e = packs words codes out k (sym e)
 
 pub put_codes-requires : goal.put_codes-requires
 put_codes-requires c =
-    let h = accepted c.args.words c.in-Value.field-0 c.args.codes.now c.args.out.now c.in-Value.ensures in
+    let h = accepted c.args.words c.in_ok-size.size c.args.codes.now c.args.out.now c.in_ok-size.ensures in
     rw c.width_of.ensures (record { small = record { few = h.count.1; short = width-limit _ h.words.1 }; fits = h.room })
 
-pub returns-in-Value : goal.returns-in-Value
-returns-in-Value c =
-    let a = c.args in record {
-      result_value = c.judge_pack-answer.ensures;
-      out_after = c.put_codes.ensures
-          ∙ ap (λ (b : ℕ). packed b a.codes.now ++ drop (packed_size b (length a.codes.now)) a.out.now) c.width_of.ensures
-          ∙ sym (pack_written a.words a.codes.now a.out.now c.in-Value.field-0 (sym c.in-Value.ensures));
-    }
+pub returns-in_err-size-clause-out_after : goal.returns-in_err-size-clause-out_after
+returns-in_err-size-clause-out_after c =
+    let a = c.args in
+    sym (pack_refused a.words a.codes.now a.out.now c.in_err-size.field-0.0 (sym c.in_err-size.ensures))
 
-pub returns-in-Refused : goal.returns-in-Refused
-returns-in-Refused c =
-    let a = c.args in record {
-      result_value = c.judge_pack-answer.ensures;
-      out_after = sym (pack_refused a.words a.codes.now a.out.now c.in-Refused.field-0 (sym c.in-Refused.ensures));
-    }
+pub returns-clause-out_after : goal.returns-clause-out_after
+returns-clause-out_after c =
+    let a = c.args in
+    c.put_codes.ensures
+    ∙ ap (λ (b : ℕ). packed b a.codes.now ++ drop (packed_size b (length a.codes.now)) a.out.now) c.width_of.ensures
+    ∙ sym (pack_written a.words a.codes.now a.out.now c.in_ok-size.size (sym c.in_ok-size.ensures))
 
 pub width_of-requires : goal.width_of-requires
-width_of-requires c = (accepted _ _ _ c.args.out.now c.in-Value.ensures).words.0
+width_of-requires c = (accepted _ _ _ c.args.out.now c.in_ok-size.ensures).words.0

@@ -1,5 +1,5 @@
 -- `put_codes` packs: before each code the bits of those passed stand over the cleared bytes, and in the end the bytes are told by their bits.
--- The measure is what is left of the codes. Assumes nothing.
+-- Assumes nothing.
 use Prim.Native.Nat.{ℕ, ◌+◌, ◌≤◌}
 use mathlib.Core.Path.{refl, sym, ap, ap₂, ◌∙◌}
 use mathlib.Core.List.{List, ◌++◌, flat_map}
@@ -20,14 +20,14 @@ pub loop-i-init : goal.loop-i-init
 unfolding flat_map
 loop-i-init c =
     let out = c.zero_first.new.out in
-    (search rules, refl, below_each 256 out (λ i. (c.slice_known-2-1.given i).fits), sym (overlay-none 0 (to_bits out)))
+    (refl, below_each 256 out (λ i. (c.type_inv.out i).fits), sym (overlay-none 0 (to_bits out)))
 
 pub put_code-requires : goal.put_code-requires
 put_code-requires c =
     let start = c.before.before.before.before.before.before.before.before.before.before.before.before.before in
     let a = start.args in
     let h = start.requires in
-    let p = c.offset_of-at.ensures in
+    let p = c.offset_of.ensures in
     let l = c.loop-i in
     let kept = c.zero_first.auto.out in
     let n = length a.codes.now in
@@ -35,7 +35,7 @@ put_code-requires c =
     record {
       within = p.within;
       short = h.small.short;
-      room = omega (arith, p.offset, l.invariant.1, kept, h.fits, mul-le-mul_right a.b next, add-mul l.i 1 a.b, size-enough a.b n);
+      room = omega (arith, p.offset, l.invariant.0, kept, h.fits, mul-le-mul_right a.b next, add-mul l.i 1 a.b, size-enough a.b n);
     }
 
 pub loop-i-preserved : goal.loop-i-preserved
@@ -43,11 +43,10 @@ loop-i-preserved c =
     let a = c.args in
     let l = c.loop-i in
     let out = c.put_code.new.out in (
-      search rules,
-      c.put_code.auto.out ∙ l.invariant.1,
-      below_each 256 out (λ i. (c.slice_known-in-loop-i-1.given i).fits),
+      c.put_code.auto.out ∙ l.invariant.0,
+      below_each 256 out (λ i. (c.type_inv.out i).fits),
       c.put_code.ensures
-          ∙ ap₂ (λ (p : ℕ) (t : List ℕ). overlay p (bits a.b (get_or a.codes.now l.i 0)) t) c.offset_of-at.ensures.offset l.invariant.3
+          ∙ ap₂ (λ (p : ℕ) (t : List ℕ). overlay p (bits a.b (get_or a.codes.now l.i 0)) t) c.offset_of.ensures.offset l.invariant.2
           ∙ overlay-next (bits a.b) a.b (length-bits a.b) l.i a.codes.now _ (search rules),
     )
 
@@ -59,9 +58,9 @@ returns c =
     let l = c.loop-i in
     let k = c.zero_first in
     let size = c.packed_size in
-    put-all-codes a.b a.codes.now l.out a.out.now l.invariant.2
+    put-all-codes a.b a.codes.now l.out a.out.now l.invariant.1
     (below_each 256 a.out.now (λ i. (known.slice_known-1.given i).fits))
-    (l.invariant.1 ∙ k.auto.out) known.requires.fits
-    (l.invariant.3
+    (l.invariant.0 ∙ k.auto.out) known.requires.fits
+    (l.invariant.2
     ∙ ap₂ (λ (t s : List ℕ). overlay 0 (flat_map (bits a.b) t) (to_bits s)) (take_all l.i a.codes.now (search rules))
     (k.ensures ∙ ap (λ (m : ℕ). replicate m 0 ++ drop m a.out.now) size.ensures))

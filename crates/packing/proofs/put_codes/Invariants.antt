@@ -1,4 +1,3 @@
-use Prim.Native.Nat.{◌-◌, ◌≤◌}
 use mathlib.Core.Path.{◌≡◌}
 use mathlib.Core.List.{flat_map}
 use lib.ListN.{length, take}
@@ -8,7 +7,4 @@ use Rattle.packing.proofs.Laws.Stretches.{Below}
 use Rattle.packing.proofs.put_codes.Given as goal
 
 abbrev pub invariant-loop-i : goal.invariant-loop-i
-invariant-loop-i l = (l.i ≤ length l.codes) × (length l.out ≡ length l.initial.out) × Below 256 l.out × (to_bits l.out ≡ overlay 0 (flat_map (bits l.b) (take l.i l.codes)) (to_bits l.initial.out))
-
-abbrev pub decreases-loop-i : goal.decreases-loop-i
-decreases-loop-i l = length l.codes - l.i
+invariant-loop-i l = (length l.out ≡ length l.initial.out) × Below 256 l.out × (to_bits l.out ≡ overlay 0 (flat_map (bits l.b) (take l.i l.codes)) (to_bits l.initial.out))

@@ -1,4 +1,4 @@
--- `put_unpacked` writes the codes: before each code those passed stand at the output's start. The measure is what is left of the codes.
+-- `put_unpacked` writes the codes: before each code those passed stand at the output's start.
 -- Assumes nothing.
 use Prim.Native.Nat.{ℕ, ◌*◌}
 use mathlib.Core.Path.{◌≡◌, refl, sym, ap, ap₂, ◌∙◌}
@@ -15,7 +15,7 @@ use Rattle.packing.proofs.put_unpacked.Goals as goal
 
 pub loop-i-init : goal.loop-i-init
 unfolding flat_map
-loop-i-init c = (search rules, refl, sym (overlay-none 0 c.args.out.now))
+loop-i-init c = (refl, sym (overlay-none 0 c.args.out.now))
 
 pub unpacked_code-requires : goal.unpacked_code-requires
 unpacked_code-requires c =
@@ -30,10 +30,9 @@ loop-i-preserved c =
     let codes = unpacked a.b a.n a.packed.now in
     let code : c.unpacked_code.result ≡ get_or codes l.i 0 =
     c.unpacked_code.ensures ∙ sym (unpacked-at a.b a.n l.i a.packed.now (search rules)) in (
-      search rules,
-      c.put_u32.auto.out ∙ l.invariant.1,
+      c.put_u32.auto.out ∙ l.invariant.0,
       c.put_u32.ensures
-          ∙ ap₂ (λ (v : ℕ) (t : List ℕ). overlay (l.i * 4) (u32_bytes v) t) code l.invariant.2
+          ∙ ap₂ (λ (v : ℕ) (t : List ℕ). overlay (l.i * 4) (u32_bytes v) t) code l.invariant.1
           ∙ overlay-next u32_bytes 4 (λ v. refl) l.i codes a.out.now (rw (length-unpacked a.b a.n a.packed.now) (search rules)),
     )
 
@@ -42,5 +41,5 @@ returns c =
     let a = c.args in
     let l = c.loop-i in
     let codes = unpacked a.b a.n a.packed.now in
-    l.invariant.2
+    l.invariant.1
     ∙ ap (λ (t : List ℕ). overlay 0 (flat_map u32_bytes t) a.out.now) (take_all l.i codes (rw (length-unpacked a.b a.n a.packed.now) (search rules)))

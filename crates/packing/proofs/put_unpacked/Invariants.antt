@@ -1,4 +1,3 @@
-use Prim.Native.Nat.{◌-◌, ◌≤◌}
 use mathlib.Core.Path.{◌≡◌}
 use mathlib.Core.List.{flat_map}
 use lib.ListN.{length, take}
@@ -8,7 +7,4 @@ use Rattle.packing.specs.Offsets.{overlay}
 use Rattle.packing.proofs.put_unpacked.Given as goal
 
 abbrev pub invariant-loop-i : goal.invariant-loop-i
-invariant-loop-i l = (l.i ≤ l.n) × (length l.out ≡ length l.initial.out) × (l.out ≡ overlay 0 (flat_map u32_bytes (take l.i (unpacked l.b l.n l.packed))) l.initial.out)
-
-abbrev pub decreases-loop-i : goal.decreases-loop-i
-decreases-loop-i l = l.n - l.i
+invariant-loop-i l = (length l.out ≡ length l.initial.out) × (l.out ≡ overlay 0 (flat_map u32_bytes (take l.i (unpacked l.b l.n l.packed))) l.initial.out)

@@ -18,25 +18,21 @@ accepted words n k packed out e = unpacks words n packed out k (sym e)
 pub put_unpacked-requires : goal.put_unpacked-requires
 put_unpacked-requires c =
     let a = c.args in
-    let h = accepted a.words a.n c.in-Value.field-0 a.packed.now a.out.now c.in-Value.ensures in
+    let h = accepted a.words a.n c.in_ok-count.count a.packed.now a.out.now c.in_ok-count.ensures in
     rw c.width_of.ensures
     (record { small = record { few = h.count.1; short = width-limit _ h.words.1 }; size = h.size }, omega (arith, h.room))
 
-pub returns-in-Value : goal.returns-in-Value
-returns-in-Value c =
-    let a = c.args in record {
-      result_value = c.judge_unpack-answer.ensures;
-      out_after = c.put_unpacked.ensures
-          ∙ ap (λ (b : ℕ). overlay 0 (flat_map u32_bytes (unpacked b a.n a.packed.now)) a.out.now) c.width_of.ensures
-          ∙ sym (unpack_written a.words a.n a.packed.now a.out.now c.in-Value.field-0 (sym c.in-Value.ensures));
-    }
+pub returns-in_err-count-clause-out_after : goal.returns-in_err-count-clause-out_after
+returns-in_err-count-clause-out_after c =
+    let a = c.args in
+    sym (unpack_refused a.words a.n a.packed.now a.out.now c.in_err-count.field-0.0 (sym c.in_err-count.ensures))
 
-pub returns-in-Refused : goal.returns-in-Refused
-returns-in-Refused c =
-    let a = c.args in record {
-      result_value = c.judge_unpack-answer.ensures;
-      out_after = sym (unpack_refused a.words a.n a.packed.now a.out.now c.in-Refused.field-0 (sym c.in-Refused.ensures));
-    }
+pub returns-clause-out_after : goal.returns-clause-out_after
+returns-clause-out_after c =
+    let a = c.args in
+    c.put_unpacked.ensures
+    ∙ ap (λ (b : ℕ). overlay 0 (flat_map u32_bytes (unpacked b a.n a.packed.now)) a.out.now) c.width_of.ensures
+    ∙ sym (unpack_written a.words a.n a.packed.now a.out.now c.in_ok-count.count (sym c.in_ok-count.ensures))
 
 pub width_of-requires : goal.width_of-requires
-width_of-requires c = (accepted _ _ _ _ c.args.out.now c.in-Value.ensures).words.0
+width_of-requires c = (accepted _ _ _ _ c.args.out.now c.in_ok-count.ensures).words.0

@@ -8,4 +8,4 @@ use Rattle.packing.proofs.unpacked_code.Goals as goal
 pub returns : goal.returns
 returns c =
     let a = c.args in
-    c.code_at.ensures ∙ ap (λ (p : ℕ). number_of (take a.b (drop p (to_bits a.packed.now)))) c.offset_of-at.ensures.offset
+    c.code_at.ensures ∙ ap (λ (p : ℕ). number_of (take a.b (drop p (to_bits a.packed.now)))) c.offset_of.ensures.offset

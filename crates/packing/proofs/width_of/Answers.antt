@@ -7,11 +7,11 @@ use lib.Count.{leading_le}
 use Rattle.packing.proofs.Laws.Width.{lengths, width-within, width_one}
 use Rattle.packing.proofs.width_of.Goals as goal
 
-pub returns-then-words-eq1 : goal.returns-then-words-eq1
-returns-then-words-eq1 c = rw c.if-words-eq1.true (sym width_one)
-
 pub overflow_sub-result-2 : goal.overflow_sub-result-2
 overflow_sub-result-2 c = leading_le 32 _
+
+pub returns-then-words-eq1 : goal.returns-then-words-eq1
+returns-then-words-eq1 c = rw c.if-words-eq1.true (sym width_one)
 
 pub returns : goal.returns
 returns c =

@@ -1,16 +1,10 @@
--- `zero_first` lends the first n bytes on to be made zero. Assumes nothing.
-use Prim.Native.Nat.{ℕ, ◌-◌}
-use mathlib.Core.Path.{◌≡◌, ap, ◌∙◌}
-use mathlib.Core.List.{List, ◌++◌}
-use native.Mathlib.Omega.{arith}
-use lib.ListN.{drop}
-use Rattle.call.proofs.Buffers.{zeroed-part}
+-- `zero_first` fills the first n bytes. Assumes nothing.
+use Rattle.std.proofs.lemmas.List.{length-take-le}
+use Rattle.call.specs.Buffers.{zeroed}
 use Rattle.packing.proofs.zero_first.Goals as goal
 
 pub returns : goal.returns
+unfolding zeroed
 returns c =
     let a = c.args in
-    let n = a.n in
-    let all : n - 0 ≡ n = omega arith in
-    ap (λ (s : List ℕ). s ++ drop (n - 0) a.out.now) c.zero.ensures
-    ∙ rw all (zeroed-part n a.out.now (omega arith))
+    rw (c.fill.ensures.after (λ y e. e), length-take-le a.n a.out.now c.requires)

@@ -30,8 +30,9 @@ module _ (x : ℤ) (number : ℕ) (f : SFits w32 x) (low : number < 2 ^ 63) (mos
 
 pub returns-then-x-lt0 : goal.returns-then-x-lt0
 returns-then-x-lt0 c =
-    with-minus c.args.x c.args.number c.ranges.x (omega arith) c.requires
-    (is_neg w32 c.args.x c.ranges.x c.if-x-lt0.true)
+    rw c.from.ensures
+    (with-minus c.args.x c.args.number c.ranges.x (omega arith) c.requires
+    (is_neg w32 c.args.x c.ranges.x c.if-x-lt0.true))
 
 -- x is not negative
 pub returns : goal.returns

@@ -4,7 +4,8 @@ use Prim.Native.Nat.{ℕ}
 use mathlib.Core.Path.{◌≡◌, sym, ap, ◌∙◌}
 use mathlib.Core.List.{List}
 use native.Mathlib.Omega.{arith}
-use Rattle.call.specs.declared.Answer.{Answer}
+use Rattle.std.proofs.Common.{Result, Ok}
+use Rattle.call.specs.declared.Refusal.{Refusal}
 use Rattle.call.specs.Table.{answer_of}
 use Rattle.call.proofs.Table.{same-value}
 use Rattle.graph.specs.Graph.{graph_of, word_count}
@@ -16,65 +17,53 @@ use Rattle.report.proofs.Answers.{no-refusal, check-answer}
 use Rattle.report.proofs.Counts.{width-answer, first_short}
 use Rattle.report.proofs.put_list.Goals as goal
 
-pub returns-in_default : goal.returns-in_default
-returns-in_default c =
+pub unreachable-requires : goal.unreachable-requires
+unreachable-requires c =
     let ready = check-answer c.requires.accepted_arguments in
-    absurd (no-refusal (sym ready ∙ sym c.check-checked.ensures.result_value ∙ ap answer_of c.in_default.is))
+    no-refusal (sym ready ∙ sym c.check.ensures.result_value ∙ ap answer_of c.in_default.is)
 
 -- checking has answered W
-counted : (v x work : List ℕ) (T : ℕ) {checked : Answer} {words : ℕ} → AcceptedArguments v x T work
-    → answer_of checked ≡ check_answer v x work → checked ≡ Answer.Value words → words ≡ word_count (graph_of x)
+counted : (v x work : List ℕ) (T : ℕ) {checked : Result ℕ Refusal} {words : ℕ} → AcceptedArguments v x T work
+    → answer_of checked ≡ check_answer v x work → checked ≡ Ok words → words ≡ word_count (graph_of x)
 counted v x work T r e is = same-value (sym (ap answer_of is) ∙ e ∙ check-answer r)
 
-pub returns-in_default-measured : goal.returns-in_default-measured
-returns-in_default-measured c =
+pub unreachable-requires-in_default-width : goal.unreachable-requires-in_default-width
+unreachable-requires-in_default-width c =
     let a = c.args in
     let r = c.requires.accepted_arguments in
-    let checked = c.check-checked.ensures.result_value in
-    let words = counted a.voice.now a.lexicon.now a.work.now a.frames r checked c.in-Value.is in
+    let checked = c.check.ensures.result_value in
+    let words = counted a.voice.now a.lexicon.now a.work.now a.frames r checked c.in-Ok.is in
     let width-is = width-answer a.voice.now a.lexicon.now r.images in
-    absurd
-    (no-refusal
-    (sym width-is ∙ ap width_answer (sym words) ∙ sym c.width-measured.ensures ∙ ap answer_of c.in_default-measured.is))
+    no-refusal
+    (sym width-is ∙ ap width_answer (sym words) ∙ sym c.width.ensures ∙ ap answer_of c.in_default-width.is)
 
-pub put_first_line-end-requires : goal.put_first_line-end-requires
-put_first_line-end-requires c =
+pub put_first_line-requires : goal.put_first_line-requires
+put_first_line-requires c =
     let a = c.args in
     let r = c.requires.accepted_arguments in
-    let checked = c.check-checked.ensures.result_value in
-    let words = counted a.voice.now a.lexicon.now a.work.now a.frames r checked c.in-Value.is in
-    let width-is = width-answer a.voice.now a.lexicon.now r.images in record {
-      bits_value = same-value
-          (sym (ap answer_of c.in-Value-measured.is) ∙ c.width-measured.ensures ∙ ap width_answer words ∙ width-is)
-          ∙ ap width (sym words);
-      at_in_bounds = omega (arith, c.requires.in_bounds);
-    }
+    let checked = c.check.ensures.result_value in
+    let words = counted a.voice.now a.lexicon.now a.work.now a.frames r checked c.in-Ok.is in
+    let width-is = width-answer a.voice.now a.lexicon.now r.images in
+    let bits = same-value (sym (ap answer_of c.in-Ok-width.is) ∙ c.width.ensures ∙ ap width_answer words ∙ width-is) in
+    (omega arith, (bits ∙ ap width (sym words), omega (arith, c.requires.in_bounds)))
 
 -- line 1
-pub put_lines-requires : goal.put_lines-requires
-put_lines-requires c =
+pub put_lines-requires-clause-k_in_bounds : goal.put_lines-requires-clause-k_in_bounds
+put_lines-requires-clause-k_in_bounds c =
     let a = c.args in
     let r = c.requires.accepted_arguments in
     let holds = c.requires.holds_hits in
-    let checked = c.check-checked.ensures.result_value in
-    let words = counted a.voice.now a.lexicon.now a.work.now a.frames r checked c.in-Value.is in
-    let first = rw words at c.put_first_line-end.ensures in
-    let short = first_short a.voice.now a.lexicon.now r.images a.k holds.few in record {
-      accepted_arguments = record {
-        images = r.images;
-        some_frames = r.some_frames;
-        few_frames = r.few_frames;
-        space = omega (arith, r.space, c.check-checked.auto.work);
-      };
-      holds_hits = holds;
-      k_in_bounds = omega (arith, first.ends, short, holds.few, c.requires.in_bounds, c.put_first_line-end.auto.out);
-    }
+    let checked = c.check.ensures.result_value in
+    let words = counted a.voice.now a.lexicon.now a.work.now a.frames r checked c.in-Ok.is in
+    let first = rw words at c.put_first_line.ensures in
+    let short = first_short a.voice.now a.lexicon.now r.images a.k holds.few in
+    omega (arith, first.ends, short, holds.few, c.requires.in_bounds)
 
 pub returns : goal.returns
 returns c =
     let a = c.args in
     let r = c.requires.accepted_arguments in
-    let checked = c.check-checked.ensures.result_value in
-    let words = counted a.voice.now a.lexicon.now a.work.now a.frames r checked c.in-Value.is in
-    let first = rw words at c.put_first_line-end.ensures in
+    let checked = c.check.ensures.result_value in
+    let words = counted a.voice.now a.lexicon.now a.work.now a.frames r checked c.in-Ok.is in
+    let first = rw words at c.put_first_line.ensures in
     put-more (omega arith) first c.put_lines.ensures

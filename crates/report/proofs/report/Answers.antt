@@ -5,6 +5,6 @@ use Rattle.report.proofs.report.Goals as goal
 
 pub returns : goal.returns
 returns c =
-    report_shown c.args.input.now c.image-voice.ensures c.after_image-after_voice.ensures c.image-lexicon.ensures
-    c.after_image-rest.ensures c.count-n.ensures c.frames-frames.ensures c.blank_page-text.ensures
-    c.put_report-length.ensures
+    report_shown c.args.input.now c.cut_image.ensures.image c.cut_image.ensures.rest c.cut_image-2.ensures.image
+    c.cut_image-2.ensures.rest c.count-n.ensures c.frames-frames.ensures c.blank-page.ensures.text
+    c.blank-page.ensures.length c.put_report.ensures

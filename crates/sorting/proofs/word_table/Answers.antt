@@ -2,7 +2,7 @@
 -- else the table of the words gathered is made. Assumes nothing.
 -- ---- numbers
 use Prim.Native.Nat.{ℕ, ◌≤◌}
-use mathlib.Core.Path.{◌≡◌, sym, ap, subst, ◌∙◌}
+use mathlib.Core.Path.{◌≡◌, refl, sym, ap, subst, ◌∙◌}
 use mathlib.Core.List.{List}
 use native.Mathlib.Omega.{arith}
 use lib.ListN.{length, take}
@@ -42,16 +42,15 @@ returns-then-further-lt-FURTHER_SPACE c =
     record { result_value = l.0; work_after = l.1.0; further_after = l.1.1 }
 
 -- ---- a refusal
-pub returns-in_default : goal.returns-in_default
-returns-in_default c =
+pub returns-in-Err : goal.returns-in-Err
+returns-in-Err c =
     let a = c.args in
-    let u = c.collect-gathered.new.further in
-    let o = c.collect-gathered.ensures in
-    let e = ap answer_of c.in_default.is in
+    let u = c.collect.new.further in
+    let o = c.in-Err.ensures in
     let l = refused-left a.voice.now a.lexicon.now a.work.now a.further.now c.if-work-lt-WORK_SPACE.false
-    c.if-further-lt-FURTHER_SPACE.false u o.collected.behind (o.collected.on_refusal _ e) o.work_after in
+    c.if-further-lt-FURTHER_SPACE.false u o.collected.behind (o.collected.on_refusal _ refl) o.work_after in
     record {
-      result_value = e ∙ l.0;
+      result_value = l.0;
       work_after = l.1.0;
       further_after = c.zero_part.ensures ∙ all-zeroed further_space u ∙ l.1.1;
     }
@@ -69,24 +68,24 @@ part-long space h = length-take-le 16000 space (room-for-rows h)
 
 pub slice_bounds-put_table-end : goal.slice_bounds-put_table-end
 slice_bounds-put_table-end c =
-    room-for-rows (space-enough c.collect-gathered.auto.work c.if-work-lt-WORK_SPACE.false)
+    room-for-rows (space-enough c.collect.auto.work c.if-work-lt-WORK_SPACE.false)
 
 pub put_table-answer-requires : goal.put_table-answer-requires
 put_table-answer-requires c =
-    let g = c.collect-gathered in
+    let g = c.collect in
     let h = space-enough g.auto.work c.if-work-lt-WORK_SPACE.false in
     record {
       in_bounds = (
         same-room (part-long g.new.work h),
         words-enough g.ensures.collected.long c.if-further-lt-FURTHER_SPACE.false,
       );
-      waiting = (g.ensures.collected.on_value c.in-Value.n (ap answer_of c.in-Value.is)).waiting;
+      waiting = (c.in-Ok.ensures.collected.on_value c.in-Ok.n refl).waiting;
     }
 
 pub returns : goal.returns
 returns c =
     let a = c.args in
-    let g = c.collect-gathered in
+    let g = c.collect in
     let long = c.if-work-lt-WORK_SPACE.false in
     let h = space-enough g.auto.work long in
     let p = c.put_table-answer in
@@ -97,5 +96,5 @@ returns c =
     ∙ cleared_twice a.work.now long in
     let l = table-left a.voice.now a.lexicon.now a.work.now a.further.now long c.if-further-lt-FURTHER_SPACE.false
     g.new.further g.ensures.collected.behind
-    (g.ensures.collected.on_value c.in-Value.n (ap answer_of c.in-Value.is)) p.ensures work-cleared in
+    (c.in-Ok.ensures.collected.on_value c.in-Ok.n refl) p.ensures work-cleared in
     record { result_value = l.0; work_after = l.1.0; further_after = l.1.1 }

@@ -7,10 +7,10 @@ pub returns-then-len-end : goal.returns-then-len-end
 unfolding field_verdict
 returns-then-len-end c = rw (lt-leb _ _ c.if-len-end.true)
 
-pub returns-then-in_range : goal.returns-then-in_range
+pub returns-then-not-in_range : goal.returns-then-not-in_range
 unfolding field_verdict
-returns-then-in_range c = rw (le-leb _ _ c.if-len-end.false, c.if-in_range.true)
+returns-then-not-in_range c = rw (le-leb _ _ c.if-len-end.false, c.if-not-in_range.true)
 
 pub returns : goal.returns
 unfolding field_verdict
-returns c = rw (le-leb _ _ c.if-len-end.false, c.if-in_range.false)
+returns c = rw (le-leb _ _ c.if-len-end.false, c.if-not-in_range.false)

@@ -1,7 +1,7 @@
 -- `judge_last` meets its contract: its tests are those that `last-first` leaves of the sections Links and Symbols. The
 -- numbers of states, links and symbols are read from two bytes, one and one, so that no offset wraps. Assumes nothing.
 use Prim.Native.Nat.{ℕ, ◌+◌, ◌*◌, ◌≤◌}
-use mathlib.Core.Path.{◌≡◌, sym, ap, ◌∙◌}
+use mathlib.Core.Path.{◌≡◌, sym, ◌∙◌}
 use native.Mathlib.Nat.{mul-le-mul}
 use native.Mathlib.Omega.{arith}
 use borrow.Author.Tests.{eq-eqb, ne_eqb}
@@ -9,9 +9,10 @@ use mathlib.Core.Bool.{Bool, cond, ◌||◌}
 use lib.Dec.{eqb}
 use lib.ListN.{length}
 use mathlib.Core.List.{List}
+use Rattle.std.proofs.lemmas.Result.{err_from_is_err_and}
 use Rattle.endian.specs.Lists.{within}
 use Rattle.endian.specs.Bytes.{u8, u16}
-use Rattle.voice.specs.Fields.{Verdict, well_formed, wrong_length, verdict_of, verdict}
+use Rattle.voice.specs.Fields.{Verdict, well_formed, wrong_length, verdict}
 use Rattle.voice.specs.Voice.{states_at, state_count, links_at, link_count, symbols_at, symbol_count}
 use Rattle.voice.specs.Voice.{good_link_count}
 use Rattle.voice.specs.Sections.{field_verdict, and_then, last_part}
@@ -62,62 +63,66 @@ module _ (v : List ℕ) (letters states links : ℕ) (a : letters ≡ u8 v 0) (b
   from-symbols symbols g t w h k s q r =
       from-links g well_formed h k ∙ rw (symbols-placed, counted, ← s, ← q, ← r)
 
-pub returns-in_default : goal.returns-in_default
-returns-in_default c =
-    rw
-    (from-links c.args.voice.now c.byte_at-letters.result c.u16_at-states.result c.byte_at-links.result
-    c.byte_at-letters.ensures c.u16_at-states.ensures c.byte_at-links.ensures
-    c.good_link_count.result _ c.good_link_count.ensures c.judge_field-count.ensures)
-    (sym (stands c.judge_field-count.result c.in_default.not-WellFormed _))
+pub returns-in_err-judge_field : goal.returns-in_err-judge_field
+returns-in_err-judge_field c =
+    let p = err_from_is_err_and c.from_residual.result c.from_residual.ensures.1 in
+    rw (
+      p.1,
+      p.2,
+      from-links c.args.voice.now c.byte_at-letters.result c.u16_at-states.result c.byte_at-links.result
+          c.byte_at-letters.ensures c.u16_at-states.ensures c.byte_at-links.ensures
+          c.good_link_count.result _ c.good_link_count.ensures c.in_err-judge_field.ensures,
+    )
+    (sym (stands c.in_err-judge_field.field-0.0 _))
 
-pub returns-in_default-count : goal.returns-in_default-count
-returns-in_default-count c =
-    rw
-    (from-symbols c.args.voice.now c.byte_at-letters.result c.u16_at-states.result c.byte_at-links.result
-    c.byte_at-letters.ensures c.u16_at-states.ensures c.byte_at-links.ensures
-    c.byte_at-symbols.result c.good_link_count.result c.inside.result _ c.good_link_count.ensures
-    (sym (ap verdict_of c.in-WellFormed.is) ∙ c.judge_field-count.ensures)
-    c.byte_at-symbols.ensures c.inside.ensures c.judge_field-count-2.ensures)
-    (sym (stands c.judge_field-count-2.result c.in_default-count.not-WellFormed _))
+pub returns-in_err-judge_field-2 : goal.returns-in_err-judge_field-2
+returns-in_err-judge_field-2 c =
+    let r = c.from_residual-in_err-judge_field-2 in
+    let p = err_from_is_err_and r.result r.ensures.1 in
+    rw (
+      p.1,
+      p.2,
+      from-symbols c.args.voice.now c.byte_at-letters.result c.u16_at-states.result c.byte_at-links.result
+          c.byte_at-letters.ensures c.u16_at-states.ensures c.byte_at-links.ensures
+          c.byte_at-symbols.result c.good_link_count.result c.inside.result _ c.good_link_count.ensures
+          c.in_ok-judge_field.ensures c.byte_at-symbols.ensures c.inside.ensures c.in_err-judge_field-2.ensures,
+    )
+    (sym (stands c.in_err-judge_field-2.field-0.0 _))
 
--- where every field is good, the last byte decides
-pub returns-then-symbols_at-states : goal.returns-then-symbols_at-states
+-- where every field is good, the image's length decides
+pub returns-else-end-voice : goal.returns-else-end-voice
 unfolding and_then
-returns-then-symbols_at-states c =
+returns-else-end-voice c =
     rw (
       from-symbols c.args.voice.now c.byte_at-letters.result c.u16_at-states.result c.byte_at-links.result
           c.byte_at-letters.ensures c.u16_at-states.ensures c.byte_at-links.ensures
           c.byte_at-symbols.result c.good_link_count.result c.inside.result _ c.good_link_count.ensures
-          (sym (ap verdict_of c.in-WellFormed.is) ∙ c.judge_field-count.ensures)
-          c.byte_at-symbols.ensures c.inside.ensures c.judge_field-count-2.ensures,
-      c.in-WellFormed-count.is,
-      eq-eqb _ _ c.if-symbols_at-states.true,
+          c.in_ok-judge_field.ensures c.byte_at-symbols.ensures c.inside.ensures c.in_ok-judge_field-2.ensures,
+      ne_eqb _ _ c.if-end-voice.false,
     )
 
-pub returns : goal.returns
+pub returns-then-end-voice : goal.returns-then-end-voice
 unfolding and_then
-returns c =
+returns-then-end-voice c =
     rw (
       from-symbols c.args.voice.now c.byte_at-letters.result c.u16_at-states.result c.byte_at-links.result
           c.byte_at-letters.ensures c.u16_at-states.ensures c.byte_at-links.ensures
           c.byte_at-symbols.result c.good_link_count.result c.inside.result _ c.good_link_count.ensures
-          (sym (ap verdict_of c.in-WellFormed.is) ∙ c.judge_field-count.ensures)
-          c.byte_at-symbols.ensures c.inside.ensures c.judge_field-count-2.ensures,
-      c.in-WellFormed-count.is,
-      ne_eqb _ _ c.if-symbols_at-states.false,
+          c.in_ok-judge_field.ensures c.byte_at-symbols.ensures c.inside.ensures c.in_ok-judge_field-2.ensures,
+      eq-eqb _ _ c.if-end-voice.true,
     )
 
 product : (states symbols : ℕ) → states ≤ 65535 → symbols ≤ 255 → states * symbols ≤ 65535 * 255
 product states symbols h k = mul-le-mul {n₂ = 65535} {m₂ = 255} h k
 
-pub overflow_mul-states : goal.overflow_mul-states
-overflow_mul-states c =
+pub overflow_mul-end : goal.overflow_mul-end
+overflow_mul-end c =
     omega (arith, product c.u16_at-states.result c.byte_at-symbols.result (omega arith) (omega arith))
 
-pub overflow_mul-states-2 : goal.overflow_mul-states-2
-overflow_mul-states-2 c =
+pub overflow_mul-end-2 : goal.overflow_mul-end-2
+overflow_mul-end-2 c =
     omega (arith, product c.u16_at-states.result c.byte_at-symbols.result (omega arith) (omega arith))
 
-pub overflow_add-symbols_at-5 : goal.overflow_add-symbols_at-5
-overflow_add-symbols_at-5 c =
+pub overflow_add-end-2 : goal.overflow_add-end-2
+overflow_add-end-2 c =
     omega (arith, product c.u16_at-states.result c.byte_at-symbols.result (omega arith) (omega arith))

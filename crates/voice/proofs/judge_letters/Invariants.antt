@@ -1,4 +1,4 @@
-use Prim.Native.Nat.{ℕ, ◌+◌, ◌-◌, ◌*◌, ◌≤◌}
+use Prim.Native.Nat.{ℕ, ◌+◌, ◌*◌, ◌≤◌}
 use mathlib.Core.Path.{◌≡◌}
 use mathlib.Core.List.{List}
 use lib.Dec.{eqb}
@@ -9,7 +9,6 @@ use Rattle.voice.proofs.Walk.{rows_left}
 use Rattle.voice.proofs.judge_letters.Given as goal
 
 pub record LettersGood (v : List ℕ) (letters total i : ℕ) : Type 0 where
-  pub inside : i ≤ letters
   pub small : total ≤ 255 * i
   pub counted : total ≡ first_state v i
   pub left : first_bad (length v) (letters_part v)
@@ -18,6 +17,3 @@ pub record LettersGood (v : List ℕ) (letters total i : ℕ) : Type 0 where
 
 abbrev pub invariant-loop-i : goal.invariant-loop-i
 invariant-loop-i l = LettersGood l.voice l.letters l.sum l.i
-
-abbrev pub decreases-loop-i : goal.decreases-loop-i
-decreases-loop-i l = l.letters - l.i

@@ -1,4 +1,4 @@
-use Prim.Native.Nat.{ℕ, ◌+◌, ◌-◌, ◌*◌, ◌≤◌}
+use Prim.Native.Nat.{ℕ, ◌+◌, ◌*◌, ◌≤◌}
 use mathlib.Core.Path.{◌≡◌}
 use mathlib.Core.List.{List}
 use lib.ListN.{length}
@@ -9,7 +9,6 @@ use Rattle.voice.proofs.Walk.{rows_left, states_of}
 use Rattle.voice.proofs.judge_states.Given as goal
 
 pub record StatesGood (v : List ℕ) (letters end i : ℕ) : Type 0 where
-  pub inside : i ≤ letters
   pub small : end ≤ 3 + 2 * letters + 1020 * i
   pub ends : end ≡ 3 + 2 * letters + 4 * first_state v i
   pub left : first_bad (length v) (states_part v)
@@ -17,6 +16,3 @@ pub record StatesGood (v : List ℕ) (letters end i : ℕ) : Type 0 where
 
 abbrev pub invariant-loop-i : goal.invariant-loop-i
 invariant-loop-i l = StatesGood l.voice l.letters l.end l.i
-
-abbrev pub decreases-loop-i : goal.decreases-loop-i
-decreases-loop-i l = l.letters - l.i

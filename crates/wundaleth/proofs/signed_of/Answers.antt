@@ -4,26 +4,22 @@ use Prim.Native.Nat.{ℕ, ◌^◌, ◌<◌}
 use native.Mathlib.Omega.{arith}
 use lib.IntN.{pos, neg_ℤ}
 use mir.Syntax.{w32}
-use Rattle.endian.proofs.Signed.{to_z_low, from-zero-fits, negated_fits}
+use Rattle.endian.proofs.Signed.{to_z_low, from-zero-fits}
 use Rattle.call.specs.Table.{answer_of, signed_answer}
 use Rattle.wundaleth.proofs.Negative.{negative_is}
 use Rattle.wundaleth.proofs.signed_of.Goals as goal
 
-pub overflow_sub-result : goal.overflow_sub-result
-overflow_sub-result c =
-    let h : c.number-number.result < 2 ^ 31 = omega arith in
-    search (from-zero-fits w32 c.number-number.result h, negated_fits w32 c.number-number.result h)
+pub returns-in-Ok : goal.returns-in-Ok
+returns-in-Ok c =
+    to_z_low w32 _ (c.requires.below _ (ap answer_of c.in-Ok.is))
+    ∙ sym (ap (λ a. signed_answer (answer_of a)) c.in-Ok.is)
 
-pub returns-in-Value : goal.returns-in-Value
-returns-in-Value c =
-    to_z_low w32 _ (c.requires.below _ (ap answer_of c.in-Value.is))
-    ∙ sym (ap (λ a. signed_answer (answer_of a)) c.in-Value.is)
-
-pub returns-in-Refused : goal.returns-in-Refused
-returns-in-Refused c =
-    negative_is w32 c.number-number.result (omega arith)
-    ∙ ap (λ (k : ℕ). neg_ℤ (pos k)) c.number-number.ensures
-    ∙ sym (ap (λ a. signed_answer (answer_of a)) c.in-Refused.is)
+pub returns-in-Err : goal.returns-in-Err
+returns-in-Err c =
+    rw c.from.ensures
+    (negative_is w32 c.number.result (omega arith)
+    ∙ ap (λ (k : ℕ). neg_ℤ (pos k)) c.number.ensures
+    ∙ sym (ap (λ a. signed_answer (answer_of a)) c.in-Err.is))
 
 pub overflow_cast-result : goal.overflow_cast-result
-overflow_cast-result c = record { sfits = c.requires.below _ (ap answer_of c.in-Value.is) }
+overflow_cast-result c = record { sfits = c.requires.below _ (ap answer_of c.in-Ok.is) }

@@ -1,5 +1,5 @@
--- `numbering::number_all` meets its contract: before each height the places of the heights below it are left. The
--- measure is the heights left. Assumes nothing.
+-- `numbering::number_all` meets its contract: before each height the places of the heights below it are left. Assumes
+-- nothing.
 use Prim.Native.Nat.{suc, ◌-◌}
 use mathlib.Core.Path.{◌≡◌, ap}
 use mathlib.Core.List.{◌++◌}
@@ -8,6 +8,9 @@ use Rattle.registering.specs.Numbering.{heights_in, places_of, places_below}
 use Rattle.registering.proofs.Numbers.{placed-all, places-next, places-end}
 use Rattle.registering.proofs.Placing.{rows_on, placed_first, placed-own, placed_on}
 use Rattle.building.proofs.numbering.number_all.Goals as goal
+
+pub loop-h-init : goal.loop-h-init
+loop-h-init c = placed_first c.requires c.top_of-h.result c.top_of-h.ensures.0
 
 pub number_level-k-requires : goal.number_level-k-requires
 number_level-k-requires c =
@@ -35,15 +38,3 @@ returns c =
     let z : l.h ≡ 0 = omega (arith, c.loop-h-test.false) in
     let none = rw (ap (places_below heights a.count) z, places-end heights a.count) at l.invariant in
     rw (placed-all none.placed) at none
-
-pub top_of-h-requires : goal.top_of-h-requires
-top_of-h-requires c =
-    c.requires
-
-pub loop-h-init : goal.loop-h-init
-loop-h-init c =
-    placed_first c.requires c.top_of-h.result c.top_of-h.ensures.0
-
-pub loop-h-smaller : goal.loop-h-smaller
-loop-h-smaller c =
-    let h = c.loop-h-test.true in omega arith

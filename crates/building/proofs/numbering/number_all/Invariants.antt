@@ -3,6 +3,3 @@ use Rattle.building.proofs.numbering.number_all.Given as goal
 
 abbrev pub invariant-loop-h : goal.invariant-loop-h
 invariant-loop-h l = PlacedIn l.initial.rows l.rows l.count (places_below (heights_in l.initial.rows) l.count l.h) l.k
-
-abbrev pub decreases-loop-h : goal.decreases-loop-h
-decreases-loop-h l = l.h

@@ -1,65 +1,34 @@
--- `numbering::top_of` meets its contract: the continuations of the rows passed are shorter than the top so far. The
--- measure is the rows left. Assumes nothing.
-use Prim.Native.Nat.{◌<◌}
-use mathlib.Core.List.{[]}
+-- `numbering::top_of` meets its contract: the continuations of the rows passed are shorter than the top so far. Assumes
+-- nothing.
+use Prim.Native.Nat.{ℕ, ◌+◌, ◌<◌, max}
+use mathlib.Core.Path.{◌≡◌, sym, ap, ◌∙◌}
 use native.Mathlib.Decide.{ℕ_discrete}
 use native.Mathlib.Omega.{arith}
-use lib.ListN.{get_or}
-use Rattle.checking.proofs.Columns.{column-at}
-use Rattle.registering.specs.Register.{longest_of}
+use lib.ListN.{get_or, take, length-take}
+use lib.Seq.{get_or-take}
+use Rattle.std.specs.Ordering.{ord_max, nat_cmp}
+use Rattle.std.proofs.lemmas.Bool.Decides.{nat_tests}
+use Rattle.registering.specs.Register.{no_row}
+use Rattle.registering.specs.Numbering.{heights_in}
+use Rattle.registering.proofs.Fields.{field-at}
 use Rattle.building.proofs.numbering.top_of.Goals as goal
-use Rattle.building.proofs.numbering.top_of.Goals.{then-top-longest, else-top-longest}
 
-pub loop-r-init : goal.loop-r-init
-loop-r-init c =
-    (λ r h. absurd (omega arith), omega arith, omega arith)
+greater : (a b : ℕ) → ord_max nat_cmp a b ≡ max a b
+greater a b = grind (arith, nat_tests)
 
-pub loop-r-preserved : goal.loop-r-preserved
-loop-r-preserved c =
-    let low : longest_of (get_or c.args.rows.now c.loop-r.r []) < 33 =
-    let r = c.loop-r.r in
-    rw (column-at 3 r c.args.rows.now) at (c.requires.low r c.loop-r-test.true) in (
-      λ r h. elim (ℕ_discrete r c.loop-r.r) [
-        | yes e ↦ let k = column-at 3 r c.args.rows.now in
-            rw (k, e)
-            (elim c.if-top-longest.branch [ then-top-longest w ↦ omega arith | else-top-longest w ↦ omega arith ])
-        | no e ↦ let k = c.loop-r.invariant.0 r (omega arith) in
-            elim c.if-top-longest.branch [ then-top-longest w ↦ omega arith | else-top-longest w ↦ omega arith ]
+pub loop-row-preserved : goal.loop-row-preserved
+loop-row-preserved c =
+    let rows = c.args.rows.now in
+    let i = c.loop-row.row-index in
+    let h : i < c.args.count = omega (arith, length-take c.args.count rows, c.loop-row-test.true) in
+    let e : (get_or (take c.args.count rows) i no_row).longest ≡ get_or (heights_in rows) i 0 =
+    ap (λ row. row.longest) (get_or-take c.args.count rows i no_row h)
+    ∙ sym (field-at (λ row. row.longest) i rows no_row) in
+    let m : c.max-top.result ≡ max c.loop-row.top (get_or (heights_in rows) i 0 + 1) =
+    c.max-top.ensures ∙ greater c.loop-row.top _ ∙ ap (λ k. max c.loop-row.top (k + 1)) e in (
+      λ r q. elim (ℕ_discrete r i) [
+        | yes p ↦ omega (arith, ap (λ k. get_or (heights_in rows) k 0) p, m)
+        | no p ↦ omega (arith, c.loop-row.invariant.0 r (omega arith), m)
       ],
-      omega arith,
-      elim c.if-top-longest.branch [ then-top-longest w ↦ omega (arith, low) | else-top-longest w ↦ omega arith ],
+      omega (arith, c.requires.low i h, c.loop-row.invariant.1, m),
     )
-
-pub returns : goal.returns
-returns c =
-    let i = c.loop-r.invariant in (λ r h. i.0 r (omega arith), i.2)
-
-pub offset_bounds-rows-r : goal.offset_bounds-rows-r
-offset_bounds-rows-r c =
-    omega (arith, c.requires.few, c.loop-r-test.true)
-
-pub bounds-rows-r : goal.bounds-rows-r
-bounds-rows-r c =
-    omega (arith, c.requires.few, c.loop-r-test.true)
-
-pub overflow_cast-longest : goal.overflow_cast-longest
-overflow_cast-longest c =
-    let low : longest_of (get_or c.args.rows.now c.loop-r.r []) < 33 =
-    let r = c.loop-r.r in
-    rw (column-at 3 r c.args.rows.now) at (c.requires.low r c.loop-r-test.true) in
-    omega (arith, low)
-
-pub overflow_add-top : goal.overflow_add-top
-overflow_add-top c =
-    let low : longest_of (get_or c.args.rows.now c.loop-r.r []) < 33 =
-    let r = c.loop-r.r in
-    rw (column-at 3 r c.args.rows.now) at (c.requires.low r c.loop-r-test.true) in
-    omega (arith, low)
-
-pub overflow_add-r : goal.overflow_add-r
-overflow_add-r c =
-    omega (arith, c.requires.few, c.loop-r-test.true)
-
-pub loop-r-smaller : goal.loop-r-smaller
-loop-r-smaller c =
-    let h = c.loop-r-test.true in omega arith

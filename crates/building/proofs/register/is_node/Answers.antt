@@ -1,43 +1,22 @@
 -- `register::is_node` meets its contract: nodes with another mark of their continuations, another number of them, or
 -- another longest one, differ, and else the continuations decide. Assumes nothing.
 use mathlib.Core.Path.{sym, subst}
-use native.Mathlib.Omega.{arith}
 use Rattle.registering.specs.Finding.{Lettered}
-use Rattle.registering.proofs.Rests.{group-lettered, group-small, other_mark, other-many, other-longest}
+use Rattle.registering.proofs.Rests.{group-lettered, other_mark, other-many, other-longest}
 use Rattle.registering.proofs.Rests.{same-letters}
 use Rattle.building.proofs.register.is_node.Goals as goal
-
-pub overflow_cast-row : goal.overflow_cast-row
-overflow_cast-row c =
-    omega (arith, (group-small c.requires.words.0 c.requires.words.1).4)
 
 pub returns-then-row-a : goal.returns-then-row-a
 returns-then-row-a c =
     other_mark c.args.row.now c.requires.words.1 c.requires.word_group c.if-row-a.true
 
-pub overflow_cast-many : goal.overflow_cast-many
-overflow_cast-many c =
-    omega (arith, (group-small c.requires.words.0 c.requires.words.1).1)
-
 pub returns-then-many-a : goal.returns-then-many-a
 returns-then-many-a c =
     other-many c.args.row.now c.requires.words.1 c.requires.word_group c.if-many-a.true
 
-pub overflow_cast-longest : goal.overflow_cast-longest
-overflow_cast-longest c =
-    omega (arith, (group-small c.requires.words.0 c.requires.words.1).3)
-
 pub returns-then-longest-a : goal.returns-then-longest-a
 returns-then-longest-a c =
     other-longest c.args.row.now c.requires.words.1 c.requires.word_group c.if-longest-a.true
-
-pub overflow_cast-row-2 : goal.overflow_cast-row-2
-overflow_cast-row-2 c =
-    omega (arith, (group-small c.requires.words.0 c.requires.words.1).0)
-
-pub overflow_cast-row-3 : goal.overflow_cast-row-3
-overflow_cast-row-3 c =
-    omega (arith, (group-small c.requires.words.0 c.requires.words.1).2)
 
 pub same_rests-requires : goal.same_rests-requires
 same_rests-requires c =

@@ -4,6 +4,3 @@ use Rattle.building.proofs.sharing.common_letters.Given as goal
 
 abbrev pub invariant-loop-d : goal.invariant-loop-d
 invariant-loop-d l = Alike l.words (l.i - 1) l.i l.d
-
-abbrev pub decreases-loop-d : goal.decreases-loop-d
-decreases-loop-d l = l.most - l.d

@@ -75,15 +75,6 @@ put_image-requires c =
       count_in_bounds = omega (arith, room, ap length (image_is d p));
     }
 
-pub overflow_cast-result : goal.overflow_cast-result
-overflow_cast-result c =
-    let a = c.args in
-    let m = drawn_measured c.requires c.number_all.ensures in
-    let h = size_few a.shared.now c.number_all.new.rows m (suc a.count) (omega arith) in
-    let few = c.requires.few in
-    let e = c.image_size-size.ensures in
-    record { fits = omega arith }
-
 pub returns : goal.returns
 returns c =
     let size : (let a = c.args in
@@ -109,14 +100,13 @@ returns c =
     all-written limits few_places room size
     (rw (image_is c.requires c.number_all.ensures) at c.put_image.ensures)
 
-pub overflow_cast-rows : goal.overflow_cast-rows
-overflow_cast-rows c =
-    omega (arith, c.requires.buildable.words.few)
-
 pub number_all-requires : goal.number_all-requires
 number_all-requires c =
     drawn_rows c.requires
 
-pub shape_of-out : goal.shape_of-out
-shape_of-out c =
-    c.put_image.auto.out
+pub overflow_cast-result : goal.overflow_cast-result
+overflow_cast-result c =
+    let a = c.args in
+    let m = drawn_measured c.requires c.number_all.ensures in
+    let h = size_few a.shared.now c.number_all.new.rows m (suc a.count) (omega arith) in
+    omega (arith, h, c.requires.built.register.few, c.image_size-size.ensures)

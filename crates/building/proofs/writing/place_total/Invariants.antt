@@ -1,4 +1,4 @@
-use Prim.Native.Nat.{◌*◌, ◌-◌, ◌≤◌}
+use Prim.Native.Nat.{◌*◌, ◌≤◌}
 use mathlib.Core.Path.{◌≡◌}
 use mathlib.Core.List.{map}
 use Rattle.endian.specs.Lists.{sum}
@@ -7,8 +7,5 @@ use Rattle.registering.specs.Image.{letters_from}
 use Rattle.building.proofs.writing.place_total.Given as goal
 
 abbrev pub invariant-loop-node : goal.invariant-loop-node
-invariant-loop-node l = (l.node ≤ l.count) × (l.places ≡ sum (map (states l.voice) (letters_from l.words l.rows 1 l.node)))
+invariant-loop-node l = (l.places ≡ sum (map (states l.voice) (letters_from l.words l.rows 1 l.node)))
     × (l.places ≤ 4 * l.node)
-
-abbrev pub decreases-loop-node : goal.decreases-loop-node
-decreases-loop-node l = l.count - l.node

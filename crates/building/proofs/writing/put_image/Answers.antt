@@ -69,10 +69,6 @@ returns c =
     image-put a.words.now a.shared.now a.links.now a.rows.now a.count
     c.put_number.ensures c.put_letters.ensures c.put_lists-end.ensures c.put_number-2.ensures
 
-pub overflow_cast-count : goal.overflow_cast-count
-overflow_cast-count c =
-    omega (arith, c.requires.lettered.places.few)
-
 pub put_number-requires : goal.put_number-requires
 put_number-requires c =
     let room : (let a = c.args in
@@ -86,14 +82,3 @@ put_number-requires c =
       image-parts a.words.now a.shared.now a.links.now a.rows.now a.count,
     ) in
     omega (arith, room)
-
-pub shape_of-out : goal.shape_of-out
-shape_of-out c =
-    let long-1 : length c.put_number.new.out ≡ length c.args.out.now =
-    c.put_number.auto.out in
-    let long-2 : length c.put_letters.new.out ≡ length c.args.out.now =
-    c.put_letters.auto.out ∙ long-1 in
-    let long-3 : length c.put_lists-end.new.out
-    ≡ length c.args.out.now =
-    c.put_lists-end.auto.out ∙ long-2 in
-    c.put_number-2.auto.out ∙ long-3

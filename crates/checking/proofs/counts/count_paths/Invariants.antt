@@ -4,7 +4,4 @@ use Rattle.checking.proofs.Filling.{FilledDownTo}
 use Rattle.checking.proofs.counts.count_paths.Given as goal
 
 abbrev pub invariant-loop-vertex : goal.invariant-loop-vertex
-invariant-loop-vertex l = FilledDownTo (capped_count (graph_of l.lexicon)) l.lexicon l.counts l.vertex
-
-abbrev pub decreases-loop-vertex : goal.decreases-loop-vertex
-decreases-loop-vertex l = l.vertex
+invariant-loop-vertex l = FilledDownTo (capped_count (graph_of l.lists.lexicon.now)) l.lists.lexicon.now l.counts l.vertex

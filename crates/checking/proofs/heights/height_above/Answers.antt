@@ -1,73 +1,31 @@
--- `heights::height_above` meets its contract: the greatest height so far and those of the successors that are left make the greatest of all.
--- The measure is what is left of the list. Assumes nothing.
+-- `heights::height_above` meets its contract: the greatest height so far and those of the successors that are left make
+-- the greatest of all. Assumes nothing.
+use mathlib.Core.Path.{◌≡◌}
+use Prim.Native.Nat.{max}
+use lib.ListN.{get_or}
 use native.Mathlib.Omega.{arith}
 use borrow.Author.Rules.{rules}
-use Rattle.checking.proofs.Arcs.{arc-next}
-use Rattle.checking.proofs.Filling.{vertex-small, list-begins, list-ends, entry-above, successor_small}
+use Rattle.checking.proofs.Filling.{entry-above}
+use Rattle.checking.proofs.Located.{formed}
+use Rattle.checking.proofs.Successors.{successor_at, successors-done}
 use Rattle.checking.proofs.Longest.{height-start, height-next, height-done}
 use Rattle.checking.proofs.heights.height_above.Goals as goal
-use Rattle.checking.proofs.heights.height_above.Goals.{then-most-height, else-most-height}
 
-pub loop-at-init : goal.loop-at-init
-loop-at-init c =
+pub loop-pair-init : goal.loop-pair-init
+loop-pair-init c = height-start _ _
+
+pub bounds-heights-number_of : goal.bounds-heights-number_of
+bounds-heights-number_of c =
     let p = c.requires in
-    rw c.number_at.ensures (height-start p.located.formed p.vertex (list-begins p))
+    (successor_at c.successors-pair-items.ensures (formed c.args.lists.located) p.vertex c.loop-pair-test.true c.number_of.ensures).few
 
-pub number_at-s-requires : goal.number_at-s-requires
-number_at-s-requires c =
-    let i = c.loop-at.invariant in
-    omega (arith, (arc-next i.arcs c.loop-at-test.true).room, i.arcs.there)
-
-pub overflow_add-at-in-loop-at : goal.overflow_add-at-in-loop-at
-overflow_add-at-in-loop-at c =
-    let i = c.loop-at.invariant in
-    let h = (arc-next i.arcs c.loop-at-test.true).room in
-    let e = i.arcs.there in
-    search rules
-
-pub loop-at-preserved : goal.loop-at-preserved
-loop-at-preserved c =
-    let n = arc-next c.loop-at.invariant.arcs c.loop-at-test.true in
-    let e = entry-above c.requires n c.number_at-s.ensures in
-    height-next c.loop-at.invariant n
-    (elim c.if-most-height.branch [ then-most-height w ↦ omega (arith, e) | else-most-height w ↦ omega (arith, e) ])
-
-pub offset_bounds-offsets-vertex : goal.offset_bounds-offsets-vertex
-offset_bounds-offsets-vertex c = let h = vertex-small c.requires in search rules
-
-pub bounds-offsets-vertex : goal.bounds-offsets-vertex
-bounds-offsets-vertex c = let h = vertex-small c.requires in search rules
-
-pub overflow_cast-start : goal.overflow_cast-start
-overflow_cast-start c = let h = list-ends c.requires in search rules
-
-pub overflow_add-stop : goal.overflow_add-stop
-overflow_add-stop c = let h = list-ends c.requires in search rules
-
-pub number_at-requires : goal.number_at-requires
-number_at-requires c = let h = list-ends c.requires in search rules
-
-pub overflow_mul-stop : goal.overflow_mul-stop
-overflow_mul-stop c = let h = list-ends c.requires in search rules
-
-pub overflow_add-stop-2 : goal.overflow_add-stop-2
-overflow_add-stop-2 c = let h = list-ends c.requires in search rules
-
-pub overflow_add-at : goal.overflow_add-at
-overflow_add-at c = let h = list-ends c.requires in search rules
-
-pub offset_bounds-heights-s : goal.offset_bounds-heights-s
-offset_bounds-heights-s c =
-    let h = successor_small c.requires (arc-next c.loop-at.invariant.arcs c.loop-at-test.true) c.number_at-s.ensures in
-    search rules
-
--- the successor has an entry of the table
-pub bounds-heights-s : goal.bounds-heights-s
-bounds-heights-s c =
-    successor_small c.requires (arc-next c.loop-at.invariant.arcs c.loop-at-test.true) c.number_at-s.ensures
-
-pub loop-at-smaller : goal.loop-at-smaller
-loop-at-smaller c = let h = c.loop-at-test.true in omega arith
+pub loop-pair-preserved : goal.loop-pair-preserved
+loop-pair-preserved c =
+    let p = c.requires in
+    let n = successor_at c.successors-pair-items.ensures (formed c.args.lists.located) p.vertex c.loop-pair-test.true c.number_of.ensures in
+    let e = entry-above p n in
+    let m : c.max-most.result ≡ max c.loop-pair.most (get_or c.args.heights.now c.number_of.result 0) = search rules in
+    height-next c.loop-pair.invariant n (omega arith)
 
 pub returns : goal.returns
-returns c = height-done c.loop-at.invariant (search rules)
+returns c = height-done c.loop-pair.invariant (successors-done c.successors-pair-items.ensures c.loop-pair-test.false)

@@ -1,15 +1,16 @@
 -- `mark_row` meets its contract: of the pairs with u those below v are marked, and v is the next node with u's letter
 -- or the sink. The measure is the vertices that are left. Assumes nothing.
-use Prim.Native.Nat.{ℕ, suc, ◌+◌, ◌≤◌, ◌<◌}
+use Prim.Native.Nat.{ℕ, suc, ◌<◌}
 use mathlib.Core.Path.{◌≡◌, sym, ◌∙◌}
 use mathlib.Core.List.{List}
 use native.Mathlib.Omega.{arith}
 use lib.ListN.{get_or}
-use Rattle.endian.specs.Bytes.{u16}
-use Rattle.lexicon.specs.Lexicon.{node_count}
+use Rattle.lexicon.specs.Lexicon.{sink_of}
 use Rattle.graph.specs.Graph.{graph_of, sink}
+use Rattle.checking.specs.Tables.{WellFormed, WithOffsets}
 use Rattle.checking.specs.PairTable.{FirstAlike, RowParts}
-use Rattle.checking.proofs.Arcs.{sound_of, nodes-there}
+use Rattle.checking.proofs.Arcs.{sound_of}
+use Rattle.checking.proofs.Located.{formed}
 use Rattle.checking.proofs.Masks.{few-vertices}
 use Rattle.checking.proofs.PairTable.{RowAt, row-start, row-skip, row_next, row_done}
 use Rattle.checking.proofs.pairs.mark_row.Goals as goal
@@ -19,52 +20,42 @@ record BelowSink (x : List ℕ) (u : ℕ) : Type 0 where
   below : u < sink (graph_of x)
   few : sink (graph_of x) < 402
 
-known : {x offsets nexts b : List ℕ} {u : ℕ} → RowParts x offsets nexts u b → BelowSink x u
+known : {x nexts b : List ℕ} {u : ℕ} → WellFormed x → RowParts x nexts u b → BelowSink x u
 unfolding sink
-known h = record { below = omega (arith, h.inside); few = few-vertices h.located }
+known w h = record { below = omega (arith, h.inside); few = few-vertices w }
 
-small : {x offsets nexts b : List ℕ} {u : ℕ} → RowParts x offsets nexts u b → u < 401
-small h = let k = known h in omega (arith, k.below, k.few)
-
-pub number_at-nodes-requires : goal.number_at-nodes-requires
-number_at-nodes-requires c = omega (arith, nodes-there c.requires.row_parts.located.formed)
-
--- the number of nodes
-counted : (x : List ℕ) {n : ℕ} → n ≡ u16 x 0 → sink (graph_of x) ≡ n + 1
-unfolding sink node_count
-counted x e = omega arith
+small : {x offsets nexts b : List ℕ} {u : ℕ} → ∥ WithOffsets x offsets ∥₁ → RowParts x nexts u b → u < 401
+small l h = let k = known (formed l) h in omega (arith, k.below, k.few)
 
 pub set_bit-requires : goal.set_bit-requires
-set_bit-requires c = let h = c.requires.row_parts in omega (arith, h.above.long, small h)
+set_bit-requires c = let h = c.requires.row_parts in omega (arith, h.above.long, small c.args.lists.located h)
 
 -- the first node after u with its letter
-first : {x offsets nexts b : List ℕ} {u : ℕ} → RowParts x offsets nexts u b
+first : {x nexts b : List ℕ} {u : ℕ} → WellFormed x → RowParts x nexts u b
     → FirstAlike (graph_of x) ((graph_of x).letter u) (suc u) (get_or nexts u 0)
-first {u = u} h = h.chained.next u (omega arith) (known h).below
+first {u = u} w h = h.chained.next u (omega arith) (known w h).below
 
 pub loop-v-init : goal.loop-v-init
 loop-v-init c =
     let h = c.requires.row_parts in
-    let k = known h in
-    row-skip (sound_of h.located.formed) k.few h.node k.below (omega arith) (omega arith) (first h)
-    (row-start (graph_of c.args.lexicon.now) k.few k.below h.above c.set_bit.auto.pairs c.set_bit.ensures)
+    let w = formed c.args.lists.located in
+    let k = known w h in
+    row-skip (sound_of w) k.few h.node k.below (omega arith) (omega arith) (first w h)
+    (row-start (graph_of c.args.lists.lexicon.now) k.few k.below h.above c.set_bit.auto.pairs c.set_bit.ensures)
 
 -- the node whose turn it is
-node : (x : List ℕ) {n v : ℕ} → n ≡ u16 x 0 → v ≤ n → v < sink (graph_of x)
-node x e h = omega (arith, counted x e)
+node : (x : List ℕ) {n v : ℕ} → n ≡ sink_of x → v < n → v < sink (graph_of x)
+unfolding sink sink_of
+node x e h = omega arith
 
 pub mark_pair-requires : goal.mark_pair-requires
 unfolding sink
 mark_pair-requires c =
-    let h = c.requires.row_parts in (
-      h.located,
-      h.inside,
-      omega (arith, node c.args.lexicon.now c.number_at-nodes.ensures c.loop-v-test.true),
-      c.loop-v.invariant.marked.long,
-    )
+    let h = c.requires.row_parts in
+    (h.inside, omega (arith, node c.args.lists.lexicon.now c.sink-sink.ensures.value c.loop-v-test.true), c.loop-v.invariant.marked.long)
 
 -- the one after it
-next : {x offsets nexts b after : List ℕ} {u v : ℕ} → RowParts x offsets nexts u b → RowAt (graph_of x) u v after
+next : {x nexts b after : List ℕ} {u v : ℕ} → RowParts x nexts u b → RowAt (graph_of x) u v after
     → v < sink (graph_of x)
     → FirstAlike (graph_of x) ((graph_of x).letter u) (suc v) (get_or nexts v 0)
 next {v = v} h i l = rw (i.same l) at (h.chained.next v (omega (arith, i.above)) l)
@@ -72,10 +63,11 @@ next {v = v} h i l = rw (i.same l) at (h.chained.next v (omega (arith, i.above))
 pub loop-v-preserved : goal.loop-v-preserved
 loop-v-preserved c =
     let h = c.requires.row_parts in
-    let k = known h in
+    let w = formed c.args.lists.located in
+    let k = known w h in
     let i = c.loop-v.invariant in
-    let l = node c.args.lexicon.now c.number_at-nodes.ensures c.loop-v-test.true in
-    let ok = sound_of h.located.formed in
+    let l = node c.args.lists.lexicon.now c.sink-sink.ensures.value c.loop-v-test.true in
+    let ok = sound_of w in
     row-skip ok k.few h.node k.below (omega (arith, i.above)) (omega arith) (next h i l)
     (row_next ok k.few h.node k.below i l c.requires.mask_of c.mark_pair.auto.pairs c.mark_pair.ensures)
 
@@ -83,46 +75,48 @@ pub shape_of-pairs : goal.shape_of-pairs
 shape_of-pairs c = c.loop-v.invariant.marked.long ∙ sym c.requires.row_parts.above.long
 
 pub returns : goal.returns
+unfolding sink sink_of
 returns c =
     let h = c.requires.row_parts in
-    let k = known h in
+    let w = formed c.args.lists.located in
+    let k = known w h in
     let i = c.loop-v.invariant in
-    row_done (sound_of h.located.formed) k.few h.node k.below
-    (omega (arith, counted c.args.lexicon.now c.number_at-nodes.ensures, c.loop-v-test.false, i.inside)) i.marked
+    row_done (sound_of w) k.few h.node k.below
+    (omega (arith, c.sink-sink.ensures.value, c.loop-v-test.false, i.inside)) i.marked
 
 pub overflow_mul-u : goal.overflow_mul-u
-overflow_mul-u c = omega (arith, small c.requires.row_parts)
+overflow_mul-u c = omega (arith, small c.args.lists.located c.requires.row_parts)
 
 pub overflow_add-u : goal.overflow_add-u
-overflow_add-u c = omega (arith, small c.requires.row_parts)
+overflow_add-u c = omega (arith, small c.args.lists.located c.requires.row_parts)
 
 pub offset_bounds-nexts-u : goal.offset_bounds-nexts-u
-offset_bounds-nexts-u c = omega (arith, small c.requires.row_parts)
+offset_bounds-nexts-u c = omega (arith, small c.args.lists.located c.requires.row_parts)
 
 pub bounds-nexts-u : goal.bounds-nexts-u
-bounds-nexts-u c = omega (arith, small c.requires.row_parts)
+bounds-nexts-u c = omega (arith, small c.args.lists.located c.requires.row_parts)
 
 pub overflow_cast-v : goal.overflow_cast-v
-overflow_cast-v c = let h = c.requires.row_parts in omega (arith, (first h).inside, (known h).few)
+overflow_cast-v c = let h = c.requires.row_parts in omega (arith, (first (formed c.args.lists.located) h).inside, (known (formed c.args.lists.located) h).few)
 
 pub offset_bounds-nexts-v : goal.offset_bounds-nexts-v
 offset_bounds-nexts-v c =
-    let l = node c.args.lexicon.now c.number_at-nodes.ensures c.loop-v-test.true in
-    omega (arith, l, (known c.requires.row_parts).few)
+    let l = node c.args.lists.lexicon.now c.sink-sink.ensures.value c.loop-v-test.true in
+    omega (arith, l, (known (formed c.args.lists.located) c.requires.row_parts).few)
 
 pub bounds-nexts-v : goal.bounds-nexts-v
 bounds-nexts-v c =
-    let l = node c.args.lexicon.now c.number_at-nodes.ensures c.loop-v-test.true in
-    omega (arith, l, (known c.requires.row_parts).few)
+    let l = node c.args.lists.lexicon.now c.sink-sink.ensures.value c.loop-v-test.true in
+    omega (arith, l, (known (formed c.args.lists.located) c.requires.row_parts).few)
 
 pub overflow_cast-v-in-loop-v : goal.overflow_cast-v-in-loop-v
 overflow_cast-v-in-loop-v c =
     let h = c.requires.row_parts in
-    let l = node c.args.lexicon.now c.number_at-nodes.ensures c.loop-v-test.true in
-    omega (arith, (next h c.loop-v.invariant l).inside, (known h).few)
+    let l = node c.args.lists.lexicon.now c.sink-sink.ensures.value c.loop-v-test.true in
+    omega (arith, (next h c.loop-v.invariant l).inside, (known (formed c.args.lists.located) h).few)
 
 pub loop-v-smaller : goal.loop-v-smaller
 loop-v-smaller c =
     let h = c.requires.row_parts in
-    let l = node c.args.lexicon.now c.number_at-nodes.ensures c.loop-v-test.true in
+    let l = node c.args.lists.lexicon.now c.sink-sink.ensures.value c.loop-v-test.true in
     omega (arith, c.loop-v-test.true, (next h c.loop-v.invariant l).from)

@@ -11,9 +11,3 @@ returns c =
     let a = c.args in
     rw (shl_exact {a = 1} 1 (a.i % 8) 8 (omega arith) (omega (arith, mod-lt a.i {m = 8} (omega arith))), one-mul)
     (bit-set a.pairs.now a.i c.requires)
-
-pub overflow_shl-pairs : goal.overflow_shl-pairs
-overflow_shl-pairs c = omega arith
-
-pub bounds-pairs-at-2 : goal.bounds-pairs-at-2
-bounds-pairs-at-2 c = let h = c.requires in omega arith

@@ -1,10 +1,9 @@
-use Prim.Native.Nat.{◌-◌}
-use lib.ListN.{length}
-use Rattle.codes.proofs.Walks.{ArcsToPass}
+use lib.ListN.{drop}
+use Rattle.lexicon.specs.Lexicon.{successors}
+use Rattle.graph.specs.Graph.{graph_of}
+use Rattle.codes.proofs.Walks.{CodePassed}
 use Rattle.codes.proofs.descent.descend.Given as goal
 
-abbrev pub invariant-loop-left : goal.invariant-loop-left
-invariant-loop-left l = ArcsToPass l.lexicon l.vertex l.code l.at l.left
-
-abbrev pub decreases-loop-left : goal.decreases-loop-left
-decreases-loop-left l = length l.lexicon - l.at
+abbrev pub invariant-loop-pair : goal.invariant-loop-pair
+invariant-loop-pair l =
+    CodePassed (graph_of l.lexicon) l.vertex l.code l.left (drop l.pair-index (successors l.lexicon l.vertex))

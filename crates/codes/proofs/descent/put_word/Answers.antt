@@ -1,5 +1,4 @@
--- `descent::put_word` meets its contract: the print bytes of the letters passed stand at the output's start. The
--- measure is the letters left. Assumes nothing.
+-- `descent::put_word` meets its contract: the print bytes of the letters passed stand at the output's start. Assumes nothing.
 use Prim.Native.Nat.{ℕ, ◌+◌, ◌*◌, ◌≤◌, ◌<◌}
 use mathlib.Core.Path.{◌≡◌, refl, sym, ap, ◌∙◌}
 use mathlib.Core.List.{◌++◌}
@@ -31,7 +30,7 @@ returns-then-out-n c =
     }
 
 pub loop-i-init : goal.loop-i-init
-loop-i-init c = (omega arith, refl, refl)
+loop-i-init c = (refl, refl)
 
 pub bounds-letters-i : goal.bounds-letters-i
 bounds-letters-i c = omega (arith, c.loop-i-test.true, c.requires.0)
@@ -45,8 +44,7 @@ there c =
     c.requires.2
 
 pub bounds-out-i : goal.bounds-out-i
-bounds-out-i c =
-    omega (arith, c.loop-i-test.true, c.if-out-n.false, c.loop-i.invariant.1)
+bounds-out-i c = omega (arith, c.loop-i-test.true, c.if-out-n.false, c.loop-i.invariant.0)
 
 pub loop-i-preserved : goal.loop-i-preserved
 unfolding print_byte
@@ -54,24 +52,23 @@ loop-i-preserved c =
     let a = c.args in
     let t = c.loop-i-test.true in
     let word = spelled a.voice.now (take a.n a.letters.now) in (
-      omega arith,
-      length-set c.loop-i.out c.loop-i.i _ ∙ c.loop-i.invariant.1,
-      rw (c.loop-i.invariant.2, ← spelled_at a.voice.now a.letters.now (long (goal.at.loop-i-preserved c).Start) t)
+      length-set c.loop-i.out c.loop-i.i _ ∙ c.loop-i.invariant.0,
+      rw (c.loop-i.invariant.1, ← spelled_at a.voice.now a.letters.now (long (goal.at.loop-i-preserved c).Start) t)
           (copy_more word a.out.now c.loop-i.i (print_byte a.voice.now 0)
           (omega (arith, size (goal.at.loop-i-preserved c).Start))
           (omega (arith, c.if-out-n.false))),
     )
 
 pub shape_of-out : goal.shape_of-out
-shape_of-out c = c.loop-i.invariant.1
+shape_of-out c = c.loop-i.invariant.0
 
 pub returns : goal.returns
 returns c =
     let a = c.args in
     let word = spelled a.voice.now (take a.n a.letters.now) in
-    let e : c.loop-i.i ≡ a.n = omega (arith, c.loop-i-test.false, c.loop-i.invariant.0) in record {
+    let e : c.loop-i.i ≡ a.n = omega arith in record {
       result_value = has_room word a.out.now (size (goal.at.returns c).Start) c.if-out-n.false;
-      out_after = c.loop-i.invariant.2
+      out_after = c.loop-i.invariant.1
           ∙ ap (λ (j : ℕ). take j word ++ drop j a.out.now) e
           ∙ room-written word a.out.now (size (goal.at.returns c).Start);
     }

@@ -8,95 +8,91 @@ use lib.ListN.{length}
 use Rattle.lexicon.specs.Lexicon.{node_count, sink_of, node_letter}
 use Rattle.graph.specs.Graph.{word_count}
 use Rattle.checking.proofs.Arcs.{shape_of}
-use Rattle.checking.proofs.Filling.{count-there}
 use Rattle.codes.proofs.Words.{letter-inside}
 use Rattle.codes.proofs.Walks.{step-rises, letters-start, letters_room, letters_next, letters_done}
 use Rattle.codes.proofs.descent.spell.Goals as goal
-use Rattle.codes.proofs.descent.spell.Goals.{After-number_at-sink, In-loop-vertex}
-
-pub number_at-sink-requires : goal.number_at-sink-requires
-number_at-sink-requires c = count-there c.requires.spellable.tabled.located.formed
+use Rattle.codes.proofs.descent.spell.Goals.{After-u16_at, In-loop-step}
 
 -- N
-nodes : (c : After-number_at-sink) →
+nodes : (c : After-u16_at) →
     let a = c.args in
-    (c.number_at-sink.result ≡ node_count a.lexicon.now) × (c.number_at-sink.result ≤ 400)
+    (c.u16_at.result ≡ node_count a.lexicon.now) × (c.u16_at.result ≤ 400)
 unfolding node_count
 nodes c =
-    let e = c.number_at-sink.ensures in
+    let e = c.u16_at.ensures in
     (e, rw e (shape_of c.requires.spellable.tabled.located.formed).few)
 
-pub descend-first-requires : goal.descend-first-requires
+pub descend-step-requires : goal.descend-step-requires
 unfolding word_count
-descend-first-requires c = let p = c.requires in record {
+descend-step-requires c = let p = c.requires in record {
   tabled = p.spellable.tabled;
   vertex_bound = (omega arith, p.code_bound.0);
 }
 
-pub loop-vertex-init : goal.loop-vertex-init
-loop-vertex-init c =
-    let p = c.requires in letters-start p.spellable p.code_bound.0 p.code_bound.1 c.descend-first.ensures
+pub loop-step-init : goal.loop-step-init
+loop-step-init c =
+    let p = c.requires in letters-start p.spellable p.code_bound.0 p.code_bound.1 c.descend-step.ensures
 
 -- the vertex is a node
-node : (c : In-loop-vertex) →
-    c.loop-vertex.vertex < sink_of c.args.lexicon.now
+node : (c : In-loop-step) →
+    c.loop-step.step.vertex < sink_of c.args.lexicon.now
 unfolding sink_of node_count
-node c = omega (arith, c.loop-vertex-test.true, c.number_at-sink.ensures)
+node c = omega (arith, c.loop-step-test.true, c.u16_at.ensures)
 
-inside : (c : In-loop-vertex) →
-    1 + c.loop-vertex.vertex < length c.args.lexicon.now
+inside : (c : In-loop-step) →
+    1 + c.loop-step.step.vertex < length c.args.lexicon.now
 inside c =
     letter-inside (shape_of c.requires.spellable.tabled.located.formed) (node c)
 
-room : (c : In-loop-vertex) → c.loop-vertex.length < 32
+room : (c : In-loop-step) → c.loop-step.length < 32
 room c =
     let p = c.requires in
-    letters_room p.spellable p.code_bound.0 c.loop-vertex.invariant (node c)
+    letters_room p.spellable p.code_bound.0 c.loop-step.invariant (node c)
 
-pub descend-next-requires : goal.descend-next-requires
+pub descend-step-requires-in-loop-step : goal.descend-step-requires-in-loop-step
 unfolding sink_of
-descend-next-requires c =
+descend-step-requires-in-loop-step c =
     let p = c.requires in
-    let h = node (goal.at.descend-next-requires c).In-loop-vertex in
-    record { tabled = p.spellable.tabled; vertex_bound = (omega arith, c.loop-vertex.invariant.below) }
+    let h = node (goal.at.descend-step-requires-in-loop-step c).In-loop-step in
+    record { tabled = p.spellable.tabled; vertex_bound = (omega arith, c.loop-step.invariant.below) }
 
-pub loop-vertex-preserved : goal.loop-vertex-preserved
+pub loop-step-preserved : goal.loop-step-preserved
 unfolding node_letter
-loop-vertex-preserved c =
+loop-step-preserved c =
     let p = c.requires in
-    letters_next p.spellable p.code_bound.0 c.loop-vertex.invariant
-    (node (goal.at.loop-vertex-preserved c).In-loop-vertex) c.descend-next.ensures
+    letters_next p.spellable p.code_bound.0 c.loop-step.invariant
+    (node (goal.at.loop-step-preserved c).In-loop-step) c.descend-step-in-loop-step.ensures
 
-pub loop-vertex-smaller : goal.loop-vertex-smaller
+pub loop-step-smaller : goal.loop-step-smaller
 unfolding sink_of
-loop-vertex-smaller c =
+loop-step-smaller c =
     let p = c.requires in
-    let h = node (goal.at.loop-vertex-smaller c).In-loop-vertex in
+    let h = node (goal.at.loop-step-smaller c).In-loop-step in
     omega (
       arith,
-      step-rises p.spellable.tabled (omega arith) c.descend-next.ensures,
-      c.number_at-sink.ensures,
-      c.loop-vertex-test.true,
+      step-rises p.spellable.tabled (omega arith) c.descend-step-in-loop-step.ensures,
+      c.u16_at.ensures,
+      c.loop-step-test.true,
     )
 
 pub returns : goal.returns
 unfolding sink_of
 returns c =
     let p = c.requires in
-    letters_done p.spellable p.code_bound.0 c.loop-vertex.invariant
-    (omega (arith, c.loop-vertex-test.false, (nodes (goal.at.returns c).After-number_at-sink).0))
+    letters_done p.spellable p.code_bound.0 c.loop-step.invariant
+    (omega (arith, c.loop-step-test.false, (nodes (goal.at.returns c).After-u16_at).0))
 
 pub overflow_add-sink : goal.overflow_add-sink
-overflow_add-sink c = let h = (nodes (goal.at.overflow_add-sink c).After-number_at-sink).1 in search rules
+overflow_add-sink c = let h = (nodes (goal.at.overflow_add-sink c).After-u16_at).1 in search rules
 
 pub overflow_add-letters : goal.overflow_add-letters
-overflow_add-letters c = let h = inside (goal.at.overflow_add-letters c).In-loop-vertex in search rules
+overflow_add-letters c = let h = inside (goal.at.overflow_add-letters c).In-loop-step in search rules
 
-pub bounds-lexicon-vertex : goal.bounds-lexicon-vertex
-bounds-lexicon-vertex c = inside (goal.at.bounds-lexicon-vertex c).In-loop-vertex
+pub bounds-lexicon-step : goal.bounds-lexicon-step
+bounds-lexicon-step c = inside (goal.at.bounds-lexicon-step c).In-loop-step
 
 pub overflow_add-length : goal.overflow_add-length
-overflow_add-length c = let h = room (goal.at.overflow_add-length c).In-loop-vertex in search rules
+overflow_add-length c = let h = room (goal.at.overflow_add-length c).In-loop-step in search rules
 
 pub bounds-letters-length : goal.bounds-letters-length
-bounds-letters-length c = room (goal.at.bounds-letters-length c).In-loop-vertex
+bounds-letters-length c = room (goal.at.bounds-letters-length c).In-loop-step

@@ -56,8 +56,5 @@ returns c =
     (omega (arith, c.if-out-words.false, c.requires.count))
     (omega (arith, c.if-words-gt-WORDS.false, c.requires.count)))
 
-pub loop-code-smaller : goal.loop-code-smaller
-loop-code-smaller c = let h = c.loop-code-test.true in omega arith
-
 pub shape_of-out : goal.shape_of-out
 shape_of-out c = c.loop-code.invariant.1

@@ -1,4 +1,3 @@
-use Prim.Native.Nat.{◌-◌}
 use mathlib.Core.Path.{◌≡◌}
 use lib.ListN.{length}
 use Rattle.graph.specs.Graph.{graph_of}
@@ -7,6 +6,3 @@ use Rattle.codes.proofs.gathering.put_slots.Given as goal
 
 abbrev pub invariant-loop-code : goal.invariant-loop-code
 invariant-loop-code l = Gathered (graph_of l.lexicon) l.initial.out l.out l.code × (length l.out ≡ length l.initial.out)
-
-abbrev pub decreases-loop-code : goal.decreases-loop-code
-decreases-loop-code l = l.words - l.code

@@ -12,15 +12,15 @@ use Rattle.codes.proofs.Totals.{nodes, counted_none, counted-more}
 use Rattle.codes.proofs.listing.listing_size.Goals as goal
 use Rattle.codes.proofs.listing.listing_size.Goals.{In-loop-vertex}
 
-pub overflow_add-vertex : goal.overflow_add-vertex
+pub overflow_add-sink : goal.overflow_add-sink
 unfolding node_count
-overflow_add-vertex c = omega (arith, c.number_at-vertex.ensures, (nodes c.requires).1)
+overflow_add-sink c = omega (arith, c.u16_at.ensures, (nodes c.requires).1)
 
 pub loop-vertex-init : goal.loop-vertex-init
 unfolding sink_of node_count
 loop-vertex-init c =
-    let e : c.number_at-vertex.result + 1 ≡ sink_of c.args.lexicon.now = add-one c.number_at-vertex.result ∙ rw
-    c.number_at-vertex.ensures in
+    let e : c.u16_at.result + 1 ≡ sink_of c.args.lexicon.now = add-one c.u16_at.result ∙ rw
+    c.u16_at.ensures in
     rw e (record {
       inside = omega arith;
       long = refl;
@@ -49,9 +49,6 @@ loop-vertex-preserved c =
       counted = counted-more (omega (arith, b.1, l.invariant.long)) c.arcs_on_ways.ensures
           (one_less (goal.at.loop-vertex-preserved c).In-loop-vertex);
     }
-
-pub number_at-vertex-requires : goal.number_at-vertex-requires
-number_at-vertex-requires c = (nodes c.requires).0
 
 pub arcs_on_ways-requires : goal.arcs_on_ways-requires
 arcs_on_ways-requires c = record {

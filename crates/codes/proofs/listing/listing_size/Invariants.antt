@@ -13,6 +13,3 @@ pub record TotalsFilled (x totals : List ℕ) (vertex : ℕ) : Type 0 where
 
 abbrev pub invariant-loop-vertex : goal.invariant-loop-vertex
 invariant-loop-vertex l = TotalsFilled l.lexicon l.totals l.vertex
-
-abbrev pub decreases-loop-vertex : goal.decreases-loop-vertex
-decreases-loop-vertex l = l.vertex

@@ -1,13 +1,17 @@
 -- `hits::put_hit` stores the bytes of the score, and then those of the code. Assumes nothing.
-use Prim.Native.Nat.{ℕ, ◌+◌, ◌-◌, ◌/◌}
-use mathlib.Core.Path.{◌≡◌, ap, ap₂, ◌∙◌}
-use mathlib.Core.List.{List}
+use Prim.Native.Nat.{ℕ, ◌+◌, ◌-◌, ◌≤◌, ◌/◌}
+use mathlib.Core.Path.{◌≡◌, ap, refl, ◌∙◌}
+use mathlib.Core.List.{List, ◌++◌}
 use native.Mathlib.Omega.{arith}
 use mir.Syntax.{w32}
 use mir.Facts.{to_z-of_z}
 use lib.IntN.{ℤ}
 use lib.ListN.{length}
 use lib.Seq.{sets}
+use borrow.Rule.Slice.PartMut.{put_mid, same_len_mid}
+use Rattle.std.proofs.lemmas.List.{length-take, length-drop}
+use Rattle.std.proofs.Math.Seq.{length-sets}
+use Rattle.storing.proofs.Putting.{over}
 use Rattle.endian.specs.Bytes.{i32_bytes, u32_bytes}
 use Rattle.decoder.specs.Score.{value_of}
 use Rattle.decoder.specs.Token.{code_part}
@@ -25,19 +29,31 @@ code : (n : ℕ) {k : ℕ} {b : List ℕ} → b ≡ u32_bytes k → k ≡ 429496
 unfolding hit_of code_part
 code n e k = e ∙ ap u32_bytes k
 
-pub put_bytes-requires : goal.put_bytes-requires
+-- four bytes and then four more
+both : (out : List ℕ) (at : ℕ) {p q x y : List ℕ} → p ≡ x → q ≡ y → length x ≡ 4 → length y ≡ 4 → at + 8 ≤ length out
+    → put_mid (at + 4) (at + 8 - (at + 4)) (put_mid at (at + 4 - at) out p) q ≡ sets out at (x ++ y)
+both out at {x = x} {y = y} p q e f h =
+    let four : at + 4 - at ≡ 4 = omega arith in
+    let next : at + 8 - (at + 4) ≡ 4 = omega arith in
+    rw (
+      p,
+      q,
+      four,
+      next,
+      over out at 4 x e (omega arith),
+      over (sets out at x) (at + 4) 4 y f (omega (arith, length-sets out at x)),
+    )
+    (rw e at (sets-append x y out at))
+
+pub copy_from_slice-requires : goal.copy_from_slice-requires
 unfolding i32_bytes u32_bytes
-put_bytes-requires c = let h = c.requires in (omega arith, ap length c.i32_bytes.ensures)
+copy_from_slice-requires c = simp (length-take, length-drop) (omega (arith, ap length c.i32_bytes.ensures))
 
-pub put_bytes-requires-2 : goal.put_bytes-requires-2
+pub copy_from_slice-requires-2 : goal.copy_from_slice-requires-2
 unfolding u32_bytes
-put_bytes-requires-2 c =
-    let h = c.requires in
-    (omega (arith, c.put_bytes.auto.out), ap length c.u32_bytes.ensures)
-
-pub shape_of-out : goal.shape_of-out
-shape_of-out c =
-    c.put_bytes-2.auto.out ∙ c.put_bytes.auto.out
+copy_from_slice-requires-2 c =
+    let long = same_len_mid _ _ c.args.out.now c.copy_from_slice.new.self c.copy_from_slice.ensures.len in
+    simp (length-take, length-drop) (omega (arith, long, c.requires, ap length c.u32_bytes.ensures))
 
 pub returns : goal.returns
 unfolding i32_bytes u32_bytes
@@ -45,7 +61,5 @@ returns c =
     let a = c.args in
     let first = score a.token.0 c.i32_bytes.ensures (to_z-of_z {w = w32} (record { sfits = c.value.type_inv }))
     c.value.ensures c.score-score.ensures in
-    c.put_bytes-2.ensures
-    ∙ ap₂ (λ (o b : List ℕ). sets o (a.at + 4) b) (c.put_bytes.ensures ∙ ap (sets a.out.now a.at) first)
-    (code a.token.0 c.u32_bytes.ensures c.code.ensures)
-    ∙ sets-append (i32_bytes (hit_of a.token.0).score) (u32_bytes (hit_of a.token.0).code) a.out.now a.at
+    both a.out.now a.at (c.copy_from_slice.ensures.after ∙ first)
+    (c.copy_from_slice-2.ensures.after ∙ code a.token.0 c.u32_bytes.ensures c.code.ensures) refl refl c.requires

@@ -1,5 +1,4 @@
--- `hits::put_hits` meets its contract: before each token the hits of those before it are written. The measure is the
--- slots left. Assumes nothing.
+-- `hits::put_hits` meets its contract: before each token the hits of those before it are written. Assumes nothing.
 use Prim.Native.Nat.{◌<◌}
 use mathlib.Core.Path.{◌≡◌, ◌∙◌}
 use native.Mathlib.Omega.{arith}

@@ -1,9 +1,10 @@
 -- `fields::arcs` meets its contract: before each vertex its list and those above it are left, and the verdict is that on them and on what
--- comes later. The measure is the vertices left. Assumes nothing.
+-- comes later. Assumes nothing.
 use Prim.Native.Nat.{◌+◌}
 use mathlib.Core.Path.{◌≡◌}
 use native.Mathlib.Omega.{arith}
 use borrow.Author.Rules.{rules}
+use Rattle.std.proofs.lemmas.Result.{err_from_is_err_and}
 use Rattle.lexicon.specs.Lexicon.{node_count}
 use Rattle.lexicon.proofs.Sections.Successors.{blank}
 use Rattle.lexicon.proofs.Sections.Lists.{arcs-start, arcs_fail, arcs-next, arcs_whole}
@@ -15,22 +16,23 @@ loop-vertex-init c =
     let e : 2 + c.args.nodes ≡ 2 + node_count c.args.lexicon.now = omega (arith, p.0) in
     rw e (arcs-start _ _ blank (rw e at p.2))
 
-pub list-found-requires : goal.list-found-requires
-list-found-requires c =
+pub list-requires : goal.list-requires
+list-requires c =
     let l = c.loop-vertex.invariant in
     let p = c.requires in
-    record { start = l.place; there = l.there; number = p.0; few = p.1; vertex = c.loop-vertex-test.true; room = l.room; table = l.table }
+    record { start = l.place; there = l.there; number = p.0; few = p.1; vertex = omega arith; room = l.room; table = l.table }
 
-pub returns-in_default : goal.returns-in_default
-returns-in_default c =
-    let p = c.requires in
-    let e = c.in_default.is in
-    rw e (arcs_fail _ _ _ _ _ c.loop-vertex.invariant c.in_default.field-0 (omega (arith, p.0)) (rw e at c.list-found.ensures))
+pub returns-in_err-count : goal.returns-in_err-count
+returns-in_err-count c =
+    let q = c.requires in
+    let p = err_from_is_err_and c.from_residual.result c.from_residual.ensures.1 in
+    rw (p.1, p.2)
+    (arcs_fail _ _ _ _ _ c.loop-vertex.invariant c.in_err-count.field-0.0 (omega (arith, q.0)) c.in_err-count.ensures)
 
 pub loop-vertex-preserved : goal.loop-vertex-preserved
 loop-vertex-preserved c =
     let p = c.requires in
-    arcs-next _ _ _ _ _ c.loop-vertex.invariant _ _ (omega (arith, p.0)) (rw c.in-Good.is at c.list-found.ensures)
+    arcs-next _ _ _ _ _ c.loop-vertex.invariant _ _ (omega (arith, p.0)) c.in_ok-count.ensures
 
 pub overflow_add-at-in-loop-vertex-2 : goal.overflow_add-at-in-loop-vertex-2
 overflow_add-at-in-loop-vertex-2 c = omega (arith, (loop-vertex-preserved c).there)

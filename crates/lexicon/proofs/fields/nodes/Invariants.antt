@@ -1,9 +1,5 @@
-use Prim.Native.Nat.{◌+◌, ◌-◌}
 use Rattle.lexicon.proofs.Sections.Nodes.{NodeLettersLeft}
 use Rattle.lexicon.proofs.fields.nodes.Given as goal
 
 abbrev pub invariant-loop-node : goal.invariant-loop-node
 invariant-loop-node l = NodeLettersLeft l.letters l.lexicon l.n l.node
-
-abbrev pub decreases-loop-node : goal.decreases-loop-node
-decreases-loop-node l = l.n + 1 - l.node

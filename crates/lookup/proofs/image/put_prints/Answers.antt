@@ -1,7 +1,7 @@
 -- `image::put_prints` meets its contract: before each node those below it have their prints. The measure is the nodes
 -- left. Assumes nothing.
 use Prim.Native.Nat.{ℕ, ◌+◌, ◌*◌, ◌≤◌, ◌<◌}
-use mathlib.Core.Path.{refl}
+use mathlib.Core.Path.{◌≡◌, refl}
 use native.Mathlib.Omega.{arith}
 use mathlib.Core.List.{List}
 use lib.ListN.{length, get_or}
@@ -10,12 +10,11 @@ use Rattle.lexicon.specs.Lexicon.{node_count, node_letter, sink_of}
 use Rattle.graph.specs.Checking.{Accepted}
 use Rattle.graph.proofs.Accepted.{accepted}
 use Rattle.checking.proofs.Arcs.{shape_of}
-use Rattle.checking.proofs.Filling.{count-there}
 use Rattle.codes.specs.Steps.{Readable}
 use Rattle.codes.proofs.Words.{formed, readable}
 use Rattle.lookup.proofs.Prints.{table-countable, prints-start, prints-next, prints-done}
 use Rattle.lookup.proofs.image.put_prints.Goals as goal
-use Rattle.lookup.proofs.image.put_prints.Goals.{In-loop-node}
+use Rattle.lookup.proofs.image.put_prints.Goals.{In-loop-node, After-loop-node}
 
 few : (v x : List ℕ) → Accepted v x → node_count x ≤ 400
 few v x p = (shape_of (formed (accepted p))).few
@@ -23,7 +22,7 @@ few v x p = (shape_of (formed (accepted p))).few
 -- the node of a turn is below 402, and its letter and that letter's print byte lie inside the images
 high : (c : In-loop-node) → c.loop-node.node ≤ node_count c.args.lexicon.now
 unfolding node_count
-high c = omega (arith, c.loop-node-test.true, c.number_at-nodes.ensures.0)
+high c = omega (arith, c.loop-node-test.true, c.u16_at.ensures)
 
 row : (c : In-loop-node) → c.loop-node.node < 402
 row c = omega (arith, high c, few _ _ c.requires.0)
@@ -44,15 +43,17 @@ loop-node-preserved c =
     prints-next c.loop-node.invariant (few _ _ c.requires.0) _ (high (goal.at.loop-node-preserved c).In-loop-node) refl
     (omega (arith, c.type_inv.voice (1 + 2 * get_or a.lexicon.now (1 + c.loop-node.node) 0)))
 
+-- the vertex behind the nodes is the sink
+at-sink : (c : After-loop-node) → c.loop-node.node ≡ c.u16_at.result + 1
+at-sink c = omega (arith, c.loop-node-test.false)
+
 pub returns : goal.returns
 unfolding node_count
 returns c =
-    prints-done c.loop-node.invariant (few _ _ c.requires.0) 256
-    (omega (arith, c.loop-node-test.false, c.number_at-nodes.ensures.0)) refl
-    (table-countable _ c.requires.0 c.requires.1)
-
-pub number_at-nodes-requires : goal.number_at-nodes-requires
-number_at-nodes-requires c = count-there (formed (accepted c.requires.0))
+    rw (← at-sink (goal.at.returns c).After-loop-node)
+    (prints-done c.loop-node.invariant (few _ _ c.requires.0) 256
+    (omega (arith, c.loop-node-test.false, c.u16_at.ensures)) refl
+    (table-countable _ c.requires.0 c.requires.1))
 
 pub loop-node-init : goal.loop-node-init
 loop-node-init c = prints-start _ c.requires.1
@@ -84,14 +85,10 @@ offset_bounds-vertices-node c = omega (arith, row (goal.at.offset_bounds-vertice
 pub bounds-vertices-node : goal.bounds-vertices-node
 bounds-vertices-node c = row (goal.at.bounds-vertices-node c).In-loop-node
 
-pub overflow_add-node : goal.overflow_add-node
-overflow_add-node c = omega (arith, row (goal.at.overflow_add-node c).In-loop-node)
+pub overflow_add-sink : goal.overflow_add-sink
+unfolding node_count
+overflow_add-sink c = omega (arith, c.u16_at.ensures, few _ _ c.requires.0)
 
-pub loop-node-smaller : goal.loop-node-smaller
-loop-node-smaller c = omega (arith, c.loop-node-test.true)
-
-pub offset_bounds-vertices-node-2 : goal.offset_bounds-vertices-node-2
-offset_bounds-vertices-node-2 c = omega (arith, c.loop-node.invariant.high, few _ _ c.requires.0)
-
-pub bounds-vertices-node-after-loop-node : goal.bounds-vertices-node-after-loop-node
-bounds-vertices-node-after-loop-node c = omega (arith, c.loop-node.invariant.high, few _ _ c.requires.0)
+pub bounds-vertices-sink : goal.bounds-vertices-sink
+unfolding node_count
+bounds-vertices-sink c = omega (arith, c.u16_at.ensures, few _ _ c.requires.0)

@@ -1,9 +1,5 @@
-use Prim.Native.Nat.{◌+◌, ◌-◌}
 use Rattle.lookup.proofs.Prints.{PrintsBelow}
 use Rattle.lookup.proofs.image.put_prints.Given as goal
 
 abbrev pub invariant-loop-node : goal.invariant-loop-node
 invariant-loop-node l = PrintsBelow l.voice l.lexicon l.node l.initial.vertices l.vertices
-
-abbrev pub decreases-loop-node : goal.decreases-loop-node
-decreases-loop-node l = l.nodes + 1 - l.node

@@ -1,30 +1,35 @@
--- `items::put_numbers` stores the bytes of the one number, and then those of the other. Assumes nothing.
-use Prim.Native.Nat.{ℕ, ◌+◌}
-use mathlib.Core.Path.{ap, ap₂, ◌∙◌}
-use mathlib.Core.List.{List}
+-- `items::put_numbers` copies the bytes of the one number, and then those of the other. Assumes nothing.
+use Prim.Native.Nat.{ℕ, ◌+◌, ◌≤◌}
+use mathlib.Core.Path.{◌≡◌, ap, ◌∙◌}
+use mathlib.Core.List.{List, ◌++◌, append_assoc}
 use native.Mathlib.Omega.{arith}
-use lib.ListN.{length}
-use lib.Seq.{sets}
+use borrow.Rule.Slice.PartMut.{put_mid}
+use lib.ListN.{length, take, drop}
+use lib.Seq.{take_all}
+use Rattle.std.proofs.lemmas.Slice.{put_mid-paste, take-put_mid, drop-put_mid}
 use Rattle.endian.specs.Bytes.{u32_bytes}
-use Rattle.endian.proofs.Stores.{sets-append}
 use Rattle.lookup.proofs.items.put_numbers.Goals as goal
 
-pub put_bytes-requires : goal.put_bytes-requires
-unfolding u32_bytes
-put_bytes-requires c = let h = c.requires in (omega arith, ap length c.u32_bytes.ensures)
-
-pub put_bytes-requires-2 : goal.put_bytes-requires-2
-unfolding u32_bytes
-put_bytes-requires-2 c =
-    let h = c.requires in
-    (omega (arith, c.put_bytes.auto.out), ap length c.u32_bytes-2.ensures)
+-- four bytes, and four behind them
+two_put : (o a b : List ℕ) (at k j : ℕ) {a' b' : List ℕ} → a' ≡ a → b' ≡ b → length a ≡ 4 → length b ≡ 4 → k ≡ 4
+    → j ≡ 4 → at + 8 ≤ length o
+    → put_mid (at + 4) j (put_mid at k o a') b' ≡ take at o ++ (a ++ b) ++ drop (at + 8) o
+two_put o a b at k j {a'} {b'} p q l m e f h =
+    let s : at + 4 + 4 ≡ at + 8 = omega arith in
+    put_mid-paste (at + 4) j (put_mid at k o a') b' b 4 q (omega arith) (omega arith)
+    ∙ rw (
+      p,
+      take-put_mid at k o a (at + 4) (omega arith) (omega arith),
+      take_all 4 b (omega arith),
+      s,
+      drop-put_mid at k o a (at + 8) (omega arith) (omega arith) (omega arith),
+    )
+    (ap (λ (x : List ℕ). x ++ drop (at + 8) o) (append_assoc (take at o) a b))
 
 pub returns : goal.returns
 unfolding u32_bytes
 returns c =
     let a = c.args in
-    c.put_bytes-2.ensures
-    ∙ ap₂ (λ (o b : List ℕ). sets o (a.at + 4) b)
-    (c.put_bytes.ensures ∙ ap (sets a.out.now a.at) c.u32_bytes.ensures)
-    c.u32_bytes-2.ensures
-    ∙ sets-append (u32_bytes a.refusal) (u32_bytes a.code) a.out.now a.at
+    two_put a.out.now (u32_bytes a.refusal) (u32_bytes a.code) a.at _ _
+    (c.copy_from_slice.ensures.after ∙ c.u32_bytes.ensures) (c.copy_from_slice-2.ensures.after ∙ c.u32_bytes-2.ensures)
+    (omega arith) (omega arith) (omega arith) (omega arith) c.requires

@@ -13,10 +13,6 @@ first : (c : In-loop-pair) →
     let l = c.loop-pair in (1 ≤ l.pair) × (l.pair ≤ 13266) × (1 ≤ number_at l.marks l.pair)
 first c = first_off c.loop-pair.invariant.1 c.loop-pair-test.true
 
-pub number_at-before-requires : goal.number_at-before-requires
-number_at-before-requires c =
-    omega (arith, (first (goal.at.number_at-before-requires c).In-loop-pair).1, c.loop-pair.invariant.0)
-
 pub put_number-requires : goal.put_number-requires
 put_number-requires c =
     (omega (arith, (first (goal.at.put_number-requires c).In-loop-pair).1, c.loop-pair.invariant.0), omega arith)
@@ -30,7 +26,7 @@ pub loop-pair-preserved : goal.loop-pair-preserved
 unfolding number_at
 loop-pair-preserved c = (
   c.put_number.ensures.long ∙ c.loop-pair.invariant.0,
-  rw c.number_at-before.ensures.0
+  rw c.u16_at-before.ensures
       (rest-chained c.loop-pair.invariant.1 c.loop-pair-test.true c.put_number.ensures),
 )
 

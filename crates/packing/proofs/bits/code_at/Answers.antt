@@ -17,27 +17,27 @@ use Rattle.packing.proofs.bits.code_at.Reads as reads
 pub loop-at-init : goal.loop-at-init
 loop-at-init c =
     let a = c.args in
-    (search rules, search rules, read_none a.bit (drop (a.byte * 8 + a.bit) (to_bits a.packed.now)))
+    (search rules, search rules, read_none a.start.bit (drop (a.start.byte * 8 + a.start.bit) (to_bits a.packed.now)))
 
 -- the number with the chunk behind it
 appended : (c : lts.After-power tie.the-claims reads.Pre reads.Post goal.the-invariant-loop-at goal.the-decreases-loop-at) →
     let a = c.args in
     let l = c.loop-at in
     l.code * c.power.result + c.chunk_of-chunk.result
-    ≡ number_of (take (l.at + c.chunk_size-size.result - a.bit) (drop (a.byte * 8 + a.bit) (to_bits a.packed.now)))
+    ≡ number_of (take (l.at + c.chunk_size-size.result - a.start.bit) (drop (a.start.byte * 8 + a.start.bit) (to_bits a.packed.now)))
 appended c =
     let a = c.args in
     let l = c.loop-at in
     ap₂ (λ (x y : ℕ). x + y) (ap₂ (λ (x y : ℕ). x * y) l.invariant.2 c.power.ensures) c.chunk_of-chunk.ensures
-    ∙ read_step a.byte a.bit a.b l.at c.chunk_size-size.result (search rules) (search rules) (search rules) (search rules)
+    ∙ read_step a.start.byte a.start.bit a.b l.at c.chunk_size-size.result (search rules) (search rules) (search rules) (search rules)
     a.packed.now (search rules)
 
 small : (c : lts.After-power tie.the-claims reads.Pre reads.Post goal.the-invariant-loop-at goal.the-decreases-loop-at) → c.loop-at.code * c.power.result + c.chunk_of-chunk.result < 2 ^ 20
 small c =
     let a = c.args in
-    let n = c.loop-at.at + c.chunk_size-size.result - a.bit in
+    let n = c.loop-at.at + c.chunk_size-size.result - a.start.bit in
     let short : n ≤ 20 = omega arith in
-    rw (appended c) (lt_of_lt_of_le (read_below n (a.byte * 8 + a.bit) a.packed.now) (pow_mono short))
+    rw (appended c) (lt_of_lt_of_le (read_below n (a.start.byte * 8 + a.start.bit) a.packed.now) (pow_mono short))
 
 pub overflow_mul-code : goal.overflow_mul-code
 overflow_mul-code c = omega (arith, small c.before)
@@ -52,5 +52,5 @@ pub returns : goal.returns
 returns c =
     let a = c.args in
     let l = c.loop-at in
-    let e : l.at - a.bit ≡ a.b = search rules in
-    l.invariant.2 ∙ ap (λ (n : ℕ). number_of (take n (drop (a.byte * 8 + a.bit) (to_bits a.packed.now)))) e
+    let e : l.at - a.start.bit ≡ a.b = search rules in
+    l.invariant.2 ∙ ap (λ (n : ℕ). number_of (take n (drop (a.start.byte * 8 + a.start.bit) (to_bits a.packed.now)))) e

@@ -29,7 +29,7 @@ loop-at-preserved c =
       search rules,
       search rules,
       simp length-set l.invariant.2,
-      put_step a.byte a.bit a.b l.at size (search rules) (search rules) (search rules) (search rules) a.code c.with_chunk.result l.out
+      put_step a.start.byte a.start.bit a.b l.at size (search rules) (search rules) (search rules) (search rules) a.code c.with_chunk.result l.out
           (to_bits a.out.now) (search rules) (rw length_to_bits (omega arith)) (rw c.power.ensures at c.with_chunk.ensures) l.invariant.3,
     )
 
@@ -37,4 +37,4 @@ pub returns : goal.returns
 returns c =
     let a = c.args in
     let l = c.loop-at in
-    l.invariant.3 ∙ put_all (a.byte * 8 + a.bit) a.bit a.b l.at a.code (to_bits a.out.now) (search rules)
+    l.invariant.3 ∙ put_all (a.start.byte * 8 + a.start.bit) a.start.bit a.b l.at a.code (to_bits a.out.now) (search rules)

@@ -6,8 +6,8 @@ use Rattle.packing.specs.Offsets.{overlay}
 use Rattle.packing.proofs.bits.put_code.Given as goal
 
 abbrev pub invariant-loop-at : goal.invariant-loop-at
-invariant-loop-at l = (l.bit ≤ l.at) × (l.at ≤ l.bit + l.b) × (length l.out ≡ length l.initial.out)
-    × (to_bits l.out ≡ overlay (l.byte * 8 + l.bit) (bits (l.at - l.bit) (l.code / 2 ^ (l.bit + l.b - l.at))) (to_bits l.initial.out))
+invariant-loop-at l = (l.start.bit ≤ l.at) × (l.at ≤ l.start.bit + l.b) × (length l.out ≡ length l.initial.out)
+    × (to_bits l.out ≡ overlay (l.start.byte * 8 + l.start.bit) (bits (l.at - l.start.bit) (l.code / 2 ^ (l.start.bit + l.b - l.at))) (to_bits l.initial.out))
 
 abbrev pub decreases-loop-at : goal.decreases-loop-at
-decreases-loop-at l = l.bit + l.b - l.at
+decreases-loop-at l = l.start.bit + l.b - l.at

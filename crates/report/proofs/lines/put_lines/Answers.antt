@@ -1,22 +1,22 @@
 -- `lines::put_lines` meets its contract: before each hit the lines of those before it are put, and none is longer than
--- 68 bytes. The measure is the hits left. Assumes nothing.
+-- 68 bytes. Assumes nothing.
 use native.Mathlib.Omega.{arith}
-use Rattle.report.proofs.Hits.{i32-again, lines_start, hit-named, still_accepted, lines_next, lines_end}
+use Rattle.report.proofs.Hits.{lines_start, hit-named, still_accepted, lines_next, lines_end}
 use Rattle.report.proofs.lines.put_lines.Goals as goal
 
 pub loop-i-init : goal.loop-i-init
 loop-i-init c = lines_start
 
-pub put_hit-end-requires : goal.put_hit-end-requires
-put_hit-end-requires c =
+pub put_hit-requires : goal.put_hit-requires
+put_hit-requires c =
     let r = c.requires in
     let p = c.loop-i.invariant in
     let h = c.loop-i-test.true in
-    let e = c.code_at-code.ensures in
+    let e = c.hit_at.ensures.code in
     let below = hit-named r.holds_hits c.loop-i.i (omega arith) in record {
       accepted_arguments = still_accepted r.accepted_arguments r.holds_hits (omega (arith, r.k_in_bounds)) p;
       code_bound = rw e below;
-      at_in_bounds = omega (arith, r.k_in_bounds, p.few_bytes, p.out_long);
+      in_bounds = omega (arith, r.k_in_bounds, p.few_bytes);
     }
 
 pub loop-i-preserved : goal.loop-i-preserved
@@ -24,8 +24,8 @@ loop-i-preserved c =
     let r = c.requires in
     let h = c.loop-i-test.true in
     lines_next r.accepted_arguments r.holds_hits (omega (arith, r.k_in_bounds)) c.loop-i.invariant (omega arith)
-    (i32-again _ _ _ c.score_at-score.ensures) c.code_at-code.ensures
-    c.put_hit-end.auto.work c.put_hit-end.auto.out c.put_hit-end.ensures
+    c.hit_at.ensures.score c.hit_at.ensures.code
+    c.put_hit.auto.work c.put_hit.ensures
 
 pub returns : goal.returns
 returns c =

@@ -1,23 +1,26 @@
--- `vertices::put_numbers` meets its contract: before each number those before it are put, of at most 11 bytes each. The
--- measure is the numbers left. Assumes nothing.
+-- `vertices::put_numbers` meets its contract: before each number those before it are put, of at most 11 bytes each.
+-- Assumes nothing.
+use Prim.Native.Nat.{◌/◌, ◌<◌}
 use native.Mathlib.Omega.{arith}
-use Rattle.report.proofs.Arcs.{numbers-start, numbers-next, numbers_end}
+use lib.ListN.{length}
+use Rattle.report.proofs.Arcs.{pair-number, numbers-start, numbers-next, numbers_end}
+use Rattle.report.proofs.Digits.{decimal-is}
 use Rattle.report.proofs.vertices.put_numbers.Goals as goal
 
-pub loop-i-init : goal.loop-i-init
-loop-i-init c = numbers-start
+pub loop-pair-init : goal.loop-pair-init
+loop-pair-init c = numbers-start
 
-pub put_labelled-end-requires : goal.put_labelled-end-requires
-put_labelled-end-requires c =
-    let p = c.loop-i.invariant in
-    omega (arith, c.requires, c.loop-i-test.true, p.few_bytes, p.out_long)
-
-pub loop-i-preserved : goal.loop-i-preserved
-loop-i-preserved c =
-    numbers-next (omega (arith, c.requires)) c.loop-i.invariant c.loop-i-test.true c.u16_at.ensures (omega arith)
-    c.put_labelled-end.auto.out c.put_labelled-end.ensures
+pub loop-pair-preserved : goal.loop-pair-preserved
+loop-pair-preserved c =
+    let pairs = c.as_chunks.ensures in
+    let i = c.loop-pair.pair-index in
+    let there : i < length c.args.part.now / 2 = omega (arith, c.loop-pair-test.true, pairs.front_len) in
+    let number = rw (decimal-is c.number_of.result (omega arith)) at c.put_labelled.ensures.text in
+    numbers-next (omega (arith, c.requires)) c.loop-pair.invariant there
+    (pair-number c.args.part.now i pairs.front there c.number_of.ensures) (omega arith) number
 
 pub returns : goal.returns
 returns c =
-    let all = numbers_end c.loop-i.invariant c.loop-i-test.false in
-    record { text_put = all.0; upper_bound = all.1 }
+    let pairs = c.as_chunks.ensures in
+    let all = numbers_end c.loop-pair.invariant (omega (arith, c.loop-pair-test.false, pairs.front_len)) in
+    record { text = all.0; upper_bound = all.1 }

@@ -10,8 +10,8 @@ use Rattle.lexicon.specs.Lexicon.{node_count, lexicon_verdict}
 use Rattle.lexicon.proofs.Shape.{shape}
 use Rattle.report.specs.Arcs.{vertex_line}
 use Rattle.report.proofs.Arcs.{letter-there, part-size, part-numbers}
-use Rattle.report.proofs.Digits.{decimal-short}
-use Rattle.report.proofs.Putting.{put-more}
+use Rattle.report.proofs.Digits.{decimal-is}
+use Rattle.report.proofs.Putting.{put-more, put_both}
 use Rattle.report.proofs.vertices.put_vertex.Goals as goal
 
 small : (x : List ℕ) {u : ℕ} → lexicon_verdict 256 x ≡ well_formed → u ≤ node_count x → u < 2 ^ 32
@@ -20,73 +20,25 @@ small x w h = omega (arith, h, (shape 256 x w).few)
 pub overflow_cast-vertex : goal.overflow_cast-vertex
 overflow_cast-vertex c = record { fits = small c.args.lexicon.now c.requires.lexicon_value c.requires.vertex_bound }
 
--- ---- how many bytes are put, after each part of the line
-
-pub put_letter-end-requires : goal.put_letter-end-requires
-put_letter-end-requires c =
-    let x = c.args.lexicon.now in
-    let r = c.requires in
-    let d = c.put_decimal-end in
-    let number = decimal-short c.args.vertex (small x r.lexicon_value r.vertex_bound) in (
-      letter-there x r.lexicon_value r.vertex_bound,
-      omega (arith, r.vertex_in_bounds, d.ensures.ends, number, d.auto.out),
+pub put_letter-requires : goal.put_letter-requires
+put_letter-requires c =
+    let r = c.requires in (
+      letter-there c.args.lexicon.now r.lexicon_value r.vertex_bound,
+      omega (arith, r.in_bounds),
     )
 
-pub put_byte-end-requires : goal.put_byte-end-requires
-put_byte-end-requires c =
+-- the part holds the successors
+pub put_numbers-requires : goal.put_numbers-requires
+put_numbers-requires c =
     let r = c.requires in
-    let d = c.put_decimal-end in
-    let l = c.put_letter-end in
-    let number = decimal-short c.args.vertex (small c.args.lexicon.now r.lexicon_value r.vertex_bound) in
-    omega (arith, r.vertex_in_bounds, d.ensures.ends, number, d.auto.out, l.ensures.upper_bound, l.auto.out)
+    let part = ap length c.successors.ensures ∙ part-size c.args.lexicon.now r.lexicon_value r.vertex_bound in
+    omega (arith, r.in_bounds, part)
 
-pub put_numbers-end-requires : goal.put_numbers-end-requires
-put_numbers-end-requires c =
+pub put_byte-requires-2 : goal.put_byte-requires-2
+put_byte-requires-2 c =
     let r = c.requires in
-    let x = c.args.lexicon.now in
-    let d = c.put_decimal-end in
-    let l = c.put_letter-end in
-    let b = c.put_byte-end in
-    let number = decimal-short c.args.vertex (small x r.lexicon_value r.vertex_bound) in
-    -- the part holds the successors
-    let part = ap length c.successors-part.ensures ∙ part-size x r.lexicon_value r.vertex_bound in
-    omega (
-      arith,
-      r.vertex_in_bounds,
-      d.ensures.ends,
-      number,
-      d.auto.out,
-      l.ensures.upper_bound,
-      l.auto.out,
-      b.ensures.ends,
-      b.auto.out,
-      part,
-    )
-
-pub put_byte-requires : goal.put_byte-requires
-put_byte-requires c =
-    let r = c.requires in
-    let x = c.args.lexicon.now in
-    let d = c.put_decimal-end in
-    let l = c.put_letter-end in
-    let b = c.put_byte-end in
-    let n = c.put_numbers-end in
-    let number = decimal-short c.args.vertex (small x r.lexicon_value r.vertex_bound) in
-    let part = ap length c.successors-part.ensures ∙ part-size x r.lexicon_value r.vertex_bound in
-    omega (
-      arith,
-      r.vertex_in_bounds,
-      d.ensures.ends,
-      number,
-      d.auto.out,
-      l.ensures.upper_bound,
-      l.auto.out,
-      b.ensures.ends,
-      b.auto.out,
-      n.ensures.upper_bound,
-      n.auto.out,
-      part,
-    )
+    let part = ap length c.successors.ensures ∙ part-size c.args.lexicon.now r.lexicon_value r.vertex_bound in
+    omega (arith, r.in_bounds, part)
 
 pub returns : goal.returns
 unfolding vertex_line
@@ -94,26 +46,11 @@ returns c =
     let a = c.args in
     let x = a.lexicon.now in
     let r = c.requires in
-    let d = c.put_decimal-end in
-    let l = c.put_letter-end in
-    let b = c.put_byte-end in
-    let n = c.put_numbers-end in
-    let number = decimal-short a.vertex (small x r.lexicon_value r.vertex_bound) in
-    let part = ap length c.successors-part.ensures ∙ part-size x r.lexicon_value r.vertex_bound in
-    let h : a.at ≤ length a.out.now = omega (arith, r.vertex_in_bounds) in
-    let there : l.result ≤ length l.new.out =
-    omega (arith, r.vertex_in_bounds, d.ensures.ends, number, d.auto.out, l.ensures.upper_bound, l.auto.out) in
-    let numbers = rw (c.successors-part.ensures, part-numbers x r.lexicon_value r.vertex_bound) at n.ensures.text_put in
-    let behind = put-more there b.ensures numbers in record {
-      text_put = put-more h (put-more h (put-more h d.ensures l.ensures.text_put) behind) c.put_byte.ensures;
-      upper_bound = omega (
-        arith,
-        d.ensures.ends,
-        number,
-        l.ensures.upper_bound,
-        b.ensures.ends,
-        n.ensures.upper_bound,
-        part,
-        c.put_byte.ensures.ends,
-      );
+    let part = ap length c.successors.ensures ∙ part-size x r.lexicon_value r.vertex_bound in
+    let h : a.page.now.length ≤ length a.page.now.text = omega (arith, r.in_bounds) in
+    let number = rw (decimal-is a.vertex (omega (arith, small x r.lexicon_value r.vertex_bound))) at c.put_number.ensures.text in
+    let numbers = rw (c.successors.ensures, part-numbers x r.lexicon_value r.vertex_bound) at c.put_numbers.ensures.text in
+    let head = put-more h number c.put_letter.ensures.text in record {
+      text = put-more h (put_both h head c.put_byte.ensures numbers) c.put_byte-2.ensures;
+      upper_bound = omega (arith, part);
     }

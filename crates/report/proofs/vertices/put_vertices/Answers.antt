@@ -1,5 +1,5 @@
--- `vertices::put_vertices` meets its contract: before each vertex the lines of those below it are put. The measure is
--- the vertices left. Assumes nothing.
+-- `vertices::put_vertices` meets its contract: before each vertex the lines of those below it are put.
+-- Assumes nothing.
 use Prim.Native.Nat.{ℕ, ◌≤◌, ◌<◌}
 use mathlib.Core.Path.{◌≡◌}
 use mathlib.Core.List.{List}
@@ -18,27 +18,27 @@ beyond : (x : List ℕ) (u n : ℕ) → n ≡ u16 x 0 → n < u → node_count x
 unfolding node_count
 beyond x u n e h = omega (arith, e, h)
 
-pub put_vertex-end-requires : goal.put_vertex-end-requires
-put_vertex-end-requires c =
+pub put_vertex-requires : goal.put_vertex-requires
+put_vertex-requires c =
     let r = c.requires in
     let there =
-    up_to c.args.lexicon.now c.loop-vertex.vertex _ c.u16_at-nodes.ensures c.loop-vertex-test.true in record {
+    up_to c.args.lexicon.now c.loop-vertex.vertex _ c.u16_at-nodes.ensures (omega arith) in record {
       lexicon_value = r.lexicon_value;
       vertex_bound = there;
-      vertex_in_bounds = line-room r.lexicon_value c.loop-vertex.invariant there r.in_bounds;
+      in_bounds = line-room r.lexicon_value c.loop-vertex.invariant there r.nothing_yet;
     }
 
 pub loop-vertex-preserved : goal.loop-vertex-preserved
 loop-vertex-preserved c =
-    let there = up_to c.args.lexicon.now c.loop-vertex.vertex _ c.u16_at-nodes.ensures c.loop-vertex-test.true in
-    vertices-next c.requires.lexicon_value c.loop-vertex.invariant there c.put_vertex-end.auto.out
-    c.put_vertex-end.ensures.text_put
-    c.put_vertex-end.ensures.upper_bound
+    let there = up_to c.args.lexicon.now c.loop-vertex.vertex _ c.u16_at-nodes.ensures (omega arith) in
+    vertices-next c.requires.lexicon_value c.loop-vertex.invariant there (omega (arith, c.requires.nothing_yet))
+    c.put_vertex.ensures.text
+    c.put_vertex.ensures.upper_bound
 
 pub returns : goal.returns
 returns c =
     vertices-end c.loop-vertex.invariant
-    (beyond c.args.lexicon.now c.loop-vertex.vertex _ c.u16_at-nodes.ensures c.loop-vertex-test.false)
+    (beyond c.args.lexicon.now c.loop-vertex.vertex _ c.u16_at-nodes.ensures (omega arith))
 
 pub loop-vertex-init : goal.loop-vertex-init
 loop-vertex-init c = vertices-start

@@ -1,9 +1,5 @@
-use Prim.Native.Nat.{◌+◌, ◌-◌}
 use Rattle.report.proofs.Arcs.{VerticesPut}
 use Rattle.report.proofs.vertices.put_vertices.Given as goal
 
 abbrev pub invariant-loop-vertex : goal.invariant-loop-vertex
-invariant-loop-vertex l = VerticesPut l.lexicon l.initial.out l.out l.end l.vertex
-
-abbrev pub decreases-loop-vertex : goal.decreases-loop-vertex
-decreases-loop-vertex l = l.nodes + 1 - l.vertex
+invariant-loop-vertex l = VerticesPut l.lexicon l.initial.page l.page l.vertex

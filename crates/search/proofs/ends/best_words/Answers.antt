@@ -1,5 +1,4 @@
--- `ends::best_words` meets its contract: after all frames, the ends that are left give what all give. The measure is
--- the nodes left. Assumes nothing.
+-- `ends::best_words` meets its contract: after all frames, the ends that are left give what all give. Assumes nothing.
 use mathlib.Core.Path.{refl}
 use native.Mathlib.Omega.{arith}
 use Rattle.lexicon.specs.Lexicon.{node_count}
@@ -16,7 +15,7 @@ all_frames-requires c = c.requires
 
 pub loop-node-init : goal.loop-node-init
 unfolding node_count
-loop-node-init c = ends-start _ _ _ _ _ c.u16_at-node.ensures
+loop-node-init c = ends-start _ _ _ _ _ c.u16_at-nodes.ensures
 
 pub offer_end-requires : goal.offer_end-requires
 offer_end-requires c =
@@ -42,13 +41,7 @@ copy_place-requires c =
 pub returns : goal.returns
 returns c =
     ends_done (run_with c.all_frames.ensures.vertex_table c.all_frames.auto.store c.requires.run)
-    c.all_frames.ensures.stored_at c.loop-node-test.false c.loop-node.invariant c.copy_place.ensures
-
-pub overflow_sub-node : goal.overflow_sub-node
-overflow_sub-node c = c.loop-node-test.true
-
-pub loop-node-smaller : goal.loop-node-smaller
-loop-node-smaller c = let h = c.loop-node-test.true in omega arith
+    c.all_frames.ensures.stored_at (omega (arith, c.loop-node-test.false)) c.loop-node.invariant c.copy_place.ensures
 
 pub shape_of-store : goal.shape_of-store
 shape_of-store c = c.all_frames.auto.store

@@ -3,6 +3,3 @@ use Rattle.search.proofs.ends.best_words.Given as goal
 
 abbrev pub invariant-loop-node : goal.invariant-loop-node
 invariant-loop-node l = EndsLeft l.voice l.lexicon l.frames l.n l.node l.list
-
-abbrev pub decreases-loop-node : goal.decreases-loop-node
-decreases-loop-node l = l.node

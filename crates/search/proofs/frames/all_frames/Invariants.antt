@@ -1,4 +1,3 @@
-use Prim.Native.Nat.{◌-◌, ◌≤◌}
 use mathlib.Core.Path.{◌≡◌}
 use lib.ListN.{length}
 use Rattle.search.proofs.Running.{FramesDone}
@@ -6,8 +5,5 @@ use Rattle.search.proofs.frames.all_frames.Given as goal
 
 abbrev pub invariant-loop-t : goal.invariant-loop-t
 invariant-loop-t l =
-    FramesDone l.voice l.lexicon l.frames l.t l.numbers l.letters l.gains l.vertices l.store × (l.t ≤ length l.frames)
+    FramesDone l.voice l.lexicon l.frames l.t l.numbers l.letters l.gains l.vertices l.store
     × (length l.store ≡ length l.initial.store)
-
-abbrev pub decreases-loop-t : goal.decreases-loop-t
-decreases-loop-t l = length l.frames - l.t

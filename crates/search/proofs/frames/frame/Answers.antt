@@ -1,5 +1,5 @@
 -- `frames::frame` meets its contract: the root's token enters an empty store; or the turns that are left give what all
--- turns give. The measure is the nodes left. Assumes nothing.
+-- turns give. Assumes nothing.
 use native.Mathlib.Omega.{arith}
 use Rattle.search.proofs.Running.{entering, entered, before-turns, this-turn, after_turn, after-turns}
 use Rattle.search.proofs.frames.frame.Goals as goal
@@ -29,13 +29,7 @@ loop-node-preserved c f =
     after_turn f c.if-t-eq0.false c.loop-node-test.true (c.loop-node.invariant f) c.take_turn.ensures
 
 pub returns : goal.returns
-returns c f = after-turns f c.if-t-eq0.false c.loop-node-test.false (c.loop-node.invariant f)
-
-pub overflow_sub-node : goal.overflow_sub-node
-overflow_sub-node c = c.loop-node-test.true
-
-pub loop-node-smaller : goal.loop-node-smaller
-loop-node-smaller c = let h = c.loop-node-test.true in omega arith
+returns c f = after-turns f c.if-t-eq0.false (omega (arith, c.loop-node-test.false)) (c.loop-node.invariant f)
 
 pub shape_of-store : goal.shape_of-store
 shape_of-store c = (c.loop-node.invariant c.requires).long

@@ -1,5 +1,5 @@
 -- `gains::letter_gains` meets its contract: before each later state the entries of those before it are filled, and the
--- offset is that of the emission of the state before it. The measure is the states left. Assumes nothing.
+-- offset is that of the emission of the state before it. Assumes nothing.
 use Prim.Native.Nat.{ℕ, ◌+◌, ◌*◌, ◌≤◌, ◌<◌}
 use mathlib.Core.Path.{◌≡◌, refl, sym, ap, ◌∙◌}
 use mathlib.Core.List.{List}
@@ -14,22 +14,24 @@ use Rattle.voice.proofs.Letters.{states-range}
 use Rattle.voice.proofs.Scores.{symbols-there, symbols-few}
 use Rattle.decoder.specs.Score.{number_of, possible}
 use Rattle.endian.specs.Bytes.{i16}
+use Rattle.storing.specs.declared.Moves.{Moves}
+use Rattle.storing.specs.declared.Letter.{Letter}
 use Rattle.storing.specs.Gains.{entry_number, AtLetter, LetterRow, KnownSymbol}
 use Rattle.storing.proofs.Gaining.{letter-small, letter-few, letter-byte, letter-there, first_small}
 use Rattle.storing.proofs.Filling.{fill_done, loop_near, step_near, first-gained, next-gained}
 use Rattle.storing.proofs.Filling.{emitted-is, emission-inside, emission_near, emission-next, row-letter}
-use Rattle.search.proofs.Sums.{most-fits, double_fits, letter-fits, state-fits}
+use Rattle.search.proofs.Sums.{most-fits, double_fits, letter-fits}
 use Rattle.search.proofs.Sums.{below-fits, within-fits, offset-fits}
 use Rattle.search.proofs.gains.letter_gains.Invariants.{StatesDone}
 use Rattle.search.proofs.gains.letter_gains.Goals as goal
 
-module _ {v : List ℕ} {k at : ℕ} {row : List ℕ} (q : KnownSymbol v k × (at ≡ symbols_at v)) (r : LetterRow v row) where
+module _ {v : List ℕ} {k at : ℕ} {row : Letter} (q : KnownSymbol v k × (at ≡ symbols_at v)) (r : LetterRow v row) where
   -- the letter, its first state, and where it is known
   abbrev l : ℕ
-  l = get_or row 8 0
+  l = row.index
 
   abbrev first : ℕ
-  first = get_or row 9 0
+  first = row.first_state
 
   letter : AtLetter v l first
   letter = row-letter q.0.formed r
@@ -69,7 +71,7 @@ module _ {v : List ℕ} {k at : ℕ} {row : List ℕ} (q : KnownSymbol v k × (a
   emitted e = emitted-is q.0 (first + 0) begins e
 
   -- a later state, whose turn it is
-  module _ {offset s : ℕ} {row' : List ℕ} (i : StatesDone v k l first offset s row')
+  module _ {offset s : ℕ} {row' : Moves} (i : StatesDone v k l first offset s row')
       (h : s < get_or v (2 + 2 * l) 0) where
     state : s < states v l
     unfolding states
@@ -107,13 +109,13 @@ loop-s-init c =
     let b = letter q r.0 in
     let m = emitted q r.0 c.emission_at.ensures in
     let e : c.emission_at.result.0
-    ≡ number_of (possible (emission a.voice.now (first_state a.voice.now (get_or a.letter.now 8 0) + 0) a.k)) =
+    ≡ number_of (possible (emission a.voice.now (first_state a.voice.now a.letter.now.index + 0) a.k)) =
     rw b.begins at m in
     record {
       last = 0;
       is = refl;
       here = begins q r.0;
-      filled = first-gained r.0.scores a.k b m r.1 c.first_gains.ensures;
+      filled = first-gained r.0.scores a.k b m c.first_gains.ensures;
       entry = c.first_gains.ensures.entry ∙ e;
     }
 
@@ -124,7 +126,7 @@ state_gains-requires c =
     let i = c.loop-s.invariant in
     let h = state q r i c.loop-s-test.true in
     record {
-      s_bound = (small q r i c.loop-s-test.true, emission_near _ _ c.emission_at-emission.ensures, i.filled.long);
+      s_bound = (small q r i c.loop-s-test.true, emission_near _ _ c.emission_at-emission.ensures, i.filled.room);
       near_bias = (loop_near r.scores h, step_near r.scores i.is h);
     }
 
@@ -141,16 +143,16 @@ loop-s-preserved c =
       is = omega arith;
       here = n;
       filled = next-gained r.scores c.args.k (letter q r) i.is (state q r i t)
-          (emitted-is q.0 (get_or c.args.letter.now 9 0 + c.loop-s.s) n c.emission_at-emission.ensures)
+          (emitted-is q.0 (c.args.letter.now.first_state + c.loop-s.s) n c.emission_at-emission.ensures)
           i.filled e;
-      entry = e.others 4 (λ z. omega (arith, small q r i t)) (λ z. omega (arith, i.is)) ∙ i.entry;
+      entry = e.other_steps 0 (λ z. omega (arith, i.is)) ∙ i.entry;
     }
 
 pub returns : goal.returns
 unfolding states
 returns c =
     let i = c.loop-s.invariant in
-    (record { moves = fill_done c.loop-s-test.false i.filled; entry = i.entry }, i.filled.long)
+    (record { moves = fill_done c.loop-s-test.false i.filled; entry = i.entry }, i.filled.room)
 
 pub overflow_cast-index : goal.overflow_cast-index
 overflow_cast-index c = most-fits _ (index c.requires.known_symbol c.requires.letter_row.0) refl
@@ -207,10 +209,3 @@ overflow_add-offset-in-loop-s c =
 pub emission_at-emission-requires : goal.emission_at-emission-requires
 emission_at-emission-requires c =
     next-inside c.requires.known_symbol c.requires.letter_row.0 c.loop-s.invariant c.loop-s-test.true
-
-pub overflow_add-s : goal.overflow_add-s
-overflow_add-s c =
-    state-fits (small c.requires.known_symbol c.requires.letter_row.0 c.loop-s.invariant c.loop-s-test.true)
-
-pub loop-s-smaller : goal.loop-s-smaller
-loop-s-smaller c = let h = c.loop-s-test.true in omega arith

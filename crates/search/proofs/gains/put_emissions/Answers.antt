@@ -1,17 +1,18 @@
--- `gains::put_emissions` meets its contract: before each node those below it have their emission. The measure is the
--- nodes left. Assumes nothing.
+-- `gains::put_emissions` meets its contract: before each node those below it have their emission. Assumes nothing.
 use Prim.Native.Nat.{ℕ, ◌+◌, ◌≤◌, ◌<◌}
 use native.Mathlib.Omega.{arith}
 use mathlib.Core.List.{List}
 use lib.ListN.{length, get_or}
 use Rattle.lexicon.specs.Lexicon.{node_count, node_letter}
+use Rattle.storing.specs.declared.Moves.{Moves}
 use Rattle.storing.specs.Places.{NodesRead}
+use Rattle.checking.specs.declared.Vertex.{Vertex}
 use Rattle.checking.proofs.Arcs.{shape_of, nodes-there}
 use Rattle.storing.proofs.Numbering.{EmissionsFound, emissions-start, emissions-next, emissions-done}
 use Rattle.search.proofs.gains.put_emissions.Goals as goal
 
 -- the node whose turn it is
-module _ {x : List ℕ} {gains : List (List ℕ)} {nodes node : ℕ} {t t' : List (List ℕ)} (h : NodesRead x nodes)
+module _ {x : List ℕ} {gains : List Moves} {nodes node : ℕ} {t t' : List Vertex} (h : NodesRead x nodes)
     (i : EmissionsFound x gains node t t') (k : node < nodes + 1) where
   high : node ≤ node_count x
   high = omega (arith, h.all)
@@ -37,6 +38,9 @@ loop-node-preserved c =
 pub returns : goal.returns
 returns c =
     emissions-done c.loop-node.invariant (omega (arith, c.loop-node-test.false, c.requires.0.all))
+
+pub overflow_add-node-end : goal.overflow_add-node-end
+overflow_add-node-end c = omega (arith, c.requires.0.all, (shape_of c.requires.0.formed).few)
 
 pub overflow_add-letter : goal.overflow_add-letter
 overflow_add-letter c =
@@ -72,11 +76,3 @@ pub bounds-vertices-node : goal.bounds-vertices-node
 bounds-vertices-node c =
     let h = few c.requires.0 c.loop-node.invariant (omega (arith, c.loop-node-test.true)) in
     omega arith
-
-pub overflow_add-node : goal.overflow_add-node
-overflow_add-node c =
-    let h = few c.requires.0 c.loop-node.invariant (omega (arith, c.loop-node-test.true)) in
-    omega arith
-
-pub loop-node-smaller : goal.loop-node-smaller
-loop-node-smaller c = let h = c.loop-node-test.true in omega arith

@@ -1,28 +1,22 @@
--- `letters::letter_row` meets its contract: before each state the entries of those before it are filled. The measure is
--- the states left. Assumes nothing.
-use Prim.Native.Nat.{ℕ, ◌≤◌, ◌<◌}
-use mathlib.Core.Path.{◌∙◌}
+-- `letters::letter_row` meets its contract: before each state the entries of those before it are filled. Assumes
+-- nothing.
+use Prim.Native.Nat.{ℕ}
+use mathlib.Core.Path.{refl}
 use mathlib.Core.List.{List}
 use native.Mathlib.Omega.{arith}
 use borrow.Author.Rules.{rules}
-use lib.ListN.{length, set, length-set}
-use lib.Seq.{get_or-set_same, get_or-set_other}
 use Rattle.voice.specs.Voice.{states}
+use Rattle.storing.specs.declared.Moves.{Moves}
+use Rattle.storing.specs.Gains.{StatesRoom}
 use Rattle.storing.proofs.Gaining.{letter-small, letter-few, letter-byte, letter-there, letter-inside, pairs-stored}
 use Rattle.storing.proofs.Filling.{fill_start, fill_done, scores-next, letter-scored}
 use Rattle.search.proofs.letters.letter_row.Invariants.{RowScored}
 use Rattle.search.proofs.letters.letter_row.Goals as goal
 
 -- before the first state: only the index and the number of the first state are put
-row-begun : {v : List ℕ} (row : List ℕ) (l first : ℕ) → 10 ≤ length row
-    → RowScored v l first 0 (set (set row 8 l) 9 first)
-row-begun row l first h =
-    let e = length-set row 8 l in
-    record {
-      filled = fill_start (omega (arith, e, length-set (set row 8 l) 9 first));
-      letter = get_or-set_other (set row 8 l) 9 8 first 0 (λ q. omega arith) ∙ get_or-set_same row 8 l 0 (omega arith);
-      begin = get_or-set_same (set row 8 l) 9 first 0 (omega (arith, e));
-    }
+row-begun : {v : List ℕ} {row : Moves} (l first : ℕ) → StatesRoom row
+    → RowScored v l first 0 record { moves = row; index = l; first_state = first }
+row-begun l first h = record { filled = fill_start h; letter = refl; begin = refl }
 
 pub letter_pairs-pairs-requires : goal.letter_pairs-pairs-requires
 unfolding states
@@ -32,13 +26,13 @@ letter_pairs-pairs-requires c =
 
 pub loop-s-init : goal.loop-s-init
 loop-s-init c =
-    row-begun c.args.row.now c.args.letter c.args.first c.requires.1
+    row-begun c.args.letter c.args.first c.requires.1
 
 pub state_scores-requires : goal.state_scores-requires
 unfolding states
 state_scores-requires c =
     record {
-      s_bound = ((omega (arith, c.loop-s-test.true, letter-few c.requires.0)), c.loop-s.invariant.filled.long);
+      s_bound = ((omega (arith, c.loop-s-test.true, letter-few c.requires.0)), c.loop-s.invariant.filled.room);
       stored_pairs = rw c.letter_pairs-pairs.ensures (pairs-stored _ _ _);
     }
 
@@ -47,11 +41,10 @@ unfolding states
 loop-s-preserved c =
     let i = c.loop-s.invariant in
     let e = c.state_scores.ensures in
-    let h : c.loop-s.s < 4 = omega (arith, c.loop-s-test.true, letter-few c.requires.0) in
     record {
       filled = scores-next c.requires.0 c.loop-s-test.true c.letter_pairs-pairs.ensures i.filled e;
-      letter = e.others 8 (λ q. omega arith) (λ q. omega arith) ∙ i.letter;
-      begin = e.others 9 (λ q. omega arith) (λ q. omega arith) ∙ i.begin;
+      letter = i.letter;
+      begin = i.begin;
     }
 
 pub returns : goal.returns
@@ -75,13 +68,3 @@ overflow_cast-states c = let h = letter-byte c.requires.0 in search rules
 
 pub overflow_cast-row : goal.overflow_cast-row
 overflow_cast-row c = let h = letter-small c.requires.0 in search rules
-
-pub bounds-row-8 : goal.bounds-row-8
-bounds-row-8 c = let h = c.requires.1 in search rules
-
-pub bounds-row-9 : goal.bounds-row-9
-bounds-row-9 c = let h = c.requires.1 in search rules
-
-pub overflow_add-s : goal.overflow_add-s
-unfolding states
-overflow_add-s c = let h : c.loop-s.s < 4 = omega (arith, c.loop-s-test.true, letter-few c.requires.0) in search rules

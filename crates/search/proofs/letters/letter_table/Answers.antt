@@ -1,5 +1,5 @@
--- `letters::letter_table` meets its contract: before each turn the marked letters below this one have their rows. The
--- measure is the letters left. Assumes nothing.
+-- `letters::letter_table` meets its contract: before each turn the marked letters below this one have their rows.
+-- Assumes nothing.
 use Prim.Native.Nat.{◌<◌, ◌≤◌}
 use mathlib.Core.Path.{refl}
 use native.Mathlib.Omega.{arith}
@@ -121,12 +121,3 @@ overflow_add-first-in-loop-letter c =
       c.loop-letter.invariant.passed.few,
     ) in
     search rules
-
-pub overflow_add-letter : goal.overflow_add-letter
-overflow_add-letter c =
-    let h : c.loop-letter.letter < 64 =
-    letter-small (at-letter c.requires.voice_value.0 c.loop-letter.invariant.passed c.loop-letter-test.true) in
-    search rules
-
-pub loop-letter-smaller : goal.loop-letter-smaller
-loop-letter-smaller c = let h = c.loop-letter-test.true in omega arith

@@ -1,5 +1,5 @@
--- `letters::link_table` meets its contract: before each turn the links of the letters below this one are put. The
--- measure is the letters left. Assumes nothing.
+-- `letters::link_table` meets its contract: before each turn the links of the letters below this one are put. Assumes
+-- nothing.
 use Prim.Native.Nat.{◌<◌, ◌≤◌}
 use mathlib.Core.Path.{◌≡◌, refl, ap, ◌∙◌}
 use native.Mathlib.Omega.{arith}
@@ -15,7 +15,7 @@ use Rattle.search.proofs.Sums.{bytes-before}
 use Rattle.search.proofs.letters.link_table.Goals as goal
 
 pub loop-letter-init : goal.loop-letter-init
-loop-letter-init c = (links-start refl, omega arith)
+loop-letter-init c = links-start refl
 
 pub link_score-requires : goal.link_score-requires
 link_score-requires c =
@@ -24,20 +24,15 @@ link_score-requires c =
 pub loop-letter-preserved : goal.loop-letter-preserved
 unfolding link_number
 loop-letter-preserved c =
-    let h = c.loop-letter-test.true in (
-      links-next (let h = c.loop-letter-test.true in omega (arith, (letters-few _ c.requires)))
-          (c.from_stored-link.ensures
-          ∙ ap (λ (z : ℤ). number_of (possible z)) (back c.link_score.result c.link_score.type_inv
-          ∙ c.link_score.ensures)) c.loop-letter.invariant.0,
-      omega arith,
-    )
+    links-next (omega (arith, letters-few _ c.requires))
+    (c.from_stored-link.ensures
+    ∙ ap (λ (z : ℤ). number_of (possible z)) (back c.link_score.result c.link_score.type_inv ∙ c.link_score.ensures))
+    c.loop-letter.invariant
 
 pub returns : goal.returns
 returns c =
-    let l = c.loop-letter in
-    let h = c.loop-letter-test.false in
-    let e : l.letter ≡ letter_count c.args.voice.now = omega (arith, l.invariant.1) in
-    rw e at l.invariant.0
+    let e : c.loop-letter.letter ≡ letter_count c.args.voice.now = omega arith in
+    rw e at c.loop-letter.invariant
 
 pub overflow_cast-letters : goal.overflow_cast-letters
 overflow_cast-letters c = let h : letter_count c.args.voice.now ≤ 64 = letters-few _ c.requires in search rules
@@ -47,14 +42,6 @@ offset_bounds-links-letter c =
     let small : c.loop-letter.letter < 64 =
     let h = c.loop-letter-test.true in omega (arith, letters-few _ c.requires) in
     bytes-before _ 4 small refl
-
-pub overflow_add-letter : goal.overflow_add-letter
-overflow_add-letter c =
-    let h : c.loop-letter.letter < 64 = let h = c.loop-letter-test.true in omega (arith, (letters-few _ c.requires)) in
-    search rules
-
-pub loop-letter-smaller : goal.loop-letter-smaller
-loop-letter-smaller c = let h = c.loop-letter-test.true in omega arith
 
 pub bounds-voice-0 : goal.bounds-voice-0
 bounds-voice-0 c = omega (arith, links-there _ c.requires)

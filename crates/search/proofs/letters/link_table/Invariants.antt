@@ -1,9 +1,5 @@
-use Prim.Native.Nat.{◌-◌, ◌≤◌}
 use Rattle.storing.specs.Gains.{LinkTable}
 use Rattle.search.proofs.letters.link_table.Given as goal
 
 abbrev pub invariant-loop-letter : goal.invariant-loop-letter
-invariant-loop-letter l = LinkTable l.voice l.letter l.links × (l.letter ≤ l.letters)
-
-abbrev pub decreases-loop-letter : goal.decreases-loop-letter
-decreases-loop-letter l = l.letters - l.letter
+invariant-loop-letter l = LinkTable l.voice l.letter l.links

@@ -1,5 +1,4 @@
--- `places::find_slots` meets its contract: before each node the entries of those below it are there. The measure is the
--- nodes left. Assumes nothing.
+-- `places::find_slots` meets its contract: before each node the entries of those below it are there. Assumes nothing.
 use Prim.Native.Nat.{ℕ, ◌+◌, ◌≤◌, ◌<◌}
 use mathlib.Core.Path.{◌≡◌}
 use mathlib.Core.List.{List}
@@ -9,12 +8,13 @@ use Rattle.endian.specs.Bytes.{u16}
 use Rattle.voice.specs.Fields.{well_formed}
 use Rattle.voice.specs.Voice.{letter_count, voice_verdict}
 use Rattle.lexicon.specs.Lexicon.{node_count, sink_of, lexicon_verdict}
+use Rattle.checking.specs.declared.Vertex.{Vertex}
 use Rattle.checking.proofs.Arcs.{shape_of}
 use Rattle.checking.proofs.Counting.{Images, formed, NodeRead, node-read}
 use Rattle.storing.proofs.Numbering.{SlotsFound, slots-start, slots_next, slots-done}
 use Rattle.search.proofs.places.find_slots.Goals as goal
 
-module _ {v x : List ℕ} {n nodes node slot : ℕ} {t t' : List (List ℕ)} (m : Images v x)
+module _ {v x : List ℕ} {n nodes node slot : ℕ} {t t' : List Vertex} (m : Images v x)
     (e : nodes ≡ u16 x 0) (i : SlotsFound v x n node slot t t') where
   -- the number that is read first
   counted : nodes ≡ node_count x
@@ -34,7 +34,7 @@ module _ {v x : List ℕ} {n nodes node slot : ℕ} {t t' : List (List ℕ)} (m 
   last = omega (arith, i.high, counted, few)
 
   -- the node whose turn it is
-  module _ (h : node ≤ nodes) where
+  module _ (h : node < nodes + 1) where
     high : node ≤ node_count x
     high = omega (arith, counted)
 
@@ -53,91 +53,77 @@ pub loop-node-preserved : goal.loop-node-preserved
 loop-node-preserved c =
     let m = images c.requires.voice_value in
     let i = c.loop-node.invariant in
-    (slots_next m c.requires.n_bound.0 i (high m c.u16_at-nodes.ensures i c.loop-node-test.true)).1
+    (slots_next m c.requires.n_bound.0 i (high m c.u16_at.ensures i c.loop-node-test.true)).1
 
 pub returns : goal.returns
 returns c =
     let m = images c.requires.voice_value in
     let i = c.loop-node.invariant in
-    let k = counted m c.u16_at-nodes.ensures i in
-    slots-done i (let h = c.loop-node-test.false in omega (arith, k)) (last m c.u16_at-nodes.ensures i)
+    let k = counted m c.u16_at.ensures i in
+    let e : c.loop-node.node ≡ c.u16_at.result + 1 = omega (arith, c.loop-node.auto.node-end) in
+    rw e at (slots-done i (omega (arith, k)) (last m c.u16_at.ensures i))
+
+pub bounds-vertices-sink : goal.bounds-vertices-sink
+bounds-vertices-sink c =
+    let h = few (images c.requires.voice_value) c.u16_at.ensures c.loop-node.invariant in
+    omega arith
+
+pub bounds-vertices-sink-2 : goal.bounds-vertices-sink-2
+bounds-vertices-sink-2 c =
+    let h = few (images c.requires.voice_value) c.u16_at.ensures c.loop-node.invariant in
+    omega arith
 
 pub overflow_add-slot-in-loop-node : goal.overflow_add-slot-in-loop-node
 overflow_add-slot-in-loop-node c =
     let m = images c.requires.voice_value in
     let i = c.loop-node.invariant in
-    let h = high m c.u16_at-nodes.ensures i c.loop-node-test.true in
-    omega (arith, small m c.u16_at-nodes.ensures i, (slots_next m c.requires.n_bound.0 i h).0)
+    let h = high m c.u16_at.ensures i c.loop-node-test.true in
+    omega (arith, small m c.u16_at.ensures i, (slots_next m c.requires.n_bound.0 i h).0)
 
 pub overflow_mul-slot-in-loop-node : goal.overflow_mul-slot-in-loop-node
 overflow_mul-slot-in-loop-node c =
     let m = images c.requires.voice_value in
     let i = c.loop-node.invariant in
-    let h = high m c.u16_at-nodes.ensures i c.loop-node-test.true in
+    let h = high m c.u16_at.ensures i c.loop-node-test.true in
     omega (arith, (slots_next m c.requires.n_bound.0 i h).0)
 
 pub bounds-lexicon-node : goal.bounds-lexicon-node
 bounds-lexicon-node c =
-    (read (images c.requires.voice_value) c.u16_at-nodes.ensures c.loop-node.invariant c.loop-node-test.true).node_there
+    (read (images c.requires.voice_value) c.u16_at.ensures c.loop-node.invariant c.loop-node-test.true).node_there
 
 pub bounds-voice-letter : goal.bounds-voice-letter
 bounds-voice-letter c =
-    (read (images c.requires.voice_value) c.u16_at-nodes.ensures c.loop-node.invariant
+    (read (images c.requires.voice_value) c.u16_at.ensures c.loop-node.invariant
     c.loop-node-test.true).states_there
 
 pub overflow_cast-slot : goal.overflow_cast-slot
 overflow_cast-slot c =
-    let h = read (images c.requires.voice_value) c.u16_at-nodes.ensures c.loop-node.invariant c.loop-node-test.true in
+    let h = read (images c.requires.voice_value) c.u16_at.ensures c.loop-node.invariant c.loop-node-test.true in
     omega (arith, h.few)
 
 pub overflow_add-letter : goal.overflow_add-letter
 overflow_add-letter c =
-    let h = last (images c.requires.voice_value) c.u16_at-nodes.ensures c.loop-node.invariant in
+    let h = last (images c.requires.voice_value) c.u16_at.ensures c.loop-node.invariant in
     omega arith
 
 pub overflow_cast-vertices : goal.overflow_cast-vertices
 overflow_cast-vertices c =
-    let h = small (images c.requires.voice_value) c.u16_at-nodes.ensures c.loop-node.invariant in
+    let h = small (images c.requires.voice_value) c.u16_at.ensures c.loop-node.invariant in
     omega arith
 
 pub offset_bounds-vertices-node : goal.offset_bounds-vertices-node
 offset_bounds-vertices-node c =
-    let h = last (images c.requires.voice_value) c.u16_at-nodes.ensures c.loop-node.invariant in
+    let h = last (images c.requires.voice_value) c.u16_at.ensures c.loop-node.invariant in
     omega arith
 
 pub bounds-vertices-node : goal.bounds-vertices-node
 bounds-vertices-node c =
-    let h = last (images c.requires.voice_value) c.u16_at-nodes.ensures c.loop-node.invariant in
-    omega arith
-
-pub overflow_add-node : goal.overflow_add-node
-overflow_add-node c =
-    let h = last (images c.requires.voice_value) c.u16_at-nodes.ensures c.loop-node.invariant in
+    let h = last (images c.requires.voice_value) c.u16_at.ensures c.loop-node.invariant in
     omega arith
 
 pub overflow_cast-vertices-2 : goal.overflow_cast-vertices-2
 overflow_cast-vertices-2 c =
-    let h = small (images c.requires.voice_value) c.u16_at-nodes.ensures c.loop-node.invariant in
-    omega arith
-
-pub offset_bounds-vertices-node-2 : goal.offset_bounds-vertices-node-2
-offset_bounds-vertices-node-2 c =
-    let h = last (images c.requires.voice_value) c.u16_at-nodes.ensures c.loop-node.invariant in
-    omega arith
-
-pub bounds-vertices-node-after-loop-node : goal.bounds-vertices-node-after-loop-node
-bounds-vertices-node-after-loop-node c =
-    let h = last (images c.requires.voice_value) c.u16_at-nodes.ensures c.loop-node.invariant in
-    omega arith
-
-pub offset_bounds-vertices-node-3 : goal.offset_bounds-vertices-node-3
-offset_bounds-vertices-node-3 c =
-    let h = last (images c.requires.voice_value) c.u16_at-nodes.ensures c.loop-node.invariant in
-    omega arith
-
-pub bounds-vertices-node-after-loop-node-2 : goal.bounds-vertices-node-after-loop-node-2
-bounds-vertices-node-after-loop-node-2 c =
-    let h = last (images c.requires.voice_value) c.u16_at-nodes.ensures c.loop-node.invariant in
+    let h = small (images c.requires.voice_value) c.u16_at.ensures c.loop-node.invariant in
     omega arith
 
 -- a letter index is a byte

@@ -1,6 +1,6 @@
 -- `offer` lets the moved tokens enter one after another: before token i, to offer those from it on to what the slots
--- hold makes the whole offer. Both places are in the order of rank, so that nothing enters after the early exit. The
--- measure is what is left of the tokens. Assumes nothing.
+-- hold makes the whole offer. Both places are in the order of rank, so that nothing enters after the early exit.
+-- Assumes nothing.
 use Prim.Native.Nat.{ℕ, ◌+◌, ◌-◌, ◌<◌}
 use mathlib.Core.Path.{◌≡◌, refl, ap, sym, ◌∙◌}
 use mathlib.Core.List.{List}
@@ -12,14 +12,13 @@ use Rattle.storing.proofs.Slots.{slots_get}
 use Rattle.storing.proofs.Falling.{falling_enter}
 use Rattle.storing.proofs.Lending.{take-slots}
 use Rattle.storing.proofs.Moving.{from-holds, offered-ends, offered-goes, offered-late, offered-done}
-use Rattle.search.proofs.Sums.{next_fits, next_less, room-kept, less_by}
+use Rattle.search.proofs.Sums.{room-kept, less_by}
 use Rattle.search.proofs.Told.{same_told, other_told, below_told}
 use Rattle.search.proofs.store.offer.Goals as goal
 
 pub loop-i-init : goal.loop-i-init
 loop-i-init c =
     record {
-      few = omega arith;
       long = refl;
       falling = c.requires.1.target;
       left = ap (λ l. offered c.args.up c.args.down l (slots c.args.n 0 c.args.list.now))
@@ -73,7 +72,6 @@ loop-i-preserved c =
     let entered = c.insert.ensures ∙ ap (λ x. enter x (slots a.n 0 l.list))
     (c.moved-candidate.ensures ∙ ap (λ y. y + a.up - a.down) told) in
     record {
-      few = let h = c.loop-i-test.true in omega arith;
       long = c.insert.auto.part ∙ l.invariant.long;
       falling = rw entered (falling_enter l.invariant.falling (get_or tokens l.i 0 + a.up - a.down));
       left = ap (offered a.up a.down (drop (l.i + 1) (take a.n tokens))) entered
@@ -104,12 +102,6 @@ shape_of-list-then-outranks c = c.loop-i.invariant.long
 
 pub insert-requires : goal.insert-requires
 insert-requires c = room-kept _ c.requires.1.room.room c.loop-i.invariant.long
-
-pub overflow_add-i : goal.overflow_add-i
-overflow_add-i c = next_fits c.loop-i-test.true c.ranges.n
-
-pub loop-i-smaller : goal.loop-i-smaller
-loop-i-smaller c = next_less c.loop-i-test.true
 
 pub shape_of-list : goal.shape_of-list
 shape_of-list c = c.loop-i.invariant.long

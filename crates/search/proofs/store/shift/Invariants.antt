@@ -7,10 +7,7 @@ use Rattle.search.proofs.store.shift.Given as goal
 
 abbrev pub invariant-loop-k : goal.invariant-loop-k
 invariant-loop-k l =
-    (l.k ≤ l.n) × (length l.part ≡ length l.initial.part) × ((j : ℕ) → l.k ≤ j → token_at l.part j
+    (length l.part ≡ length l.initial.part) × ((j : ℕ) → l.k ≤ j → token_at l.part j
     ≡ token_at l.initial.part j)
     × (slots l.k 0 l.part ++ shifted l.up l.down (slots (l.n - l.k) l.k l.part)
     ≡ shifted l.up l.down (slots l.n 0 l.initial.part))
-
-abbrev pub decreases-loop-k : goal.decreases-loop-k
-decreases-loop-k l = l.n - l.k

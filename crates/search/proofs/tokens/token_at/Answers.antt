@@ -1,9 +1,7 @@
--- `tokens::token_at` reads the two halves of the number. Assumes nothing.
-use mathlib.Core.Path.{ap₂}
-use Prim.Native.Nat.{◌+◌, ◌*◌}
-use Rattle.storing.specs.Slots.{token_at}
+-- `token_at` reads the number that the slot's bytes hold. Assumes nothing.
+use Rattle.std.proofs.Common.{◌∙◌}
+use Rattle.storing.proofs.Putting.{read_slot}
 use Rattle.search.proofs.tokens.token_at.Goals as goal
 
 pub returns : goal.returns
-unfolding token_at
-returns c = ap₂ (λ low high. low + 4294967296 * high) c.u32_at-low.ensures c.u32_at-high.ensures
+returns c = c.from_le_bytes.ensures ∙ rw c.as_chunks.ensures.front (read_slot c.args.part.now c.args.k c.requires)

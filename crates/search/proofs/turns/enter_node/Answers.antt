@@ -10,6 +10,7 @@ use native.Mathlib.Omega.{arith}
 use mir.Syntax.{w64}
 use mir.Val.{Fits}
 use borrow.Rule.Slice.PartMut.{mid_len, same_len_mid}
+use Rattle.checking.specs.declared.Vertex.{Vertex}
 use Rattle.decoder.specs.Score.{bias, number_of}
 use Rattle.storing.specs.Slots.{enter, PlaceRoom}
 use Rattle.storing.specs.Places.{first_in, emission_in}
@@ -23,7 +24,7 @@ use Rattle.search.proofs.Sums.{slot-fits, begin-fits, size_fits}
 use Rattle.search.proofs.Told.{same_told, other_told}
 use Rattle.search.proofs.turns.enter_node.Goals as goal
 
-module _ {n : ℕ} {vertices : List (List ℕ)} {u down : ℕ} {b : List ℕ} (a : Arc n vertices bias true 0 u down b) where
+module _ {n : ℕ} {vertices : List Vertex} {u down : ℕ} {b : List ℕ} (a : Arc n vertices bias true 0 u down b) where
   -- the emission alone is the gain
   gain : emission_in vertices u ≡ number_sum bias (emission_in vertices u)
   gain = root-sum (arc-read a).entry_near
@@ -77,8 +78,8 @@ bounds-vertices-t c = let h = arc-few c.requires in omega arith
 pub offset_bounds-vertices-t-2 : goal.offset_bounds-vertices-t-2
 offset_bounds-vertices-t-2 c = let h = arc-few c.requires in omega arith
 
-pub bounds-vertices-t-else-is_impossible : goal.bounds-vertices-t-else-is_impossible
-bounds-vertices-t-else-is_impossible c = let h = arc-few c.requires in omega arith
+pub bounds-vertices-t-2 : goal.bounds-vertices-t-2
+bounds-vertices-t-2 c = let h = arc-few c.requires in omega arith
 
 pub overflow_cast-start : goal.overflow_cast-start
 overflow_cast-start c = slot-fits _ _ (end_fits c.requires)

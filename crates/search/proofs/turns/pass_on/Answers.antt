@@ -1,5 +1,5 @@
--- `turns::pass_on` meets its contract: what is left to pass on from the store so far is what was to be passed on. The
--- measure is what is left of the list. Assumes nothing.
+-- `turns::pass_on` meets its contract: what is left to pass on from the store so far is what was to be passed on.
+-- Assumes nothing.
 use Prim.Native.Nat.{ℕ, ◌+◌, ◌*◌, ◌≤◌, ◌<◌}
 use mathlib.Core.Path.{◌≡◌, refl, sym, ◌∙◌}
 use mathlib.Core.Bool.{false}
@@ -8,6 +8,7 @@ use native.Mathlib.Omega.{arith}
 use lib.ListN.{get_or}
 use Rattle.endian.specs.Bytes.{u16}
 use Rattle.storing.specs.Slots.{token_at}
+use Rattle.checking.specs.declared.Vertex.{Vertex}
 use Rattle.checking.proofs.Arcs.{arc-next}
 use Rattle.decoder.specs.Score.{number_of}
 use Rattle.storing.specs.Places.{arcs_in}
@@ -26,13 +27,13 @@ first : (n k : ℕ) (b : List ℕ) {r : ℕ} → 1 ≤ n → r ≡ token_at b k 
 first n k b h e = node-first n k b h ∙ sym e
 
 -- where the list ends
-small : {x : List ℕ} {n : ℕ} {vertices : List (List ℕ)} {link w from : ℕ} {b : List ℕ} (r : ℕ)
+small : {x : List ℕ} {n : ℕ} {vertices : List Vertex} {link w from : ℕ} {b : List ℕ} (r : ℕ)
     → PassingOn x n vertices link w false from b → r ≡ u16 x (arcs_in vertices w)
     → arcs_in vertices w + 2 + 2 * r ≤ 9204
 small r t e = omega (arith, (list-of t).small, e)
 
 -- the vertex has a row of the table
-vertex : {x : List ℕ} {n : ℕ} {vertices : List (List ℕ)} {link w from : ℕ} {b : List ℕ}
+vertex : {x : List ℕ} {n : ℕ} {vertices : List Vertex} {link w from : ℕ} {b : List ℕ}
     → PassingOn x n vertices link w false from b → w < 402
 vertex t = omega (arith, vertex_few t)
 

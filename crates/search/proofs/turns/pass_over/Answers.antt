@@ -5,6 +5,7 @@ use mathlib.Core.Bool.{false}
 use mathlib.Core.List.{List}
 use native.Mathlib.Omega.{arith}
 use Rattle.lexicon.specs.Lexicon.{node_count}
+use Rattle.checking.specs.declared.Vertex.{Vertex}
 use Rattle.decoder.specs.Score.{bias, number_of}
 use Rattle.storing.specs.Places.{emission_in}
 use Rattle.storing.specs.Stored.{source}
@@ -18,7 +19,7 @@ use Rattle.search.proofs.Sums.{bytes-before, vertex-below}
 use Rattle.search.proofs.turns.pass_over.Goals as goal
 
 -- the emission is possible, and so is the move
-module _ {n : ℕ} {vertices : List (List ℕ)} {link from u down : ℕ} {b : List ℕ}
+module _ {n : ℕ} {vertices : List Vertex} {link from u down : ℕ} {b : List ℕ}
     (a : Arc n vertices link false from u down b) (l : 0 < link) (some : ¬ (emission_in vertices u ≡ 0)) where
   -- the arc leads to a node
   node : u ≤ node_count a.x
@@ -102,8 +103,8 @@ overflow_mul-up c =
 pub offset_bounds-vertices-t-2 : goal.offset_bounds-vertices-t-2
 offset_bounds-vertices-t-2 c = bytes-before _ 16 (vertex-below (arc-few c.requires.arc)) refl
 
-pub bounds-vertices-t-else-is_impossible : goal.bounds-vertices-t-else-is_impossible
-bounds-vertices-t-else-is_impossible c = vertex-below (arc-few c.requires.arc)
+pub bounds-vertices-t-2 : goal.bounds-vertices-t-2
+bounds-vertices-t-2 c = vertex-below (arc-few c.requires.arc)
 
 pub overflow_cast-slot : goal.overflow_cast-slot
 unfolding number_of

@@ -4,6 +4,3 @@ use Rattle.search.proofs.turns.renew.Given as goal
 
 abbrev pub invariant-loop-s : goal.invariant-loop-s
 invariant-loop-s l = (t : Renewing l.n l.states l.row l.initial.part) → RenewLeft t l.s l.part
-
-abbrev pub decreases-loop-s : goal.decreases-loop-s
-decreases-loop-s l = l.s

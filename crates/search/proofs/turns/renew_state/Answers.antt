@@ -8,6 +8,7 @@ use borrow.Author.Rules.{rules}
 use borrow.Rule.Slice.PartMut.{put_mid, mid_len, same_len_mid}
 use lib.ListN.{length, get_or, take, drop}
 use Rattle.decoder.specs.Score.{number_of}
+use Rattle.storing.specs.declared.Moves.{Moves}
 use Rattle.storing.specs.Slots.{slots, Changed, PlaceRoom}
 use Rattle.storing.specs.Held.{held}
 use Rattle.storing.specs.Carrying.{Renewing, Staying, stayed}
@@ -15,10 +16,10 @@ use Rattle.storing.proofs.Lending.{part-size, part-slots, part_room, part-back}
 use Rattle.storing.proofs.Renewing.{entry-few, slot-few, staying, lent_staying, lent_stayed, first_done}
 use Rattle.storing.proofs.Renewing.{loop-done, slot-covers, step-ready, step-done}
 use Rattle.search.proofs.Told.{same_told, other_told}
-use Rattle.search.proofs.Sums.{less_fits, bytes-before, low-entry, high-entry}
+use Rattle.search.proofs.Sums.{bytes-before}
 use Rattle.search.proofs.turns.renew_state.Goals as goal
 
-module _ {n s : ℕ} {row part : List ℕ} (t : Renewing n (suc s) row part) where
+module _ {n s : ℕ} {row : Moves} {part : List ℕ} (t : Renewing n (suc s) row part) where
   room : PlaceRoom n (n * s) part
   room = (staying t).room
 
@@ -35,8 +36,8 @@ module _ {n s : ℕ} {row part : List ℕ} (t : Renewing n (suc s) row part) whe
   long : 8 * n ≤ length lent
   long = omega (arith, part_room room _ size)
 
-  lends : Staying n 0 (get_or row (0 + s) 0) lent
-  lends = let z : 0 + s ≡ s = omega arith in rw z (lent_staying t _ there long)
+  lends : Staying n 0 (get_or row.loops s 0) lent
+  lends = lent_staying t _ there long
 
   -- the part as it comes back
   abbrev back : List ℕ → List ℕ
@@ -44,13 +45,12 @@ module _ {n s : ℕ} {row part : List ℕ} (t : Renewing n (suc s) row part) whe
 
   -- the place comes back with its tokens moved by the loop, and nothing else changes
   module _ (place : List ℕ) (e : length place ≡ length lent)
-      (f : (u : Staying n 0 (get_or row (0 + s) 0) lent) → slots n 0 place ≡ held n (stayed u)) where
+      (f : (u : Staying n 0 (get_or row.loops s 0) lent) → slots n 0 place ≡ held n (stayed u)) where
     looped : Changed (n * s) n (held n (stayed (staying t))) part (back place)
     looped =
-        let z : 0 + s ≡ s = omega arith in
         part-back part _ (n * s) n _ _ size room.room
         (e ∙ mid_len (8 * (n * s)) (8 * (n * s) + 8 * n) part room.room)
-        ((rw z at f) (lent_staying t _ there long) ∙ ap (held n) (lent_stayed t _ there long))
+        (f (lent_staying t _ there long) ∙ ap (held n) (lent_stayed t _ there long))
 
     kept : length (back place) ≡ length part
     kept = same_len_mid (8 * (n * s)) (8 * (n * s) + 8 * n - 8 * (n * s)) part place e
@@ -105,26 +105,20 @@ overflow_add-end c = let h = room c.requires in search rules
 pub slice_bounds-stay-end : goal.slice_bounds-stay-end
 slice_bounds-stay-end c = let h = (room c.requires).room in search rules
 
-pub overflow_add-s : goal.overflow_add-s
-overflow_add-s c = less_fits _ (low-entry (entry-few c.requires)) refl
-
 pub offset_bounds-row-s : goal.offset_bounds-row-s
-offset_bounds-row-s c = bytes-before _ 4 (low-entry (entry-few c.requires)) refl
+offset_bounds-row-s c = bytes-before _ 4 (entry-few c.requires) refl
 
 pub bounds-row-s : goal.bounds-row-s
-bounds-row-s c = low-entry (entry-few c.requires)
+bounds-row-s c = entry-few c.requires
 
 pub shape_of-part-then-s-eq0 : goal.shape_of-part-then-s-eq0
 shape_of-part-then-s-eq0 c = kept c.requires _ c.stay.auto.place c.stay.ensures
 
-pub overflow_add-score : goal.overflow_add-score
-overflow_add-score c = less_fits _ (high-entry (entry-few c.requires)) refl
-
 pub offset_bounds-row-s-2 : goal.offset_bounds-row-s-2
-offset_bounds-row-s-2 c = bytes-before _ 4 (high-entry (entry-few c.requires)) refl
+offset_bounds-row-s-2 c = bytes-before _ 4 (entry-few c.requires) refl
 
 pub bounds-row-s-2 : goal.bounds-row-s-2
-bounds-row-s-2 c = high-entry (entry-few c.requires)
+bounds-row-s-2 c = entry-few c.requires
 
 pub is_impossible-requires : goal.is_impossible-requires
 is_impossible-requires c = tt

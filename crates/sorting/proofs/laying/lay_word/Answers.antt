@@ -3,7 +3,7 @@
 use Prim.Native.Nat.{◌*◌}
 use mathlib.Core.Path.{sym, subst, ◌∙◌}
 use native.Mathlib.Omega.{arith}
-use Rattle.sorting.specs.Slots.{Copied}
+use Rattle.sorting.specs.Slots.{SlotCopied}
 use Rattle.sorting.specs.Rows.{New, known, over, laid}
 use Rattle.sorting.proofs.laying.lay_word.Goals as goal
 use Rattle.sorting.proofs.laying.lay_word.Goals.{then-k-gt0+else-not-stands_before, else-k-gt0}
@@ -36,6 +36,5 @@ returns c =
       | else-k-gt0 w ↦ absurd (omega (arith, w.if-k-gt0.false))
     ] in
     laid new c.if-q-ge2000.false
-    (subst (λ i. Copied c.args.words.now (33 * i) 33 c.copied-slot.result) c.number-s.ensures.0
-    c.copied-slot.ensures)
-    c.fill.ensures
+    (subst (λ i. SlotCopied c.args.words.now (33 * i) (33 * c.args.q) c.copy_slot.new.words) c.number-s.ensures.0
+    c.copy_slot.ensures)

@@ -1,8 +1,7 @@
 -- `Score::is_impossible` meets its contract: only 0 stands for no token. Assumes nothing.
-use mathlib.Core.Path.{refl}
 use Rattle.decoder.specs.Score.{number_of}
 use Rattle.decoder.proofs.score.Score.is_impossible.Goals as goal
 
 pub returns : goal.returns
 unfolding number_of
-returns c = refl
+returns c = c.eq.ensures

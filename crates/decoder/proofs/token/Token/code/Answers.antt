@@ -1,6 +1,5 @@
 -- `Token::code` meets its contract: the low half, turned round. Assumes nothing.
 use mathlib.Core.Path.{refl}
-use borrow.Author.Rules.{rules}
 use Rattle.decoder.specs.Token.{code_part}
 use Rattle.decoder.proofs.token.Token.code.Goals as goal
 

@@ -1,7 +1,0 @@
--- `offsets::number_at` meets its contract. Assumes nothing.
-use Rattle.endian.specs.Bytes.{u16}
-use Rattle.checking.proofs.offsets.number_at.Goals as goal
-
-pub returns : goal.returns
-unfolding u16
-returns c = c.u16_of.ensures

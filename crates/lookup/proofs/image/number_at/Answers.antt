@@ -1,8 +1,0 @@
--- `image::number_at` meets its contract. Assumes nothing.
-use borrow.Author.Rules.{rules}
-use Rattle.endian.specs.Bytes.{u16}
-use Rattle.lookup.proofs.image.number_at.Goals as goal
-
-pub returns : goal.returns
-unfolding u16
-returns c = (c.u16_of.ensures, search rules)

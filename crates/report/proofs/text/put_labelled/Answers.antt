@@ -1,9 +1,0 @@
--- `text::put_labelled` meets its contract: the number is put behind its label. Assumes nothing.
-use native.Mathlib.Omega.{arith}
-use Rattle.report.proofs.Putting.{put-more}
-use Rattle.report.proofs.text.put_labelled.Goals as goal
-
-pub returns : goal.returns
-returns c =
-    let h = c.requires in
-    put-more (omega arith) c.put_bytes-end.ensures c.put_decimal.ensures
