@@ -51,4 +51,4 @@ returns c =
     (pairs-hold t.formed p.1 e c.u16_of-count.ensures (omega arith) _
     c.as_chunks.ensures.front c.as_chunks.ensures.front_len).numbers
     ∙ sym (ap (listed x) e ∙ listed-successors x c.args.vertex
-        (omega (arith, (shape_of t.formed).there {u = c.args.vertex} (omega (arith, p.1)))))
+    (omega (arith, (shape_of t.formed).there {u = c.args.vertex} (omega (arith, p.1)))))
