@@ -1,9 +1,11 @@
 // A word is sought from the root on, depth first: the arcs of a vertex are tried in stored order, so the first way that
 // is found is the first in code order. Where none leads on, the pair of letter position and vertex is marked, so that
 // it is not tried again.
-ghost use Rattle.std.specs.Prelude.{◌≡◌, ℕ, ◌+◌, ◌≤◌, length, replicate};
+ghost use Rattle.std.specs.Prelude.{◌≡◌, ℕ, ◌+◌, ◌≤◌, length, get_or, replicate};
 ghost use Rattle.call.specs.Table.{answer_of};
+ghost use Rattle.lexicon.specs.Lexicon.{node_count, numbers_of, listed};
 ghost use Rattle.graph.specs.Graph.{graph_of};
+ghost use Rattle.checking.specs.Tables.{no_vertex};
 ghost use Rattle.lookup.specs.Seeking.{code_after, sought_answer, prints_column};
 ghost use Rattle.lookup.specs.Seeking.{wanted_at, Seekable};
 ghost use Rattle.lookup.specs.Marks.{Chained};
@@ -13,8 +15,7 @@ use crate::image::END;
 use crate::marks::{NONE, ROW, clear_marks, set_mark};
 use call::Refusal;
 use checking::{LETTERS, Vertex};
-use endian::{number_of, u16_at};
-use lexicon::list_at;
+use endian::{number_of, u16_at, u16_of};
 
 // An arc that fits: its index in the vertex's list, and the vertex that it leads to.
 #[derive(Clone, Copy)]
@@ -29,6 +30,20 @@ struct Arc {
 struct Ahead {
     pub passed: u32,
     pub arc: Option<Arc>,
+}
+
+// The list of a vertex. The table says where it is, so it is read without the tests of `list_at`, which every turn would
+// pay for.
+fn arcs_of<'a>(lexicon: &'a [u8], vertices: &[Vertex; 402], vertex: usize) -> &'a [[u8; 2]]
+    requires { Seekable lexicon.now vertices.now × (vertex ≤ node_count lexicon.now) }
+    ensures { numbers_of result.now ≡ listed lexicon.now (get_or vertices.now vertex no_vertex).arcs_at }
+{
+    let at = vertices[vertex].arcs_at as usize;
+    let count = u16_of(lexicon[at], lexicon[at + 1]) as usize;
+    let start = at + 2;
+    let end = start + 2 * count;
+    let (arcs, _) = lexicon[start..end].as_chunks::<2>();
+    arcs
 }
 
 // From an arc of the vertex's list on, the first that fits.
@@ -47,7 +62,7 @@ fn next_arc(
     ensures few { result.passed ≤ 1048576 }
 {
     let wanted = wanted_at(word, i);
-    let arcs = list_at(lexicon, vertices[vertex].arcs_at as usize);
+    let arcs = arcs_of(lexicon, vertices, vertex);
     let mut passed = 0;
     for index in first..arcs.len() {
         let next = number_of(arcs[index]) as usize;

@@ -13,7 +13,7 @@ use Rattle.graph.specs.Graph.{graph_of, sink, path_count}
 use Rattle.checking.specs.declared.Vertex.{Vertex}
 use Rattle.checking.specs.Tables.{no_vertex, slot_field, WellFormed}
 use Rattle.checking.proofs.Columns.{column-at}
-use Rattle.codes.proofs.Heads.{ArcHere, vertex_low, list_long, arc_here, paths_of}
+use Rattle.codes.proofs.Heads.{ArcHere, list_long, arc_here, paths_of}
 use Rattle.lookup.specs.Seeking.{wanted_at, code_after, prints_column}
 use Rattle.lookup.specs.Trying.{Tried, Trying, LedOn, nowhere, ended, onward}
 use Rattle.lookup.proofs.Ways.{not_end}
@@ -69,12 +69,6 @@ module _ {x : List ℕ} {vertices : List Vertex} {word : List ℕ} {i u first : 
 
 -- ---- the list
 
-pub offset_bounds-vertices-vertex : goal.offset_bounds-vertices-vertex
-offset_bounds-vertices-vertex c = omega (arith, vertex_low c.requires.table.countable.tabled c.requires.vertex)
-
-pub bounds-vertices-vertex : goal.bounds-vertices-vertex
-bounds-vertices-vertex c = vertex_low c.requires.table.countable.tabled c.requires.vertex
-
 -- paths passed are few
 few : (c : At-loop-index) → c.loop-index.passed ≤ 1048576
 unfolding sink_of
@@ -91,7 +85,7 @@ few c =
 arc : (c : After-number_of-next) → ArcHere c.args.lexicon.now c.args.vertex c.loop-index.index c.number_of-next.result
 arc c =
     let p = c.requires in
-    arc_here p.table.countable.tabled p.vertex c.list_at-arcs.result.now c.list_at-arcs.ensures c.loop-index-test.true
+    arc_here p.table.countable.tabled p.vertex c.arcs_of-arcs.result.now c.arcs_of-arcs.ensures c.loop-index-test.true
     c.number_of-next.ensures
 
 count : (c : After-number_of-next) →
@@ -148,7 +142,7 @@ pub returns : goal.returns
 returns c =
     let p = c.requires in
     let f = p.table.countable.tabled.located.formed in
-    let long = list_long p.table.countable.tabled p.vertex c.list_at-arcs.result.now c.list_at-arcs.ensures in
+    let long = list_long p.table.countable.tabled p.vertex c.arcs_of-arcs.result.now c.arcs_of-arcs.ensures in
     let all : length (successors c.args.lexicon.now c.args.vertex) ≤ c.loop-index.index =
     omega (arith, long, c.loop-index-test.false) in
     record {
