@@ -32,8 +32,8 @@ struct Ahead {
     pub arc: Option<Arc>,
 }
 
-// The list of a vertex. The table says where it is, so it is read without the tests of `list_at`, which every turn would
-// pay for.
+// The list of a vertex. The table says where it is, so it is read without the tests of `list_at`, which every turn
+// would pay for.
 fn arcs_of<'a>(lexicon: &'a [u8], vertices: &[Vertex; 402], vertex: usize) -> &'a [[u8; 2]]
     requires { Seekable lexicon.now vertices.now × (vertex ≤ node_count lexicon.now) }
     ensures { numbers_of result.now ≡ listed lexicon.now (get_or vertices.now vertex no_vertex).arcs_at }
