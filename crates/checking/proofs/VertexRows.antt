@@ -6,11 +6,12 @@ use mathlib.Core.List.{List, map}
 use native.Mathlib.Nat.{add-zero, zero-add}
 use native.Mathlib.Omega.{arith}
 use native.Mathlib.Decide.{ℕ_discrete}
-use lib.ListN.{length, get_or, set, length-set, get_or-eq_default}
+use lib.ListN.{length, get_or, set, replicate, length-set, get_or-eq_default}
 use lib.Seq.{get_or-set_same, get_or-set_other, ext_get_or}
 use lib.Dec.{ltb}
 use borrow.Author.Tests.{le-ltb, ltb-true, ltb-false}
 use Rattle.endian.specs.Lists.{from}
+use Rattle.endian.proofs.Lists.{get_d_copies}
 use Rattle.call.specs.declared.Refusal.{Refusal}
 use Rattle.call.specs.Table.{Answer, value, refused}
 use Rattle.lexicon.specs.Lexicon.{node_count, sink_of, arcs_at}
@@ -47,16 +48,28 @@ module _ (x : List ℕ) where
   unfolding vertices_of
   vertices-at {u} h = row_at (vertex_row x) 0 402 u h ∙ ap (vertex_row x) (zero-add u)
 
+  after-sink : {u : ℕ} → sink_of x < u → vertex_row x u ≡ no_vertex
+  unfolding vertex_row
+  after-sink {u} h = rw (le-ltb u (sink_of x) (omega arith), le-ltb u (suc (sink_of x)) h)
+
 -- ---- put from the root's up
 
 -- a vertex of which two numbers are known
 abbrev pub known_vertex : ℕ → ℕ → Vertex
 known_vertex offset paths = record { arcs_at = offset; paths = paths; first_slot = 0; emission = 0 }
 
--- the vertices below n are put, with what the tables hold
+-- the vertices below n are put, with what the tables hold, and nothing is known of the others
 pub record RowsPut (offsets counts : List ℕ) (n : ℕ) (vertices : List Vertex) : Type 0 where
   pub long : length vertices ≡ 402
   pub done : (u : ℕ) → u < n → get_or vertices u no_vertex ≡ known_vertex (get_or offsets u 0) (get_or counts u 0)
+  pub blank : (u : ℕ) → n ≤ u → get_or vertices u no_vertex ≡ no_vertex
+
+pub rows_start : (offsets counts : List ℕ) → RowsPut offsets counts 0 (replicate 402 no_vertex)
+rows_start offsets counts = record {
+  long = refl;
+  done = λ u h. absurd (omega arith);
+  blank = λ u h. get_d_copies 402 u no_vertex;
+}
 
 module _ {offsets counts : List ℕ} {n : ℕ} {vertices : List Vertex} (r : RowsPut offsets counts n vertices) where
   pub rows_next : n < 402
@@ -64,6 +77,7 @@ module _ {offsets counts : List ℕ} {n : ℕ} {vertices : List Vertex} (r : Row
   rows_next h = record {
     long = length-set vertices n put ∙ r.long;
     done = λ u k. at u k (ℕ_discrete u n);
+    blank = λ u k. get_or-set_other vertices n u put no_vertex (λ q. omega arith) ∙ r.blank u (omega arith);
   }
     where
       put : Vertex
@@ -74,12 +88,17 @@ module _ {offsets counts : List ℕ} {n : ℕ} {vertices : List Vertex} (r : Row
       at u k (yes q) = rw (q, get_or-set_same vertices n put no_vertex (omega (arith, r.long)))
       at u k (no d) = get_or-set_other vertices n u put no_vertex d ∙ r.done u (omega arith)
 
-  pub rows_done : 402 ≤ n → (x : List ℕ) → Tables x offsets counts → vertices ≡ vertices_of x
+  pub rows_done : (x : List ℕ) → Tables x offsets counts → sink_of x < n → vertices ≡ vertices_of x
   unfolding vertex_row
-  rows_done h x t =
+  rows_done x t h =
       ext_get_or no_vertex vertices (vertices_of x) (r.long ∙ sym (vertices-long x))
-      (λ u k. let l : u < 402 = omega (arith, r.long) in
-      r.done u (omega arith) ∙ rw (t.located.holds u, t.counted.holds u) (sym (vertices-at x l)))
+      (λ u k. at u (omega (arith, r.long)) (ltb u n) refl)
+    where
+      at : (u : ℕ) → u < 402 → (b : Bool) → ltb u n ≡ b → get_or vertices u no_vertex ≡ get_or (vertices_of x) u no_vertex
+      at u k true e = r.done u (ltb-true u n e) ∙ rw (t.located.holds u, t.counted.holds u) (sym (vertices-at x k))
+      at u k false e =
+          let l = ltb-false u n e in
+          r.blank u l ∙ sym (vertices-at x k ∙ after-sink x (omega arith))
 
 -- ---- as `open` leaves it
 

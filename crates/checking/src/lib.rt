@@ -36,7 +36,7 @@ pub const LETTERS: u16 = 32;
 const WORDS: u32 = 1048576;
 
 // What the calls after checking are handed of a vertex.
-#[derive(Clone, Copy)]
+#[derive(Clone, Copy, PartialEq, Eq, PartialOrd, Ord, Hash, Debug, Default)]
 pub struct Vertex {
     // the offset of its successors' count, which their list follows
     pub arcs_at: u32,
@@ -155,7 +155,7 @@ pub fn open(
     );
     clear(work);
     let words = answer?;
-    put_vertices(&offsets, &counts, vertices);
+    put_vertices(lexicon, &offsets, &counts, vertices);
     Ok(words)
 }
 

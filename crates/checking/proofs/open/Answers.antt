@@ -10,7 +10,9 @@ use Rattle.call.specs.Limits.{work_space}
 use Rattle.call.specs.Table.{Answer}
 use Rattle.call.specs.Buffers.{cleared}
 use Rattle.call.proofs.Buffers.{cleared-short, part-cleared}
+use Rattle.voice.specs.Voice.{letter_count}
 use Rattle.graph.specs.Checking.{image_rows, check_answer}
+use Rattle.graph.proofs.Accepted.{accepted, passed}
 use Rattle.checking.specs.Judging.{ImagesJudged}
 use Rattle.checking.proofs.Judging.{short-answer, long-answer}
 use Rattle.checking.proofs.VertexRows.{opened-value, opened-refused}
@@ -58,6 +60,16 @@ returns-in_err-words c =
       vertices_after = rw p.1 (sym (opened-refused _ _ refl));
     }
 
+pub put_vertices-requires : goal.put_vertices-requires
+put_vertices-requires c =
+    let a = c.args in
+    let j = rw c.in_ok-words.was at c.judge_images-answer.ensures in
+    let checked = answered a.voice.now a.work.now c.if-work-lt-WORK_SPACE.false j in
+    let p = passed a.voice.now a.lexicon.now a.work.now (sym checked) in (
+      record { letters = letter_count a.voice.now; judged = (accepted p.images).lexicon },
+      j.opened _ refl,
+    )
+
 pub returns : goal.returns
 returns c =
     let long = c.if-work-lt-WORK_SPACE.false in
@@ -65,5 +77,5 @@ returns c =
     record {
       result_value = answered c.args.voice.now c.args.work.now long j;
       work_after = c.clear.ensures ∙ work-cleared c.args.work.now _ long c.judge_images-answer.auto.pairs;
-      vertices_after = c.put_vertices.ensures c.args.lexicon.now (j.opened _ refl) ∙ sym (opened-value _ _ refl);
+      vertices_after = c.put_vertices.ensures ∙ sym (opened-value _ _ refl);
     }
