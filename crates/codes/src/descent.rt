@@ -7,10 +7,10 @@ ghost use Rattle.graph.specs.Graph.{graph_of, path_count, word_count};
 ghost use Rattle.graph.specs.Words.{spelled};
 ghost use Rattle.codes.specs.Steps.{Tabled, Stepped, letters_of_code, Spellable, Spelled, Printable, room_answer};
 
+use crate::image::arcs_of;
 use call::Refusal;
 use checking::Vertex;
 use endian::{number_of, u16_at};
-use lexicon::list_at;
 
 // The vertex that an arc leads to, and what is left of a code behind the arc.
 #[derive(Drop)]
@@ -27,7 +27,7 @@ fn descend(lexicon: &[u8], vertices: &[Vertex; 402], vertex: usize, code: u32) -
     ensures { Stepped (graph_of lexicon.now) vertex code result.vertex result.code }
 {
     let mut left = code;
-    for &pair in list_at(lexicon, vertices[vertex].arcs_at as usize) {
+    for &pair in arcs_of(lexicon, vertices, vertex) {
         let next = number_of(pair) as usize;
         let count = vertices[next].paths;
         if left < count {

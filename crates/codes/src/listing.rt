@@ -9,11 +9,10 @@ ghost use Rattle.codes.specs.Steps.{OpenedImages};
 ghost use Rattle.codes.specs.Lines.{lines_from, lines_over, WalksFrom, Enters, RoomForLines, Wrote, arcs_on_ways};
 ghost use Rattle.codes.specs.Lines.{Countable, CountedFrom, BytesAnswered};
 
-use crate::image::print_byte;
+use crate::image::{arcs_of, node_count, print_byte};
 use call::Refusal;
 use checking::Vertex;
 use endian::{number_of, u16_at};
-use lexicon::list_at;
 
 // Writes the first letters of the word and byte 10 from an offset on, and answers where they end.
 fn put_line(word: &[u8; 32], letters: usize, out: &mut [u8], at: usize) -> usize
@@ -48,7 +47,7 @@ fn vertex_step(
         (take depth word.old)) depth at word.old word.new out.old out.new result }
 {
     let mut end = at;
-    for &pair in list_at(lexicon, vertices[vertex].arcs_at as usize) {
+    for &pair in arcs_of(lexicon, vertices, vertex) {
         let next = number_of(pair) as usize;
         end = arc_step(voice, lexicon, vertices, next, word, depth, out, end);
     }
@@ -74,7 +73,7 @@ fn arc_step(
     ensures { Wrote (lines_from voice.now (graph_of lexicon.now) vertex (take depth word.old)) depth at word.old
         word.new out.old out.new result }
 {
-    if (u16_at(lexicon, 0) as usize) < vertex {
+    if node_count(lexicon) < vertex {
         return put_line(word, depth, out, at);
     }
     word[depth] = print_byte(voice, lexicon, vertex);
@@ -88,9 +87,8 @@ fn arcs_on_ways(lexicon: &[u8], vertices: &[Vertex; 402], totals: &[u32; 402], v
     requires vertex_bound { (vertex ≤ node_count lexicon.now) × CountedFrom lexicon.now totals.now (suc vertex) }
     ensures { result ≡ arcs_on_ways (graph_of lexicon.now) vertex }
 {
-    let known = &vertices[vertex];
-    let mut total = known.paths;
-    for &pair in list_at(lexicon, known.arcs_at as usize) {
+    let mut total = vertices[vertex].paths;
+    for &pair in arcs_of(lexicon, vertices, vertex) {
         total += totals[number_of(pair) as usize];
     }
     total

@@ -5,16 +5,10 @@ use lib.ListN.{get_or}
 use native.Mathlib.Omega.{arith}
 use Rattle.graph.specs.Graph.{graph_of, path_count}
 use Rattle.checking.specs.Tables.{no_vertex}
-use Rattle.codes.proofs.Heads.{ArcHere, vertex_low, list_long, arc_here, paths_of}
+use Rattle.codes.proofs.Heads.{ArcHere, list_long, arc_here, paths_of}
 use Rattle.codes.proofs.Walks.{pass_start, pass_here, pass_on, pass_more}
 use Rattle.codes.proofs.descent.descend.Goals as goal
 use Rattle.codes.proofs.descent.descend.Goals.{After-number_of-next}
-
-pub offset_bounds-vertices-vertex : goal.offset_bounds-vertices-vertex
-offset_bounds-vertices-vertex c = omega (arith, vertex_low c.requires.tabled c.requires.vertex_bound.0)
-
-pub bounds-vertices-vertex : goal.bounds-vertices-vertex
-bounds-vertices-vertex c = vertex_low c.requires.tabled c.requires.vertex_bound.0
 
 pub loop-pair-init : goal.loop-pair-init
 loop-pair-init c = pass_start c.requires.tabled c.requires.vertex_bound.0 c.requires.vertex_bound.1
@@ -22,7 +16,7 @@ loop-pair-init c = pass_start c.requires.tabled c.requires.vertex_bound.0 c.requ
 -- the arc that comes next
 next : (c : After-number_of-next) → ArcHere c.args.lexicon.now c.args.vertex c.loop-pair.pair-index c.number_of-next.result
 next c =
-    arc_here c.requires.tabled c.requires.vertex_bound.0 c.list_at-pair-items.result.now c.list_at-pair-items.ensures
+    arc_here c.requires.tabled c.requires.vertex_bound.0 c.arcs_of-pair-items.result.now c.arcs_of-pair-items.ensures
     c.loop-pair-test.true c.number_of-next.ensures
 
 -- the count that is read is its path count
@@ -52,6 +46,6 @@ unreachable-requires c =
     omega (
       arith,
       pass_more c.args.lexicon.now c.args.vertex c.loop-pair.pair-index c.loop-pair.invariant,
-      list_long c.requires.tabled c.requires.vertex_bound.0 c.list_at-pair-items.result.now c.list_at-pair-items.ensures,
+      list_long c.requires.tabled c.requires.vertex_bound.0 c.arcs_of-pair-items.result.now c.arcs_of-pair-items.ensures,
       c.loop-pair-test.false,
     )

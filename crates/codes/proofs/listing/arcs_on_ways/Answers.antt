@@ -10,7 +10,7 @@ use Rattle.codes.proofs.listing.arcs_on_ways.Goals.{After-number_of}
 next : (c : After-number_of) → ArcHere c.args.lexicon.now c.args.vertex c.loop-pair.pair-index c.number_of.result
 next c =
     let p = c.requires in
-    arc_here p.countable.tabled p.vertex_bound.0 c.list_at-pair-items.result.now c.list_at-pair-items.ensures
+    arc_here p.countable.tabled p.vertex_bound.0 c.arcs_of-pair-items.result.now c.arcs_of-pair-items.ensures
     c.loop-pair-test.true c.number_of.ensures
 
 pub loop-pair-init : goal.loop-pair-init
@@ -32,7 +32,7 @@ overflow_add-total c =
 pub returns : goal.returns
 returns c =
     let p = c.requires in
-    let long = list_long p.countable.tabled p.vertex_bound.0 c.list_at-pair-items.result.now c.list_at-pair-items.ensures in
+    let long = list_long p.countable.tabled p.vertex_bound.0 c.arcs_of-pair-items.result.now c.arcs_of-pair-items.ensures in
     added_all p.countable p.vertex_bound.0 (omega (arith, long, c.loop-pair-test.false))
     c.loop-pair.invariant
 
