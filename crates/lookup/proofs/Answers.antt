@@ -24,15 +24,16 @@ use Rattle.graph.specs.Checking.{Accepted, first_rows, check_answer}
 use Rattle.graph.proofs.Paths.{full-paths}
 use Rattle.graph.proofs.Accepted.{accepted, sound-images, Passed}
 use Rattle.checking.specs.declared.Vertex.{Vertex}
+use Rattle.checking.proofs.Arcs.{sound_of}
 use Rattle.codes.specs.Lookup.{word_to_code_rows, word_to_code_answer}
 use Rattle.codes.specs.Theorems.{CodeTheorems}
 use Rattle.codes.proofs.Theorems.{code_theorems}
 use Rattle.codes.proofs.Words.{word-root, path_short}
-use Rattle.lookup.specs.Seeking.{code_after, code_answer, sought_answer, Prints}
+use Rattle.lookup.specs.Seeking.{code_after, code_answer, sought_answer, prints_column, Prints}
 use Rattle.lookup.specs.Seeking.{Printed, Seekable}
 use Rattle.lookup.specs.Marks.{ends, Marks}
 use Rattle.lookup.proofs.Least.{first_code_lem}
-use Rattle.lookup.proofs.Ways.{WayAfter, Printing, found_way, no_way}
+use Rattle.lookup.proofs.Ways.{WayAfter, Printing, found_way, no_way, after-within}
 
 -- ---- before a search no pair is marked
 
@@ -67,6 +68,18 @@ pub found_or : (o : Option ℕ) → answer_of (ok_or o NoWord) ≡ code_answer o
 unfolding code_answer
 found_or None = refl
 found_or (Some c) = refl
+
+-- a code counted from the root is no more than W
+pub root_few : {x : List ℕ} {vertices : List Vertex} → Seekable x vertices → (word : List ℕ) → Bytes word → (c : ℕ)
+    → code_after (prints_column vertices) (graph_of x) 0 word ≡ Some c → c ≤ 1048576
+unfolding sink sink_of
+root_few {x} {vertices} t word low c e =
+    let formed = t.countable.tabled.located.formed in
+    omega (
+      arith,
+      t.countable.few {u = 0} (omega arith),
+      after-within (sound_of formed) (prints_column vertices) t.end word low {u = 0} (omega arith) e,
+    )
 
 -- ---- as word to code answers
 

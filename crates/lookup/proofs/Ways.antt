@@ -21,7 +21,7 @@ use Rattle.voice.specs.Voice.{print_byte}
 use Rattle.graph.specs.Graph.{Graph, sink, ArcPath, arrived, along, path_count, code_from}
 use Rattle.graph.specs.Words.{word_of_path}
 use Rattle.graph.proofs.Sound.{Sound}
-use Rattle.graph.proofs.Codes.{increment-at}
+use Rattle.graph.proofs.Codes.{increment-at, arc-within}
 use Rattle.codes.proofs.Words.{word-node, word-beyond, word_none}
 use Rattle.lookup.specs.Seeking.{code_or, first_code, code_by, code_after}
 use Rattle.lookup.proofs.Least.{Least, LeastWith, code_below, later-above}
@@ -288,3 +288,41 @@ module _ {v : List ℕ} {g : Graph} {prints : List ℕ} (printing : Printing v g
 
     pub no_way : code_after prints g u bytes ≡ None → {q : List ℕ} → ArcPath g u q → ¬ (word_of_path v g q ≡ bytes)
     no_way e {q} o m = after_none bytes (ways_by bytes low).1 u h e q o m
+
+-- ---- a code that is found is no more than the paths from there
+
+module _ {g : Graph} (ok : Sound g) (prints : List ℕ) (end : get_or prints (sink g) 0 ≡ 256) where
+  abbrev Within : List ℕ → Type 0
+  Within bytes = (s c : ℕ) → s ≤ sink g → code_by prints g bytes s ≡ Some c → c ≤ path_count g s
+
+  within-after : (bytes : List ℕ) → Within bytes → (u c : ℕ) → u < sink g → code_after prints g u bytes ≡ Some c
+      → c ≤ path_count g u
+  unfolding code_after
+  within-after bytes within u c h e =
+      let f = first_some (code_by prints g bytes) (path_count g) (g.successors u) 0 e in
+      omega (
+        arith,
+        f.adds,
+        within f.one f.own (ok.rises h (first_member _ _ f)).1 f.found,
+        increment-at ok h f.earlier f.later f.one f.split,
+        arc-within ok {u = u} h f.earlier f.later f.one f.split,
+      )
+
+  within_by : (bytes : List ℕ) → Bytes bytes → Within bytes
+  unfolding code_by code_after
+  within_by [] low s c k e = go (eqb (get_or prints s 0) 256) refl
+    where
+      go : (b : Bool) → eqb (get_or prints s 0) 256 ≡ b → c ≤ path_count g s
+      go true q = let f = some_same (rw q at e) in omega arith
+      go false q = let z = (rw q at e) in absurd (cc)
+  within_by (b ∷ bytes) low s c k e =
+      go (eqb (get_or prints s 0) b) refl (within_by bytes (λ x m. low x (there m))) (low b (here refl))
+    where
+      go : (t : Bool) → eqb (get_or prints s 0) b ≡ t → Within bytes → b < 256 → c ≤ path_count g s
+      go true q within l =
+          within-after bytes within s c (not_end g prints end k l (eqb-true (get_or prints s 0) b q)) (rw q at e)
+      go false q within l = let z = (rw q at e) in absurd (cc)
+
+  pub after-within : (bytes : List ℕ) → Bytes bytes → {u c : ℕ} → u < sink g → code_after prints g u bytes ≡ Some c
+      → c ≤ path_count g u
+  after-within bytes low {u} {c} h e = within-after bytes (within_by bytes low) u c h e

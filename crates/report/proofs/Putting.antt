@@ -1,15 +1,27 @@
 -- Text put behind text is put as one text: how texts that are put one after another chain. Assumes nothing.
 use Prim.Native.Nat.{ℕ, ◌+◌, ◌≤◌}
-use mathlib.Core.Path.{◌≡◌, sym, ap, ◌∙◌}
-use mathlib.Core.List.{List, [], ◌++◌, append_assoc}
+use mathlib.Core.Path.{◌≡◌, refl, sym, ap, ◌∙◌}
+use mathlib.Core.List.{List, [], ◌∷◌, ◌++◌, append_assoc}
 use native.Mathlib.Omega.{arith}
-use lib.ListN.{length, take, drop, length-append}
-use lib.Seq.{length-take-le, take_at, drop-append-add, drop-drop, paste-zero}
+use lib.ListN.{length, take, drop, set, length-append}
+use lib.Seq.{length-take-le, take-length, take_at, drop-append-add, drop-drop, sets-eq, paste, paste-zero}
 use Rattle.report.specs.Text.{TextPut}
 
 -- no text
 pub put-none : (at : ℕ) (o : List ℕ) → TextPut [] at o o at
 put-none at o = record { ends = omega arith; puts = paste-zero o at [] }
+
+-- a byte
+pub put_one : (x at : ℕ) (o : List ℕ) → at + 1 ≤ length o → TextPut (x ∷ []) at o (set o at x) (at + 1)
+put_one x at o h = record { ends = refl; puts = sets-eq (x ∷ []) o at h }
+
+-- a text that is copied whole
+pub put_copied : (text : List ℕ) (at i : ℕ) (o o' : List ℕ) → i ≡ length text → o' ≡ paste o at text i
+    → TextPut text at o o' (at + i)
+put_copied text at i o o' e p = record {
+  ends = ap (λ (k : ℕ). at + k) e;
+  puts = p ∙ ap (λ (k : ℕ). paste o at text k) e ∙ ap (λ (t : List ℕ). take at o ++ t ++ drop (at + length text) o) (take-length text);
+}
 
 module _ {a b : List ℕ} {at m e : ℕ} {o o₁ o₂ : List ℕ} where
   -- a text behind a text

@@ -1,6 +1,6 @@
 -- Slot numbers sorted by halves: both halves are in order, then the whole is, already or by merging. Assumes nothing.
 use Prim.Native.Nat.{ℕ, ◌+◌, ◌-◌, ◌≤◌, ◌<◌}
-use mathlib.Core.Path.{◌≡◌, sym, ap, ap₂, subst, ◌∙◌}
+use mathlib.Core.Path.{◌≡◌, refl, sym, ap, ap₂, subst, ◌∙◌}
 use mathlib.Core.Logic.{◌⊎◌, inl, inr, ⊎_elim}
 use mathlib.Core.Bool.{false}
 use mathlib.Core.List.{List}
@@ -13,6 +13,16 @@ use Rattle.sorting.specs.Slots.{word_at, Slot}
 use Rattle.endian.specs.Rows.{number_at}
 use Rattle.sorting.specs.Rows.{word_of, Points, Rising, Somewhere, Merged, Back, Ordered}
 use Rattle.sorting.proofs.Rising.{not-before-trans}
+
+-- of fewer than two rows nothing has to move
+pub ordered-short : (t r : List ℕ) (lo hi : ℕ) → hi - lo < 2 → Ordered t r lo hi r
+ordered-short t r lo hi h = record {
+  long = refl;
+  outside = λ p a b. refl;
+  rise = λ p q a b c. absurd (omega arith);
+  from = λ p a b. record { place = p; low = a; high = b; number = ap (number_at r) (zero-add p) };
+  all = λ p a b. record { place = p; low = a; high = b; number = ap (number_at r) (zero-add p) };
+}
 
 -- both halves are in order
 pub record Halves (t r : List ℕ) (lo mid hi : ℕ) (u : List ℕ) : Type 0 where
